@@ -1,0 +1,6 @@
+-- The laws of digits, for this crate's proofs and for those who read what it wrote; closed cases.
+pub mod Cases
+pub mod Writing
+pub mod Counting
+pub mod Reading
+mod Examples

@@ -1,0 +1,17 @@
+-- The laws behind the limit's proofs, one idea to a file.
+-- `Plausible`, `Adding` and `Agreement` are what a reader of times that keeps its own sums cites.
+pub mod InRange
+pub mod Cauchy
+pub mod Bounds
+pub mod Plausible
+pub mod Scatter
+pub mod Adding
+mod Gathering
+mod Gathered
+pub mod Agreement
+pub mod Exact
+pub mod Inputs
+pub mod Meaning
+pub mod Cases
+pub mod Refusals
+mod Finite

@@ -1,0 +1,60 @@
+-- `formula_of` is the formula of its sums: plausible sums keep every product inside a u64 and every cast exact.
+-- Assumes nothing.
+use native.Mathlib.Omega.{arith}
+use borrow.Author.Needs.{needs}
+use Rattle.limit.specs.Formula.{formulaOf, spreadOf}
+use Rattle.limit.proofs.Plausible.{Plausible, plausible-facts}
+use Rattle.limit.proofs.Scatter.{sum-square-small, squares-product-small, count-square-small, scatter-at-most}
+use Rattle.limit.proofs.formula.formula_of.Statement.{statement}
+use Rattle.limit.proofs.formula.formula_of.Tie as tie
+
+known : (c : tie.Start) → Plausible (c .args .s)
+known c = plausible-facts (c .args .s) (c .pre)
+
+mul-d : tie.Need-mul-d
+mul-d c =
+    let p = known c in
+    record { fits = squares-product-small _ _ _ (p .countHigh) (p .sumHigh) (p .squaresHigh) }
+
+mul-d-2 : tie.Need-mul-d-2
+mul-d-2 c =
+    let p = known c in
+    record { fits = sum-square-small _ _ _ (p .countHigh) (p .sumHigh) (p .squaresHigh) }
+
+sub-d : tie.Need-sub-d
+sub-d c = known c .squaresLow
+
+mean-requires : tie.Need-mean-requires
+mean-requires c κs = let p = known c in omega arith
+
+mul-spread-by : tie.Need-mul-spread-by
+mul-spread-by c =
+    let p = known (c .before) in
+    omega (arith, count-square-small _ _ _ (p .countHigh) (p .sumHigh) (p .squaresHigh))
+
+spread-by-requires : tie.Need-spread-by-requires
+spread-by-requires c κs =
+    let p = known (c .before) in
+    omega (
+      arith,
+      count-square-small _ _ _ (p .countHigh) (p .sumHigh) (p .squaresHigh),
+      scatter-at-most _ _ _ (p .countHigh) (p .sumHigh) (p .squaresHigh),
+    )
+
+returns : tie.Need-returns
+unfolding formulaOf spreadOf
+returns c = cc
+
+pub formula-of-spec : {M : Type 1} → statement M
+formula-of-spec =
+    tie.close
+    (tie.spec
+    mul-d
+    mul-d-2
+    sub-d
+    mean-requires
+    mul-spread-by
+    spread-by-requires
+    (λ c κs. search needs)
+    (λ c κs. search needs)
+    returns)

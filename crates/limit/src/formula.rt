@@ -1,0 +1,53 @@
+// The limit's formula in doubles, one function for each of document 01's named values.
+// Every whole number here is at most 2^53, so that each cast to f64 is exact.
+ghost use mathlib.Core.Bool.{true};
+ghost use mathlib.Core.Path.{_≡_};
+ghost use Prim.Native.Nat.{_^_, _≤_};
+ghost use Rattle.limit.specs.Formula.{formulaOf, limitFrom, meanOf, quantileOf, spreadBy};
+ghost use Rattle.limit.specs.Sums.{isPlausible};
+use crate::sums::Sums;
+
+// A chance of c in a million beyond the limit is c / 500000 in the two tails together, which is what f_erfcinv takes.
+const HALF_MILLION: f64 = 500000.0;
+
+// The double nearest to the root of 2.
+const ROOT_TWO: f64 = 1.4142135623730951;
+
+// The limit of times with these sums, at a chance in a million.
+pub(crate) fn formula_of(s: Sums, chance: u32) -> f64
+    requires { ⌜ isPlausible s ≡ true ⌝ }
+    ensures { λ r. ⌜ r ≡ formulaOf (s .count) (s .sum) (s .squares) chance ⌝ }
+{
+    let n = s.count;
+    let sum = s.sum;
+    let squares = s.squares;
+    let d = n * squares - sum * sum;
+    limit_from(mean(n, sum), spread_by(n * n, d), quantile(chance))
+}
+
+fn mean(n: u64, sum: u64) -> f64
+    requires { ⌜ (n ≤ 2 ^ 53) × (sum ≤ 2 ^ 53) ⌝ }
+    ensures { λ r. ⌜ r ≡ meanOf n sum ⌝ }
+{
+    sum as f64 / n as f64
+}
+
+fn spread_by(divisor: u64, d: u64) -> f64
+    requires { ⌜ (divisor ≤ 2 ^ 53) × (d ≤ 2 ^ 53) ⌝ }
+    ensures { λ r. ⌜ r ≡ spreadBy divisor d ⌝ }
+{
+    sqrt::sqrt(d as f64 / divisor as f64)
+}
+
+fn quantile(chance: u32) -> f64
+    ensures { λ r. ⌜ r ≡ quantileOf chance ⌝ }
+{
+    pxfm::err::inverfc::f_erfcinv(chance as f64 / HALF_MILLION)
+}
+
+// The products go from the left: first the spread times the root of 2, then times the quantile.
+fn limit_from(mean: f64, spread: f64, e: f64) -> f64
+    ensures { λ r. ⌜ r ≡ limitFrom mean spread e ⌝ }
+{
+    mean + (spread * ROOT_TWO) * e
+}

@@ -1,0 +1,76 @@
+// The limit of a set of link times at a chance, as document 01's paragraph "Limit" fixes it, and its refusals.
+// `limit` takes the times; `limit_of_sums` takes their sums, for a caller that has read the times already.
+ghost use mathlib.Core.Path.{_≡_};
+ghost use Rattle.limit.specs.Answer.{meaning};
+ghost use Rattle.limit.specs.Limit.{chanceInRange, finiteOrRefused, limitOf, limitOfSums};
+use crate::ranges::in_range;
+use crate::sums::Gathered;
+use crate::sums::Sums;
+
+mod formula;
+mod ranges;
+pub mod sums;
+
+// The least and the greatest chance, in a million.
+pub const MIN_CHANCE: u64 = 1;
+
+pub const MAX_CHANCE: u64 = 999_999;
+
+// Document 01's numbers for a chance out of range, a count or a time out of range, and a limit that is not finite.
+pub const CHANCE_REFUSAL: u32 = 5;
+
+pub const TIMES_REFUSAL: u32 = 6;
+
+pub const FINITE_REFUSAL: u32 = 8;
+
+// The limit itself, or one refusal number.
+pub enum Answer {
+    Limit(f64),
+    Refused(u32),
+}
+
+// The limit of the times at a chance in a million.
+pub fn limit(times: &[u32], chance: u32) -> Answer
+    ensures { λ r. ⌜ meaning r ≡ limitOf (now (times .entry)) chance ⌝ }
+{
+    if !chance_in_range(chance) {
+        return Answer::Refused(CHANCE_REFUSAL);
+    }
+    let g = sums::gather(times);
+    match g {
+        Gathered::Within(s) => finite_or_refused(formula::formula_of(s, chance)),
+        Gathered::Outside => Answer::Refused(TIMES_REFUSAL),
+    }
+}
+
+// The limit of times whose sums are known. Sums that no times in range can have are refused as times out of range are.
+pub fn limit_of_sums(s: Sums, chance: u32) -> Answer
+    ensures { λ r. ⌜ meaning r ≡ limitOfSums s chance ⌝ }
+{
+    if !chance_in_range(chance) {
+        return Answer::Refused(CHANCE_REFUSAL);
+    }
+    if !s.is_plausible() {
+        return Answer::Refused(TIMES_REFUSAL);
+    }
+    finite_or_refused(formula::formula_of(s, chance))
+}
+
+fn chance_in_range(chance: u32) -> bool
+    ensures { λ r. ⌜ r ≡ chanceInRange chance ⌝ }
+{
+    in_range(MIN_CHANCE, MAX_CHANCE, chance as u64)
+}
+
+// A NaN compares below nothing, so it fails both tests, and each infinity fails one.
+fn finite_or_refused(x: f64) -> Answer
+    ensures { λ r. ⌜ meaning r ≡ finiteOrRefused x ⌝ }
+{
+    let infinity = f64::from_bits(0x7ff0000000000000);
+    if x < infinity {
+        if -infinity < x {
+            return Answer::Limit(x);
+        }
+    }
+    Answer::Refused(FINITE_REFUSAL)
+}

@@ -1,0 +1,23 @@
+-- A field that holds a number was read, and the number fits its digits. Assumes nothing.
+use Prim.Native.Nat.{ℕ, _^_, _<_}
+use mathlib.Core.Path.{_≡_, refl}
+use mathlib.Core.List.{List}
+use native.Mathlib.Omega.{arith}
+use Rattle.hex.specs.Hex.{readHex}
+use Rattle.hex.specs.declared.read.Number.{Number}
+use Rattle.hex.specs.declared.read.Number.the-variants as N
+use Rattle.hex.proofs.Reading.{read-hex-below}
+use Rattle.lines.specs.Lines.{fieldOf}
+use Rattle.lines.specs.declared.field.Field.the-variants as F
+
+-- a field holds a number only where reading found it
+pub field-read : (r : Number) (v : ℕ) → fieldOf r ≡ F.Value v → r ≡ N.Value v
+unfolding fieldOf
+field-read (N.Value n) v e = let same : n ≡ v = cc in rw same
+field-read N.TooWide v e = let z : _≡_ {A = ℕ} 0 1 = cc in absurd (omega arith)
+field-read N.Short v e = let z : _≡_ {A = ℕ} 0 1 = cc in absurd (omega arith)
+field-read (N.NoDigit place) v e = let z : _≡_ {A = ℕ} 0 1 = cc in absurd (omega arith)
+
+-- the number of a field fits its digits
+pub field-below : (s : List ℕ) (place width v : ℕ) → fieldOf (readHex s place width) ≡ F.Value v → v < 16 ^ width
+field-below s place width v e = read-hex-below s place width v (field-read (readHex s place width) v e)

@@ -1,0 +1,3 @@
+-- Laws for the programs that replay lines.
+pub mod Chunk
+pub mod Fields

@@ -1,0 +1,2 @@
+-- What the contracts of the shared parts of a replay cite.
+pub mod Lines

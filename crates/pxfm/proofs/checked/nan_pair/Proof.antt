@@ -1,0 +1,8 @@
+use lib.Ieee.{div, ofBits}
+use Rattle.pxfm.proofs.Calls.{ok}
+use Rattle.pxfm.proofs.checked.nan_pair.Statement.{statement}
+use Rattle.pxfm.proofs.checked.nan_pair.Tie as tie
+
+pub nan-pair-spec : {M : Type 1} → statement M
+unfolding div ofBits
+nan-pair-spec = tie.close (tie.spec ok (λ c. c .new .ensures))

@@ -1,0 +1,8 @@
+use Rattle.pxfm.specs.DoubleDouble.{ddF64MulAdd}
+use Rattle.pxfm.proofs.Calls.{ok}
+use Rattle.pxfm.proofs.double_double.DoubleDouble.dd_f64_mul_add.Statement.{statement}
+use Rattle.pxfm.proofs.double_double.DoubleDouble.dd_f64_mul_add.Tie as tie
+
+pub dd-f64-mul-add-spec : {M : Type 1} → statement M
+unfolding ddF64MulAdd
+dd-f64-mul-add-spec = tie.close (tie.spec ok ok ok (λ c. cc))

@@ -1,0 +1,8 @@
+use Rattle.pxfm.specs.DoubleDouble.{divOf}
+use Rattle.pxfm.proofs.Calls.{ok}
+use Rattle.pxfm.proofs.double_double.DoubleDouble.div.Statement.{statement}
+use Rattle.pxfm.proofs.double_double.DoubleDouble.div.Tie as tie
+
+pub div-spec : {M : Type 1} → statement M
+unfolding divOf
+div-spec = tie.close (tie.spec ok ok ok (λ c. cc))

@@ -1,0 +1,8 @@
+use Rattle.pxfm.specs.DoubleDouble.{f64Add}
+use Rattle.pxfm.proofs.Calls.{ok}
+use Rattle.pxfm.proofs.double_double.DoubleDouble.f64_add.Statement.{statement}
+use Rattle.pxfm.proofs.double_double.DoubleDouble.f64_add.Tie as tie
+
+pub f64-add-spec : {M : Type 1} → statement M
+unfolding f64Add
+f64-add-spec = tie.close (tie.spec ok (λ c. cc))

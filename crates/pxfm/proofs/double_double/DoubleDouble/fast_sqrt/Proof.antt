@@ -1,0 +1,8 @@
+use Rattle.pxfm.specs.DoubleDouble.{fastSqrt}
+use Rattle.pxfm.proofs.Calls.{ok}
+use Rattle.pxfm.proofs.double_double.DoubleDouble.fast_sqrt.Statement.{statement}
+use Rattle.pxfm.proofs.double_double.DoubleDouble.fast_sqrt.Tie as tie
+
+pub fast-sqrt-spec : {M : Type 1} → statement M
+unfolding fastSqrt
+fast-sqrt-spec = tie.close (tie.spec ok ok (λ c. cc))

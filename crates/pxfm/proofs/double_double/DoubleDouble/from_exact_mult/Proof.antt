@@ -1,0 +1,8 @@
+use Rattle.pxfm.specs.DoubleDouble.{fromExactMult}
+use Rattle.pxfm.proofs.Calls.{ok}
+use Rattle.pxfm.proofs.double_double.DoubleDouble.from_exact_mult.Statement.{statement}
+use Rattle.pxfm.proofs.double_double.DoubleDouble.from_exact_mult.Tie as tie
+
+pub from-exact-mult-spec : {M : Type 1} → statement M
+unfolding fromExactMult
+from-exact-mult-spec = tie.close (tie.spec ok ok ok (λ c. cc))

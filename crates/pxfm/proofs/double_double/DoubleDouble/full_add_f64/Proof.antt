@@ -1,0 +1,8 @@
+use Rattle.pxfm.specs.DoubleDouble.{fullAddF64}
+use Rattle.pxfm.proofs.Calls.{ok}
+use Rattle.pxfm.proofs.double_double.DoubleDouble.full_add_f64.Statement.{statement}
+use Rattle.pxfm.proofs.double_double.DoubleDouble.full_add_f64.Tie as tie
+
+pub full-add-f64-spec : {M : Type 1} → statement M
+unfolding fullAddF64
+full-add-f64-spec = tie.close (tie.spec ok (λ c. cc))

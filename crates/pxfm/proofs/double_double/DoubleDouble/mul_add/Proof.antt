@@ -1,0 +1,8 @@
+use Rattle.pxfm.specs.DoubleDouble.{mulAdd}
+use Rattle.pxfm.proofs.Calls.{ok}
+use Rattle.pxfm.proofs.double_double.DoubleDouble.mul_add.Statement.{statement}
+use Rattle.pxfm.proofs.double_double.DoubleDouble.mul_add.Tie as tie
+
+pub mul-add-spec : {M : Type 1} → statement M
+unfolding mulAdd
+mul-add-spec = tie.close (tie.spec ok ok ok (λ c. cc))

@@ -1,0 +1,8 @@
+use Rattle.pxfm.specs.DoubleDouble.{mulAddF64}
+use Rattle.pxfm.proofs.Calls.{ok}
+use Rattle.pxfm.proofs.double_double.DoubleDouble.mul_add_f64.Statement.{statement}
+use Rattle.pxfm.proofs.double_double.DoubleDouble.mul_add_f64.Tie as tie
+
+pub mul-add-f64-spec : {M : Type 1} → statement M
+unfolding mulAddF64
+mul-add-f64-spec = tie.close (tie.spec ok ok ok (λ c. cc))

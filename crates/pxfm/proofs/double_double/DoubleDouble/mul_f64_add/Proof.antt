@@ -1,0 +1,8 @@
+use Rattle.pxfm.specs.DoubleDouble.{mulF64Add}
+use Rattle.pxfm.proofs.Calls.{ok}
+use Rattle.pxfm.proofs.double_double.DoubleDouble.mul_f64_add.Statement.{statement}
+use Rattle.pxfm.proofs.double_double.DoubleDouble.mul_f64_add.Tie as tie
+
+pub mul-f64-add-spec : {M : Type 1} → statement M
+unfolding mulF64Add
+mul-f64-add-spec = tie.close (tie.spec ok ok ok (λ c. cc))

@@ -1,0 +1,8 @@
+use Rattle.pxfm.specs.DoubleDouble.{quickMult}
+use Rattle.pxfm.proofs.Calls.{ok}
+use Rattle.pxfm.proofs.double_double.DoubleDouble.quick_mult.Statement.{statement}
+use Rattle.pxfm.proofs.double_double.DoubleDouble.quick_mult.Tie as tie
+
+pub quick-mult-spec : {M : Type 1} → statement M
+unfolding quickMult
+quick-mult-spec = tie.close (tie.spec ok ok (λ c. cc))

@@ -1,0 +1,8 @@
+use Rattle.pxfm.specs.DoubleDouble.{quickMultF64}
+use Rattle.pxfm.proofs.Calls.{ok}
+use Rattle.pxfm.proofs.double_double.DoubleDouble.quick_mult_f64.Statement.{statement}
+use Rattle.pxfm.proofs.double_double.DoubleDouble.quick_mult_f64.Tie as tie
+
+pub quick-mult-f64-spec : {M : Type 1} → statement M
+unfolding quickMultF64
+quick-mult-f64-spec = tie.close (tie.spec ok ok (λ c. cc))

@@ -1,0 +1,8 @@
+use Rattle.pxfm.specs.DoubleDouble.{recipOf}
+use Rattle.pxfm.proofs.Calls.{ok}
+use Rattle.pxfm.proofs.double_double.DoubleDouble.recip.Statement.{statement}
+use Rattle.pxfm.proofs.double_double.DoubleDouble.recip.Tie as tie
+
+pub recip-spec : {M : Type 1} → statement M
+unfolding recipOf
+recip-spec = tie.close (tie.spec ok ok ok (λ c. cc))

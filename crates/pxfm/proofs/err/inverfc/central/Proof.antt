@@ -1,0 +1,15 @@
+use borrow.Author.Needs.{needs}
+use Rattle.pxfm.specs.Inverfc.{central}
+use Rattle.pxfm.proofs.Argument.{argument-below-one}
+use Rattle.pxfm.proofs.Calls.{ok}
+use Rattle.pxfm.proofs.err.inverfc.central.Statement.{statement}
+use Rattle.pxfm.proofs.err.inverfc.central.Tie as tie
+
+erf-core-requires : tie.Need-erf-core-requires
+erf-core-requires c κs =
+    let o = c .before in
+    rw (c .core-argument .ensures) (argument-below-one (o .args .x) (search needs) (o .pre .0) (o .pre .1 .0) (o .pre .1 .1))
+
+pub central-spec : {M : Type 1} → statement M
+unfolding central
+central-spec = tie.close (tie.spec ok erf-core-requires ok ok (λ c. cc))

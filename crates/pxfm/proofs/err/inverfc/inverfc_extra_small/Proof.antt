@@ -1,0 +1,9 @@
+use borrow.Author.Needs.{needs}
+use Rattle.pxfm.specs.Inverfc.{inverfcExtraSmall}
+use Rattle.pxfm.proofs.Calls.{ok}
+use Rattle.pxfm.proofs.err.inverfc.inverfc_extra_small.Statement.{statement}
+use Rattle.pxfm.proofs.err.inverfc.inverfc_extra_small.Tie as tie
+
+pub inverfc-extra-small-spec : {M : Type 1} → statement M
+unfolding inverfcExtraSmall
+inverfc-extra-small-spec = tie.close (tie.spec (λ c κs. search needs) ok (λ c. cc))

@@ -1,0 +1,14 @@
+use Rattle.pxfm.specs.Argument.{mirrored}
+use Rattle.pxfm.proofs.Calls.{ok}
+use Rattle.pxfm.proofs.err.inverfc.mirrored.Statement.{statement}
+use Rattle.pxfm.proofs.err.inverfc.mirrored.Tie as tie
+
+pub mirrored-spec : {M : Type 1} → statement M
+unfolding mirrored
+mirrored-spec =
+    tie.close
+    (tie.spec
+    ok
+    (λ c. rw (c .from-full-exact-sub .ensures, c .before .if1 .taken))
+    ok
+    (λ c. rw (c .new .ensures, c .before .if1 .left)))

@@ -1,0 +1,32 @@
+use lib.Ieee.{nanBits}
+use Rattle.pxfm.specs.Inverfc.{taylor4}
+use Rattle.pxfm.proofs.Calls.{ok}
+use Rattle.pxfm.proofs.err.inverfc.taylor4.Statement.{statement}
+use Rattle.pxfm.proofs.err.inverfc.taylor4.Tie as tie
+
+returns : tie.Need-returns
+unfolding taylor4
+returns c =
+    let c1 = c .before in
+    let c2 = c1 .before in
+    let c3 = c2 .before in
+    let c4 = c3 .before in
+    let c5 = c4 .before in
+    let c6 = c5 .before in
+    rw (
+      c .quick-mult2 .ensures,
+      c1 .mul-add .ensures,
+      c2 .taylor0 .ensures,
+      c3 .mul-f64-add .ensures,
+      c4 .taylor1 .ensures,
+      c5 .f-fmla .ensures,
+      c6 .quick-mult .ensures,
+    )
+
+pub taylor4-spec : {M : Type 1} → statement M
+unfolding nanBits
+taylor4-spec =
+    tie.close
+    (tie.spec
+    ok (λ c. tt) (λ c. tt) ok ok ok ok ok ok
+    returns)

@@ -1,0 +1,36 @@
+use lib.Ieee.{nanBits}
+use Rattle.pxfm.specs.Inverfc.{taylor7}
+use Rattle.pxfm.proofs.Calls.{ok}
+use Rattle.pxfm.proofs.err.inverfc.taylor7.Statement.{statement}
+use Rattle.pxfm.proofs.err.inverfc.taylor7.Tie as tie
+
+returns : tie.Need-returns
+unfolding taylor7
+returns c =
+    let c1 = c .before in
+    let c2 = c1 .before in
+    let c3 = c2 .before in
+    let c4 = c3 .before in
+    let c5 = c4 .before in
+    let c6 = c5 .before in
+    let c7 = c6 .before in
+    let c8 = c7 .before in
+    rw (
+      c .quick-mult2 .ensures,
+      c1 .mul-add2 .ensures,
+      c2 .taylor0 .ensures,
+      c3 .mul-add .ensures,
+      c4 .taylor1 .ensures,
+      c5 .mul-f64-add .ensures,
+      c6 .from-bit-pair .ensures,
+      c7 .f-polyeval4 .ensures,
+      c8 .quick-mult .ensures,
+    )
+
+pub taylor7-spec : {M : Type 1} → statement M
+unfolding nanBits
+taylor7-spec =
+    tie.close
+    (tie.spec
+    ok (λ c. tt) (λ c. tt) (λ c. tt) (λ c. tt) ok (λ c κs. (tt, tt)) ok ok ok ok ok ok
+    returns)

@@ -1,0 +1,18 @@
+use borrow.Author.Needs.{needs}
+use Rattle.pxfm.specs.FastLogDd.{fastLogDd}
+use Rattle.pxfm.proofs.Calls.{ok}
+use Rattle.pxfm.proofs.logs.fast_log_dd.fast_log_dd.Statement.{statement}
+use Rattle.pxfm.proofs.logs.fast_log_dd.fast_log_dd.Tie as tie
+
+pub fast-log-dd-spec : {M : Type 1} → statement M
+unfolding fastLogDd
+fast-log-dd-spec =
+    tie.close
+    (tie.spec
+    ok
+    (λ c κs. search needs)
+    ok
+    ok
+    (λ c.
+    let s = c .before .before .before in
+    rw (c .f64-add .ensures, c .before .new .ensures, s .log-parts .ensures, s .before .log-lo .ensures)))

@@ -1,0 +1,58 @@
+use borrow.Author.Needs.{needs}
+use Rattle.pxfm.specs.DoubleDouble.{log2Dd, fromBitPair}
+use Rattle.pxfm.specs.FastLogDd.{partsOf}
+use Rattle.pxfm.proofs.Calls.{ok}
+use Rattle.pxfm.proofs.Nan.{bits-number}
+use Rattle.pxfm.proofs.Rows.{plain-inverse, plain-low, plain-high}
+use Rattle.pxfm.proofs.logs.fast_log_dd.log_parts.Statement.{statement}
+use Rattle.pxfm.proofs.logs.fast_log_dd.log_parts.Tie as tie
+
+returns : tie.Need-returns
+unfolding partsOf log2Dd fromBitPair
+returns c =
+    let c1 = c .before in
+    let c2 = c1 .before in
+    let c3 = c2 .before in
+    let c4 = c3 .before in
+    let c5 = c4 .before .before .before in
+    let c6 = c5 .before in
+    let c7 = c6 .before in
+    let c8 = c7 .before .before in
+    let c9 = c8 .before in
+    let c10 = c9 .before in
+    rw (
+      c .log-poly-1 .ensures,
+      c1 .f64-add .ensures,
+      c2 .new2 .ensures,
+      c3 .mul-f64-add .ensures,
+      c4 .new .ensures,
+      c5 .exponent .ensures,
+      c6 .dd-fmla .ensures,
+      c7 .reduced .ensures,
+      c8 .row-at .ensures .inverse,
+      c8 .row-at .ensures .low,
+      c8 .row-at .ensures .high,
+      c9 .index .ensures .0,
+      c10 .scale .ensures .0,
+    )
+
+pub log-parts-spec : {M : Type 1} → statement M
+log-parts-spec =
+    tie.close
+    (tie.spec
+    (λ c. bits-number _ (c .pre .1))
+    (λ c κs. search needs)
+    (λ c κs. search needs)
+    ok
+    (λ c. plain-inverse (c .before .row-at .ensures))
+    (λ c κs. search needs)
+    ok
+    (λ c κs. search needs)
+    (λ c. plain-low (c .before .before .before .before .before .row-at .ensures))
+    (λ c. plain-high (c .before .before .before .before .before .before .row-at .ensures))
+    ok
+    ok
+    ok
+    ok
+    ok
+    returns)

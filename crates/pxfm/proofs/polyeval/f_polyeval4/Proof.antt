@@ -1,0 +1,8 @@
+use Rattle.pxfm.specs.Polyeval.{fPolyeval4}
+use Rattle.pxfm.proofs.Calls.{ok}
+use Rattle.pxfm.proofs.polyeval.f_polyeval4.Statement.{statement}
+use Rattle.pxfm.proofs.polyeval.f_polyeval4.Tie as tie
+
+pub f-polyeval4-spec : {M : Type 1} → statement M
+unfolding fPolyeval4
+f-polyeval4-spec = tie.close (tie.spec ok ok ok (λ c. cc))

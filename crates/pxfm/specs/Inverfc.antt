@@ -1,0 +1,122 @@
+-- The quantile (document 01, src/err/inverfc.rs): `f_erfcinv` of every double, the cuts of `erf_core` on the high part,
+-- and the pieces between them. Each line is one rounded operation, one pair operation or one test.
+use Prim.Native.Nat.{ℕ, _+_, _%_, _^_}
+use mathlib.Core.Bool.{Bool, true, false, cond}
+use mathlib.Core.List.{List}
+use lib.Dec.{eqb, leb}
+use lib.Ieee.{Float, nan, inf, binary64, ofBits, toBits, isNan, eq, lt, le, neg, add, sub, mul}
+use Rattle.pxfm.specs.declared.double_double.DoubleDouble.{DoubleDouble}
+use Rattle.pxfm.specs.DoubleDouble.{one, negOf, fromExactAdd, quickMult, fullAddF64, mulF64Add, mulAdd, divOf, recipOf, fastSqrt, toF64}
+use Rattle.pxfm.specs.Common.{fFmla}
+use Rattle.pxfm.specs.Polyeval.{fPolyeval4, fPolyeval5}
+use Rattle.pxfm.specs.FastLogDd.{fastLogDToDd, fastLogDd}
+use Rattle.pxfm.specs.Rationals.{bits, at, centred, p0p06To0p75, q0p06To0p75}
+use Rattle.pxfm.specs.Rationals.{inverf0p06To0p75, inverfAsymptSmall, inverfAsymptLong}
+use Rattle.pxfm.specs.Argument.{zero, tenth, threeQuarters, coreArgument}
+
+-- The first two coefficients of the Taylor series of the inverse error function, √π / 2 and what follows it.
+abbrev pub taylor0 : DoubleDouble
+taylor0 = bits 0xbc8618f13eb7ca89 0x3fec5bf891b4ef6b
+
+abbrev pub taylor1 : DoubleDouble
+taylor1 = bits 0xbc33ea2ef8dde075 0x3fcdb29fb2fee5e4
+
+-- Up to 0.0095: four terms, two of them in doubles.
+unfoldable pub taylor4 : DoubleDouble → DoubleDouble
+taylor4 x =
+    let z2 = quickMult x x in
+    let p = fFmla (z2 .hi) (ofBits binary64 0x3fb62847c47dda48) (ofBits binary64 0x3fc053c2c0ab91c5) in
+    let r1 = mulF64Add z2 p taylor1 in
+    let r0 = mulAdd z2 r1 taylor0 in
+    quickMult r0 x
+
+-- Up to 0.06: seven terms, four of them in doubles.
+unfoldable pub taylor7 : DoubleDouble → DoubleDouble
+taylor7 x =
+    let z2 = quickMult x x in
+    let p =
+    fPolyeval4 (z2 .hi)
+    (ofBits binary64 0x3fb62847c47dda48)
+    (ofBits binary64 0x3fb0a13189c6ef7a)
+    (ofBits binary64 0x3faa7c85c89bb08b)
+    (ofBits binary64 0x3fa5eeb1d488e312) in
+    let r2 = mulF64Add z2 p (bits 0x3c2cec68daff0d80 0x3fc053c2c0ab91c5) in
+    let r1 = mulAdd z2 r2 taylor1 in
+    let r0 = mulAdd z2 r1 taylor0 in
+    quickMult r0 x
+
+-- Ten coefficients at vz by Horner's rule, the upper five by their high parts alone.
+unfoldable pub horner10 : List DoubleDouble → DoubleDouble → DoubleDouble
+horner10 t vz =
+    let ps = fPolyeval5 (vz .hi) (at t 5 .hi) (at t 6 .hi) (at t 7 .hi) (at t 8 .hi) (at t 9 .hi) in
+    let n4 = mulF64Add vz ps (at t 4) in
+    let n3 = mulAdd vz n4 (at t 3) in
+    let n2 = mulAdd vz n3 (at t 2) in
+    let n1 = mulAdd vz n2 (at t 1) in
+    mulAdd vz n1 (at t 0)
+
+-- The quicker rational from 0.06 to 0.75.
+unfoldable pub quickRational : DoubleDouble → DoubleDouble
+quickRational x =
+    let vz = centred x in
+    quickMult (divOf (horner10 p0p06To0p75 vz) (horner10 q0p06To0p75 vz)) x
+
+-- The rounding test: k rounds to one double with any error up to 2 ^ -56 × its high part + 2 ^ -59.
+unfoldable pub roundsAlike : DoubleDouble → Bool
+roundsAlike k =
+    let err = fFmla (k .hi) (ofBits binary64 0x3c70000000000000) (ofBits binary64 0x3c40000000000000) in
+    let ub = add binary64 (k .hi) (add binary64 (k .lo) err) in
+    let lb = add binary64 (k .hi) (sub binary64 (k .lo) err) in
+    eq ub lb
+
+-- From 0.06 to 0.75.
+unfoldable pub middle : DoubleDouble → DoubleDouble
+middle x = let k = quickRational x in cond (roundsAlike k) k (inverf0p06To0p75 x)
+
+-- By an asymptotic rational, from the logarithm of the distance to the end: the shorter or the longer one.
+unfoldable pub asymptotic : DoubleDouble → Bool → DoubleDouble
+asymptotic log short =
+    let zeta = negOf (fromExactAdd (log .hi) (log .lo)) in
+    let zetaSqrt = fastSqrt zeta in
+    let rz = recipOf zetaSqrt in
+    cond short (inverfAsymptSmall rz zetaSqrt) (inverfAsymptLong rz zetaSqrt)
+
+-- Above 0.75; the shorter rational below 0.9999.
+unfoldable pub tail : DoubleDouble → DoubleDouble
+tail x = asymptotic (fastLogDd (fullAddF64 (negOf x) one)) (lt (x .hi) (ofBits binary64 0x3fef_ff2e_48e8_a71e))
+
+-- The inverse error function of a pair with a high part below 1, by the cuts 0.0095, 0.06 and 0.75.
+unfoldable pub erfCore : DoubleDouble → DoubleDouble
+erfCore x =
+    cond (le (x .hi) (ofBits binary64 0x3f83_74bc_6a7e_f9db)) (taylor4 x)
+    (cond (le (x .hi) (ofBits binary64 0x3fae_b851_eb85_1eb8)) (taylor7 x)
+    (cond (le (x .hi) threeQuarters) (middle x)
+    (tail x)))
+
+-- Below 0.1: from the logarithm of x itself; the shorter rational from 0.0001 on.
+unfoldable pub inverfcExtraSmall : Float → DoubleDouble
+inverfcExtraSmall x = asymptotic (fastLogDToDd x) (le (ofBits binary64 0x3f1a_36e2_eb1c_432d) x)
+
+-- -1 above 1, and 1 up to it.
+unfoldable pub signOf : Float → Float
+signOf x = cond (lt one x) (neg one) one
+
+-- From 0.1 up to 2, but for 1.
+unfoldable pub central : Float → Float
+central x = mul binary64 (toF64 (erfCore (coreArgument x))) (signOf x)
+
+-- The quantile (`f_erfcinv`) of every double, by document 01's order.
+unfoldable pub fErfcinv : Float → Float
+fErfcinv x =
+    let ix = toBits binary64 x in
+    cond (isNan x) nan
+    (cond (eqb ((ix + ix) % 2 ^ 64) 0) (inf false)
+    (cond (eqb ix 0x4000_0000_0000_0000) (inf true)
+    (cond (leb 0x4000_0000_0000_0000 ix) nan
+    (cond (eq x one) zero
+    (cond (lt x tenth) (toF64 (inverfcExtraSmall x))
+    (central x))))))
+
+-- The same over bit patterns. `toBits` gives 7ff8000000000000 for a NaN.
+abbrev pub fErfcinvBits : ℕ → ℕ
+fErfcinvBits b = toBits binary64 (fErfcinv (ofBits binary64 b))

@@ -1,0 +1,12 @@
+pub mod DoubleDouble
+pub mod Common
+pub mod Polyeval
+pub mod PowTables
+pub mod PowExec
+pub mod LogTable
+pub mod FastLogDd
+pub mod Bins
+pub mod Rationals
+pub mod Argument
+pub mod Inverfc
+pub mod Checked

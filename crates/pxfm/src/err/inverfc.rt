@@ -1,0 +1,743 @@
+// The quantile (the Rust's src/err/inverfc.rs): `f_erfcinv` of every double, with the rational functions between its cuts.
+// Each function equals its definition in specs/Inverfc.antt or specs/Rationals.antt.
+ghost use mathlib.Core.Path.{_≡_};
+ghost use mathlib.Core.Bool.{true, false};
+ghost use Prim.Native.Nat.{_<_};
+ghost use lib.Ieee.{binary64, toBits, eq, lt, le};
+ghost use Rattle.pxfm.specs.DoubleDouble.{one, mulAdd, mulAddF64};
+ghost use Rattle.pxfm.specs.Argument.{tenth, threeQuarters, mirrored, coreArgument};
+ghost use Rattle.pxfm.specs.Rationals.{at, p0p06To0p75, q0p06To0p75, pAsymptSmall, qAsymptSmall, pAsymptLong, qAsymptLong};
+ghost use Rattle.pxfm.specs.Rationals.{paired10, paired11, paired14, centred, inverf0p06To0p75, inverfAsymptSmall, inverfAsymptLong};
+ghost use Rattle.pxfm.specs.Inverfc.{taylor4, taylor7, horner10, quickRational, roundsAlike, middle, asymptotic, tail, erfCore};
+ghost use Rattle.pxfm.specs.Inverfc.{inverfcExtraSmall, signOf, central, fErfcinv, fErfcinvBits};
+use crate::common;
+use crate::double_double::BitPair;
+use crate::double_double::DoubleDouble;
+use crate::logs::fast_log_dd;
+use crate::polyeval;
+
+// The coefficients, each a constant of its own: an element of a constant array would store the whole array on the stack.
+// From 0.06 to 0.75 (MID), of the shorter asymptotic rational (SMALL) and of the longer one (LONG); P above, Q below the line.
+const MID_P0: DoubleDouble = DoubleDouble {
+    lo: f64::from_bits(0xbc3e06eda42202a0),
+    hi: f64::from_bits(0x3f93c2fc5d00e0c8),
+};
+
+const MID_P1: DoubleDouble = DoubleDouble {
+    lo: f64::from_bits(0xbc6eb374406b33b4),
+    hi: f64::from_bits(0xbfc76fcfd022e3ff),
+};
+
+const MID_P2: DoubleDouble = DoubleDouble {
+    lo: f64::from_bits(0xbc857822d7ffd282),
+    hi: f64::from_bits(0x3fe6f8443546010a),
+};
+
+const MID_P3: DoubleDouble = DoubleDouble {
+    lo: f64::from_bits(0x3c68269c66dfb28a),
+    hi: f64::from_bits(0xbff80996754ceb79),
+};
+
+const MID_P4: DoubleDouble = DoubleDouble {
+    lo: f64::from_bits(0x3c543dce8990a9f9),
+    hi: f64::from_bits(0x3ffcf778d5ef0504),
+};
+
+const MID_P5: DoubleDouble = DoubleDouble {
+    lo: f64::from_bits(0xbc72fc55f73765f6),
+    hi: f64::from_bits(0xbff433be821423d0),
+};
+
+const MID_P6: DoubleDouble = DoubleDouble {
+    lo: f64::from_bits(0xbc66d05fb37c8592),
+    hi: f64::from_bits(0x3fdf15f19e9d8da4),
+};
+
+const MID_P7: DoubleDouble = DoubleDouble {
+    lo: f64::from_bits(0x3c56dfb85e83a2c5),
+    hi: f64::from_bits(0xbfb770b6827e0829),
+};
+
+const MID_P8: DoubleDouble = DoubleDouble {
+    lo: f64::from_bits(0x3bff1472ecdfa403),
+    hi: f64::from_bits(0x3f7a98a2980282bb),
+};
+
+const MID_P9: DoubleDouble = DoubleDouble {
+    lo: f64::from_bits(0x3baffb33d69d6276),
+    hi: f64::from_bits(0xbf142a246fd2c07c),
+};
+
+const MID_Q0: DoubleDouble = DoubleDouble {
+    lo: f64::from_bits(0xbc36337f24e57cb9),
+    hi: f64::from_bits(0x3f92388d5d757e3a),
+};
+
+const MID_Q1: DoubleDouble = DoubleDouble {
+    lo: f64::from_bits(0xbc63dfae43d60e0b),
+    hi: f64::from_bits(0xbfc6ca7da581358c),
+};
+
+const MID_Q2: DoubleDouble = DoubleDouble {
+    lo: f64::from_bits(0xbc77656389bd0e62),
+    hi: f64::from_bits(0x3fe7c82ce417b4e0),
+};
+
+const MID_Q3: DoubleDouble = DoubleDouble {
+    lo: f64::from_bits(0xbc93679667bef2f0),
+    hi: f64::from_bits(0xbffad58651fd1a51),
+};
+
+const MID_Q4: DoubleDouble = DoubleDouble {
+    lo: f64::from_bits(0x3ca2c6cb9eb17fb4),
+    hi: f64::from_bits(0x4001bdb67e93a242),
+};
+
+const MID_Q5: DoubleDouble = DoubleDouble {
+    lo: f64::from_bits(0xbc9b58961ba253bc),
+    hi: f64::from_bits(0xbffbdaeff6fbb81c),
+};
+
+const MID_Q6: DoubleDouble = DoubleDouble {
+    lo: f64::from_bits(0x3c7861f549c6aa61),
+    hi: f64::from_bits(0x3fe91b12cf47da3a),
+};
+
+const MID_Q7: DoubleDouble = DoubleDouble {
+    lo: f64::from_bits(0xbc696dfd665b2f5e),
+    hi: f64::from_bits(0xbfc7c5d0ffb7f1da),
+};
+
+const MID_Q8: DoubleDouble = DoubleDouble {
+    lo: f64::from_bits(0x3c1552b0ec0ba7b3),
+    hi: f64::from_bits(0x3f939ada247f7609),
+};
+
+const MID_Q9: DoubleDouble = DoubleDouble {
+    lo: f64::from_bits(0xbbcaa226fb7b30a8),
+    hi: f64::from_bits(0xbf41be65038ccfe6),
+};
+
+const SMALL_P0: DoubleDouble = DoubleDouble {
+    lo: f64::from_bits(0x3c936555853a8b2c),
+    hi: f64::from_bits(0x3ff0001df06a2515),
+};
+
+const SMALL_P1: DoubleDouble = DoubleDouble {
+    lo: f64::from_bits(0x3cea488e802db3c3),
+    hi: f64::from_bits(0x404406ba373221da),
+};
+
+const SMALL_P2: DoubleDouble = DoubleDouble {
+    lo: f64::from_bits(0xbce27d42419754e3),
+    hi: f64::from_bits(0x407b0442e38a9597),
+};
+
+const SMALL_P3: DoubleDouble = DoubleDouble {
+    lo: f64::from_bits(0xbd224a407624cbdf),
+    hi: f64::from_bits(0x409c9277e31ef446),
+};
+
+const SMALL_P4: DoubleDouble = DoubleDouble {
+    lo: f64::from_bits(0x3d4f16ce65d6fea0),
+    hi: f64::from_bits(0x40aec3ec005b1d8a),
+};
+
+const SMALL_P5: DoubleDouble = DoubleDouble {
+    lo: f64::from_bits(0x3d105bc37bc61b58),
+    hi: f64::from_bits(0x40b46be8f860f4d9),
+};
+
+const SMALL_P6: DoubleDouble = DoubleDouble {
+    lo: f64::from_bits(0x3d5ca133dcdecaa0),
+    hi: f64::from_bits(0x40b3826e6a32dad7),
+};
+
+const SMALL_P7: DoubleDouble = DoubleDouble {
+    lo: f64::from_bits(0x3d1d52013ba8aa38),
+    hi: f64::from_bits(0x40aae93a603cf3ea),
+};
+
+const SMALL_P8: DoubleDouble = DoubleDouble {
+    lo: f64::from_bits(0xbd07a75306df0fc3),
+    hi: f64::from_bits(0x4098ab8357dc2e51),
+};
+
+const SMALL_P9: DoubleDouble = DoubleDouble {
+    lo: f64::from_bits(0x3d1bb6770bb7a27e),
+    hi: f64::from_bits(0x407ebead00879010),
+};
+
+const SMALL_P10: DoubleDouble = DoubleDouble {
+    lo: f64::from_bits(0xbbfcbff4a9737936),
+    hi: f64::from_bits(0x3f8936117ccbff83),
+};
+
+const SMALL_Q1: DoubleDouble = DoubleDouble {
+    lo: f64::from_bits(0xbc75b1109d4a3262),
+    hi: f64::from_bits(0x40440782efaab17f),
+};
+
+const SMALL_Q2: DoubleDouble = DoubleDouble {
+    lo: f64::from_bits(0x3d1f7775b207d84f),
+    hi: f64::from_bits(0x407b2da74b0d39f2),
+};
+
+const SMALL_Q3: DoubleDouble = DoubleDouble {
+    lo: f64::from_bits(0xbd3291fdbab49501),
+    hi: f64::from_bits(0x409dac8d9e7c90b2),
+};
+
+const SMALL_Q4: DoubleDouble = DoubleDouble {
+    lo: f64::from_bits(0xbd58d8fdd27707a9),
+    hi: f64::from_bits(0x40b178dfeffa3192),
+};
+
+const SMALL_Q5: DoubleDouble = DoubleDouble {
+    lo: f64::from_bits(0xbd57fc74ad705ce0),
+    hi: f64::from_bits(0x40bad19b686f219f),
+};
+
+const SMALL_Q6: DoubleDouble = DoubleDouble {
+    lo: f64::from_bits(0x3d4075510031f2cd),
+    hi: f64::from_bits(0x40be70a598208cea),
+};
+
+const SMALL_Q7: DoubleDouble = DoubleDouble {
+    lo: f64::from_bits(0xbd5442e109152efb),
+    hi: f64::from_bits(0x40b9683ef36ae330),
+};
+
+const SMALL_Q8: DoubleDouble = DoubleDouble {
+    lo: f64::from_bits(0x3d5398192933962e),
+    hi: f64::from_bits(0x40b04b7c4c3ca8ee),
+};
+
+const SMALL_Q9: DoubleDouble = DoubleDouble {
+    lo: f64::from_bits(0x3d2d04d03598e303),
+    hi: f64::from_bits(0x409bd0080799fbf1),
+};
+
+const SMALL_Q10: DoubleDouble = DoubleDouble {
+    lo: f64::from_bits(0x3d2a988eb552ef44),
+    hi: f64::from_bits(0x40815a46f12bafe3),
+};
+
+const LONG_P0: DoubleDouble = DoubleDouble {
+    lo: f64::from_bits(0x3c97612f9b24a614),
+    hi: f64::from_bits(0x3ff0000ba84cc7a5),
+};
+
+const LONG_P1: DoubleDouble = DoubleDouble {
+    lo: f64::from_bits(0xbcee8fe2da463412),
+    hi: f64::from_bits(0x40515246546f5d88),
+};
+
+const LONG_P2: DoubleDouble = DoubleDouble {
+    lo: f64::from_bits(0x3d2fa4a2b891b526),
+    hi: f64::from_bits(0x40956b6837159b11),
+};
+
+const LONG_P3: DoubleDouble = DoubleDouble {
+    lo: f64::from_bits(0x3d5d673ffad4f817),
+    hi: f64::from_bits(0x40c5a1aa3be58652),
+};
+
+const LONG_P4: DoubleDouble = DoubleDouble {
+    lo: f64::from_bits(0x3d8867a1e5506f88),
+    hi: f64::from_bits(0x40e65ebb1e1e7c75),
+};
+
+const LONG_P5: DoubleDouble = DoubleDouble {
+    lo: f64::from_bits(0xbd9bbc0764ed8f5b),
+    hi: f64::from_bits(0x40fd2064a652e5c2),
+};
+
+const LONG_P6: DoubleDouble = DoubleDouble {
+    lo: f64::from_bits(0xbda78e569c0d237f),
+    hi: f64::from_bits(0x410a385c627c461c),
+};
+
+const LONG_P7: DoubleDouble = DoubleDouble {
+    lo: f64::from_bits(0xbdab3123ebc465d7),
+    hi: f64::from_bits(0x4110f05ca2b65fe5),
+};
+
+const LONG_P8: DoubleDouble = DoubleDouble {
+    lo: f64::from_bits(0x3d960def35955192),
+    hi: f64::from_bits(0x4110bb079af2fe08),
+};
+
+const LONG_P9: DoubleDouble = DoubleDouble {
+    lo: f64::from_bits(0xbd97904816054836),
+    hi: f64::from_bits(0x410911c24610c11c),
+};
+
+const LONG_P10: DoubleDouble = DoubleDouble {
+    lo: f64::from_bits(0xbd937745e9192593),
+    hi: f64::from_bits(0x40fc603244adca35),
+};
+
+const LONG_P11: DoubleDouble = DoubleDouble {
+    lo: f64::from_bits(0xbd65fbc476d63050),
+    hi: f64::from_bits(0x40e6399103188c21),
+};
+
+const LONG_P12: DoubleDouble = DoubleDouble {
+    lo: f64::from_bits(0xbd61016ef381cce6),
+    hi: f64::from_bits(0x40c6482b44995b89),
+};
+
+const LONG_P13: DoubleDouble = DoubleDouble {
+    lo: f64::from_bits(0x3c326105c49e5a1a),
+    hi: f64::from_bits(0xbfab44bd8b4e3138),
+};
+
+const LONG_Q0: DoubleDouble = DoubleDouble {
+    lo: f64::from_bits(0x0000000000000000),
+    hi: f64::from_bits(0x3ff0000000000000),
+};
+
+const LONG_Q1: DoubleDouble = DoubleDouble {
+    lo: f64::from_bits(0xbcfc7b886ee61417),
+    hi: f64::from_bits(0x405152838f711f3c),
+};
+
+const LONG_Q2: DoubleDouble = DoubleDouble {
+    lo: f64::from_bits(0xbd33f933c14e831a),
+    hi: f64::from_bits(0x409576cb78cab36e),
+};
+
+const LONG_Q3: DoubleDouble = DoubleDouble {
+    lo: f64::from_bits(0x3d33fb09e2c4898a),
+    hi: f64::from_bits(0x40c5e8a2c7602ced),
+};
+
+const LONG_Q4: DoubleDouble = DoubleDouble {
+    lo: f64::from_bits(0x3d7be430c664bf7e),
+    hi: f64::from_bits(0x40e766fdc8c7638c),
+};
+
+const LONG_Q5: DoubleDouble = DoubleDouble {
+    lo: f64::from_bits(0x3dac662e74cdfc0e),
+    hi: f64::from_bits(0x4100276b5f47b5f1),
+};
+
+const LONG_Q6: DoubleDouble = DoubleDouble {
+    lo: f64::from_bits(0x3da67d06e82a8495),
+    hi: f64::from_bits(0x410f843887f8a24a),
+};
+
+const LONG_Q7: DoubleDouble = DoubleDouble {
+    lo: f64::from_bits(0x3dbbf2e22fc2550a),
+    hi: f64::from_bits(0x4116d04271703e08),
+};
+
+const LONG_Q8: DoubleDouble = DoubleDouble {
+    lo: f64::from_bits(0xbdb2fb3aed100853),
+    hi: f64::from_bits(0x4119aff4ed32b74b),
+};
+
+const LONG_Q9: DoubleDouble = DoubleDouble {
+    lo: f64::from_bits(0x3dba75e7b7171c3c),
+    hi: f64::from_bits(0x4116b5eb8bf386bd),
+};
+
+const LONG_Q10: DoubleDouble = DoubleDouble {
+    lo: f64::from_bits(0x3dab2d8b8c1937eb),
+    hi: f64::from_bits(0x410f71c38e84cb34),
+};
+
+const LONG_Q11: DoubleDouble = DoubleDouble {
+    lo: f64::from_bits(0xbda4e2e8a50b7370),
+    hi: f64::from_bits(0x4100ca04b0f36b94),
+};
+
+const LONG_Q12: DoubleDouble = DoubleDouble {
+    lo: f64::from_bits(0xbd86ed6df34fdaf9),
+    hi: f64::from_bits(0x40e9151ded4cf4b7),
+};
+
+const LONG_Q13: DoubleDouble = DoubleDouble {
+    lo: f64::from_bits(0x3d6938ea702c0328),
+    hi: f64::from_bits(0x40c923ee1ab270c4),
+};
+
+fn mid_num(z: DoubleDouble, z2: DoubleDouble, z4: DoubleDouble, z8: DoubleDouble) -> DoubleDouble
+    ensures { λ r. ⌜ r ≡ paired10 p0p06To0p75 z z2 z4 z8 ⌝ }
+{
+    let p0 = DoubleDouble::mul_add(z, MID_P1, MID_P0);
+    let p1 = DoubleDouble::mul_add(z, MID_P3, MID_P2);
+    let p2 = DoubleDouble::mul_add(z, MID_P5, MID_P4);
+    let p3 = DoubleDouble::mul_add(z, MID_P7, MID_P6);
+    let p4 = DoubleDouble::mul_add(z, MID_P9, MID_P8);
+    let q0 = DoubleDouble::mul_add(z2, p1, p0);
+    let q1 = DoubleDouble::mul_add(z2, p3, p2);
+    let r0 = DoubleDouble::mul_add(z4, q1, q0);
+    DoubleDouble::mul_add(z8, p4, r0)
+}
+
+fn mid_den(z: DoubleDouble, z2: DoubleDouble, z4: DoubleDouble, z8: DoubleDouble) -> DoubleDouble
+    ensures { λ r. ⌜ r ≡ paired10 q0p06To0p75 z z2 z4 z8 ⌝ }
+{
+    let p0 = DoubleDouble::mul_add(z, MID_Q1, MID_Q0);
+    let p1 = DoubleDouble::mul_add(z, MID_Q3, MID_Q2);
+    let p2 = DoubleDouble::mul_add(z, MID_Q5, MID_Q4);
+    let p3 = DoubleDouble::mul_add(z, MID_Q7, MID_Q6);
+    let p4 = DoubleDouble::mul_add(z, MID_Q9, MID_Q8);
+    let q0 = DoubleDouble::mul_add(z2, p1, p0);
+    let q1 = DoubleDouble::mul_add(z2, p3, p2);
+    let r0 = DoubleDouble::mul_add(z4, q1, q0);
+    DoubleDouble::mul_add(z8, p4, r0)
+}
+
+fn small_num(z: DoubleDouble, z2: DoubleDouble, z4: DoubleDouble, z8: DoubleDouble) -> DoubleDouble
+    ensures { λ r. ⌜ r ≡ paired11 pAsymptSmall (mulAdd (at pAsymptSmall 1) z (at pAsymptSmall 0)) z z2 z4 z8 ⌝ }
+{
+    let q0 = DoubleDouble::mul_add(SMALL_P1, z, SMALL_P0);
+    let q1 = DoubleDouble::mul_add(SMALL_P3, z, SMALL_P2);
+    let q2 = DoubleDouble::mul_add(SMALL_P5, z, SMALL_P4);
+    let q3 = DoubleDouble::mul_add(SMALL_P7, z, SMALL_P6);
+    let q4 = DoubleDouble::mul_add(SMALL_P9, z, SMALL_P8);
+    let r0 = DoubleDouble::mul_add(z2, q1, q0);
+    let r1 = DoubleDouble::mul_add(z2, q3, q2);
+    let s0 = DoubleDouble::mul_add(z4, r1, r0);
+    let s1 = DoubleDouble::mul_add(z2, SMALL_P10, q4);
+    DoubleDouble::mul_add(z8, s1, s0)
+}
+
+fn small_den(z: DoubleDouble, z2: DoubleDouble, z4: DoubleDouble, z8: DoubleDouble) -> DoubleDouble
+    ensures { λ r. ⌜ r ≡ paired11 qAsymptSmall (mulAddF64 (at qAsymptSmall 1) z one) z z2 z4 z8 ⌝ }
+{
+    let q0 = DoubleDouble::mul_add_f64(SMALL_Q1, z, 1.0);
+    let q1 = DoubleDouble::mul_add(SMALL_Q3, z, SMALL_Q2);
+    let q2 = DoubleDouble::mul_add(SMALL_Q5, z, SMALL_Q4);
+    let q3 = DoubleDouble::mul_add(SMALL_Q7, z, SMALL_Q6);
+    let q4 = DoubleDouble::mul_add(SMALL_Q9, z, SMALL_Q8);
+    let r0 = DoubleDouble::mul_add(z2, q1, q0);
+    let r1 = DoubleDouble::mul_add(z2, q3, q2);
+    let s0 = DoubleDouble::mul_add(z4, r1, r0);
+    let s1 = DoubleDouble::mul_add(z2, SMALL_Q10, q4);
+    DoubleDouble::mul_add(z8, s1, s0)
+}
+
+fn long_num(z: DoubleDouble, z2: DoubleDouble, z4: DoubleDouble, z8: DoubleDouble) -> DoubleDouble
+    ensures { λ r. ⌜ r ≡ paired14 pAsymptLong z z2 z4 z8 ⌝ }
+{
+    let g0 = DoubleDouble::mul_add(z, LONG_P1, LONG_P0);
+    let g1 = DoubleDouble::mul_add(z, LONG_P3, LONG_P2);
+    let g2 = DoubleDouble::mul_add(z, LONG_P5, LONG_P4);
+    let g3 = DoubleDouble::mul_add(z, LONG_P7, LONG_P6);
+    let g4 = DoubleDouble::mul_add(z, LONG_P9, LONG_P8);
+    let g5 = DoubleDouble::mul_add(z, LONG_P11, LONG_P10);
+    let g6 = DoubleDouble::mul_add(z, LONG_P13, LONG_P12);
+    let h0 = DoubleDouble::mul_add(z2, g1, g0);
+    let h1 = DoubleDouble::mul_add(z2, g3, g2);
+    let h2 = DoubleDouble::mul_add(z2, g5, g4);
+    let q0 = DoubleDouble::mul_add(z4, h1, h0);
+    let q1 = DoubleDouble::mul_add(z4, g6, h2);
+    DoubleDouble::mul_add(z8, q1, q0)
+}
+
+fn long_den(z: DoubleDouble, z2: DoubleDouble, z4: DoubleDouble, z8: DoubleDouble) -> DoubleDouble
+    ensures { λ r. ⌜ r ≡ paired14 qAsymptLong z z2 z4 z8 ⌝ }
+{
+    let g0 = DoubleDouble::mul_add(z, LONG_Q1, LONG_Q0);
+    let g1 = DoubleDouble::mul_add(z, LONG_Q3, LONG_Q2);
+    let g2 = DoubleDouble::mul_add(z, LONG_Q5, LONG_Q4);
+    let g3 = DoubleDouble::mul_add(z, LONG_Q7, LONG_Q6);
+    let g4 = DoubleDouble::mul_add(z, LONG_Q9, LONG_Q8);
+    let g5 = DoubleDouble::mul_add(z, LONG_Q11, LONG_Q10);
+    let g6 = DoubleDouble::mul_add(z, LONG_Q13, LONG_Q12);
+    let h0 = DoubleDouble::mul_add(z2, g1, g0);
+    let h1 = DoubleDouble::mul_add(z2, g3, g2);
+    let h2 = DoubleDouble::mul_add(z2, g5, g4);
+    let q0 = DoubleDouble::mul_add(z4, h1, h0);
+    let q1 = DoubleDouble::mul_add(z4, g6, h2);
+    DoubleDouble::mul_add(z8, q1, q0)
+}
+
+// x² - 0.5625
+fn centred(x: DoubleDouble) -> DoubleDouble
+    ensures { λ r. ⌜ r ≡ centred x ⌝ }
+{
+    let x2 = DoubleDouble::quick_mult(x, x);
+    DoubleDouble::full_add_f64(x2, -0.5625)
+}
+
+pub fn inverf_0p06_to_0p75(x: DoubleDouble) -> DoubleDouble
+    ensures { λ r. ⌜ r ≡ inverf0p06To0p75 x ⌝ }
+{
+    let vz = centred(x);
+    let vx2 = vz.mul(vz);
+    let vx4 = vx2.mul(vx2);
+    let vx8 = vx4.mul(vx4);
+    let num = mid_num(vz, vx2, vx4, vx8);
+    let den = mid_den(vz, vx2, vx4, vx8);
+    let r = DoubleDouble::div(num, den);
+    DoubleDouble::quick_mult(r, x)
+}
+
+pub fn inverf_asympt_small(z: DoubleDouble, zeta_sqrt: DoubleDouble) -> DoubleDouble
+    ensures { λ r. ⌜ r ≡ inverfAsymptSmall z «zeta_sqrt» ⌝ }
+{
+    let z2 = DoubleDouble::quick_mult(z, z);
+    let z4 = DoubleDouble::quick_mult(z2, z2);
+    let z8 = DoubleDouble::quick_mult(z4, z4);
+    let num = small_num(z, z2, z4, z8);
+    let den = small_den(z, z2, z4, z8);
+    let r = DoubleDouble::div(num, den);
+    DoubleDouble::quick_mult(r, zeta_sqrt)
+}
+
+pub fn inverf_asympt_long(z: DoubleDouble, zeta_sqrt: DoubleDouble) -> DoubleDouble
+    ensures { λ r. ⌜ r ≡ inverfAsymptLong z «zeta_sqrt» ⌝ }
+{
+    let z2 = z.mul(z);
+    let z4 = z2.mul(z2);
+    let z8 = z4.mul(z4);
+    let num = long_num(z, z2, z4, z8);
+    let den = long_den(z, z2, z4, z8);
+    let r = DoubleDouble::div(num, den);
+    DoubleDouble::quick_mult(r, zeta_sqrt)
+}
+
+// The Taylor series' first two coefficients.
+fn taylor0() -> DoubleDouble
+    ensures { λ r. ⌜ r ≡ Rattle.pxfm.specs.Inverfc.taylor0 ⌝ }
+{
+    DoubleDouble::from_bit_pair(BitPair {
+        lo: 0xbc8618f13eb7ca89,
+        hi: 0x3fec5bf891b4ef6b,
+    })
+}
+
+fn taylor1() -> DoubleDouble
+    ensures { λ r. ⌜ r ≡ Rattle.pxfm.specs.Inverfc.taylor1 ⌝ }
+{
+    DoubleDouble::from_bit_pair(BitPair {
+        lo: 0xbc33ea2ef8dde075,
+        hi: 0x3fcdb29fb2fee5e4,
+    })
+}
+
+// Up to 0.0095.
+fn taylor4(x: DoubleDouble) -> DoubleDouble
+    ensures { λ r. ⌜ r ≡ taylor4 x ⌝ }
+{
+    let z2 = DoubleDouble::quick_mult(x, x);
+    let p = common::f_fmla(
+        z2.hi,
+        f64::from_bits(0x3fb62847c47dda48),
+        f64::from_bits(0x3fc053c2c0ab91c5),
+    );
+    let r1 = DoubleDouble::mul_f64_add(z2, p, taylor1());
+    let r0 = DoubleDouble::mul_add(z2, r1, taylor0());
+    DoubleDouble::quick_mult(r0, x)
+}
+
+// Up to 0.06.
+fn taylor7(x: DoubleDouble) -> DoubleDouble
+    ensures { λ r. ⌜ r ≡ taylor7 x ⌝ }
+{
+    let z2 = DoubleDouble::quick_mult(x, x);
+    let p = polyeval::f_polyeval4(
+        z2.hi,
+        f64::from_bits(0x3fb62847c47dda48),
+        f64::from_bits(0x3fb0a13189c6ef7a),
+        f64::from_bits(0x3faa7c85c89bb08b),
+        f64::from_bits(0x3fa5eeb1d488e312),
+    );
+    let c2 = DoubleDouble::from_bit_pair(BitPair {
+        lo: 0x3c2cec68daff0d80,
+        hi: 0x3fc053c2c0ab91c5,
+    });
+    let r2 = DoubleDouble::mul_f64_add(z2, p, c2);
+    let r1 = DoubleDouble::mul_add(z2, r2, taylor1());
+    let r0 = DoubleDouble::mul_add(z2, r1, taylor0());
+    DoubleDouble::quick_mult(r0, x)
+}
+
+// By Horner's rule, the upper five coefficients by their high parts alone.
+fn quick_num(vz: DoubleDouble) -> DoubleDouble
+    ensures { λ r. ⌜ r ≡ horner10 p0p06To0p75 vz ⌝ }
+{
+    let ps = polyeval::f_polyeval5(vz.hi, MID_P5.hi, MID_P6.hi, MID_P7.hi, MID_P8.hi, MID_P9.hi);
+    let n4 = DoubleDouble::mul_f64_add(vz, ps, MID_P4);
+    let n3 = DoubleDouble::mul_add(vz, n4, MID_P3);
+    let n2 = DoubleDouble::mul_add(vz, n3, MID_P2);
+    let n1 = DoubleDouble::mul_add(vz, n2, MID_P1);
+    DoubleDouble::mul_add(vz, n1, MID_P0)
+}
+
+fn quick_den(vz: DoubleDouble) -> DoubleDouble
+    ensures { λ r. ⌜ r ≡ horner10 q0p06To0p75 vz ⌝ }
+{
+    let ps = polyeval::f_polyeval5(vz.hi, MID_Q5.hi, MID_Q6.hi, MID_Q7.hi, MID_Q8.hi, MID_Q9.hi);
+    let n4 = DoubleDouble::mul_f64_add(vz, ps, MID_Q4);
+    let n3 = DoubleDouble::mul_add(vz, n4, MID_Q3);
+    let n2 = DoubleDouble::mul_add(vz, n3, MID_Q2);
+    let n1 = DoubleDouble::mul_add(vz, n2, MID_Q1);
+    DoubleDouble::mul_add(vz, n1, MID_Q0)
+}
+
+// The quicker rational from 0.06 to 0.75.
+fn quick_rational(x: DoubleDouble) -> DoubleDouble
+    ensures { λ r. ⌜ r ≡ quickRational x ⌝ }
+{
+    let vz = centred(x);
+    let num = quick_num(vz);
+    let den = quick_den(vz);
+    let r = DoubleDouble::div(num, den);
+    DoubleDouble::quick_mult(r, x)
+}
+
+// Whether k rounds to one double with any error within the quicker rational's bound.
+fn rounds_alike(k: DoubleDouble) -> bool
+    ensures { λ r. ⌜ r ≡ roundsAlike k ⌝ }
+{
+    let err = common::f_fmla(
+        k.hi,
+        f64::from_bits(0x3c70000000000000),
+        f64::from_bits(0x3c40000000000000),
+    );
+    let ub = k.hi + (k.lo + err);
+    let lb = k.hi + (k.lo - err);
+    ub == lb
+}
+
+// From 0.06 to 0.75.
+fn middle(x: DoubleDouble) -> DoubleDouble
+    ensures { λ r. ⌜ r ≡ middle x ⌝ }
+{
+    let k = quick_rational(x);
+    if rounds_alike(k) {
+        return k;
+    }
+    inverf_0p06_to_0p75(x)
+}
+
+// From the logarithm of the distance to the end, by the shorter or the longer rational.
+fn asymptotic(log: DoubleDouble, short: bool) -> DoubleDouble
+    ensures { λ r. ⌜ r ≡ asymptotic log short ⌝ }
+{
+    let zeta = DoubleDouble::from_exact_add(log.hi, log.lo).neg();
+    let zeta_sqrt = zeta.fast_sqrt();
+    let rz = zeta_sqrt.recip();
+    if short {
+        return inverf_asympt_small(rz, zeta_sqrt);
+    }
+    inverf_asympt_long(rz, zeta_sqrt)
+}
+
+// Above 0.75: the logarithm's argument is positive and finite.
+fn tail(x: DoubleDouble) -> DoubleDouble
+    requires { ⌜ lt (x .hi) one ≡ true ⌝ }
+    requires { ⌜ le (x .hi) threeQuarters ≡ false ⌝ }
+    ensures { λ r. ⌜ r ≡ tail x ⌝ }
+{
+    let q = DoubleDouble::full_add_f64(x.neg(), 1.0);
+    let log = fast_log_dd::fast_log_dd(q);
+    asymptotic(log, x.hi < 0.9999)
+}
+
+pub(crate) fn erf_core(x: DoubleDouble) -> DoubleDouble
+    requires { ⌜ lt (x .hi) one ≡ true ⌝ }
+    ensures { λ r. ⌜ r ≡ erfCore x ⌝ }
+{
+    let h = x.hi;
+    if h <= 0.0095 {
+        return taylor4(x);
+    }
+    if h <= 0.06 {
+        return taylor7(x);
+    }
+    if h <= 0.75 {
+        return middle(x);
+    }
+    tail(x)
+}
+
+// Below 0.1.
+fn inverfc_extra_small(x: f64) -> DoubleDouble
+    requires { ⌜ 0 < toBits binary64 x ⌝ }
+    requires { ⌜ toBits binary64 x < 0x7ff0_0000_0000_0000 ⌝ }
+    ensures { λ r. ⌜ r ≡ inverfcExtraSmall x ⌝ }
+{
+    let log = fast_log_dd::fast_log_d_to_dd(x);
+    asymptotic(log, x >= 0.0001)
+}
+
+// x itself, or 2 - x above 1.
+fn mirrored(x: f64) -> DoubleDouble
+    ensures { λ r. ⌜ r ≡ mirrored x ⌝ }
+{
+    if x > 1.0 {
+        return DoubleDouble::from_full_exact_sub(2.0, x);
+    }
+    DoubleDouble::new(0.0, x)
+}
+
+fn sign(x: f64) -> f64
+    ensures { λ r. ⌜ r ≡ signOf x ⌝ }
+{
+    if x > 1.0 {
+        return -1.0;
+    }
+    1.0
+}
+
+// What erf_core is given: 1 less `mirrored`.
+fn core_argument(x: f64) -> DoubleDouble
+    ensures { λ r. ⌜ r ≡ coreArgument x ⌝ }
+{
+    let d = mirrored(x);
+    let dx = DoubleDouble::full_add_f64(d.neg(), 1.0);
+    DoubleDouble::from_exact_add(dx.hi, dx.lo)
+}
+
+// From 0.1 up to 2, but for 1.
+fn central(x: f64) -> f64
+    requires { ⌜ toBits binary64 x < 0x4000_0000_0000_0000 ⌝ }
+    requires { ⌜ eq x one ≡ false ⌝ }
+    requires { ⌜ lt x tenth ≡ false ⌝ }
+    ensures { λ r. ⌜ r ≡ central x ⌝ }
+{
+    let dx = core_argument(x);
+    let r = erf_core(dx).to_f64();
+    r * sign(x)
+}
+
+// The quantile of every double. A NaN has no bits of its own to look at, so it is told apart first.
+pub fn f_erfcinv(x: f64) -> f64
+    ensures { λ r. ⌜ r ≡ fErfcinv x ⌝ }
+{
+    if x != x {
+        return 0.0 / 0.0;
+    }
+    let ix = f64::to_bits(x);
+    if std::num::wrapping_add_u64(ix, ix) == 0 {
+        return 1.0 / 0.0;
+    }
+    if ix == 0x4000000000000000 {
+        return -1.0 / 0.0;
+    }
+    if ix >= 0x4000000000000000 {
+        return 0.0 / 0.0;
+    }
+    if x == 1.0 {
+        return 0.0;
+    }
+    if x < 0.1 {
+        return inverfc_extra_small(x).to_f64();
+    }
+    central(x)
+}
+
+// The quantile over bit patterns, all of them.
+pub fn f_erfcinv_bits(b: u64) -> u64
+    ensures { λ r. ⌜ r ≡ fErfcinvBits b ⌝ }
+{
+    let x = sqrt::bits::of_bits(b);
+    sqrt::bits::bits_of(f_erfcinv(x))
+}

@@ -1,0 +1,3 @@
+// The inverse error functions.
+// One file here for one file of the Rust.
+pub mod inverfc;

@@ -1,0 +1,24 @@
+-- `series_vectors::start` meets its contract, by those of its groups. Assumes nothing.
+use borrow.Author.Needs.{needs}
+use Rattle.series_vectors.proofs.start.Statement.{statement}
+use Rattle.series_vectors.proofs.start.Tie as tie
+
+within-requires : tie.Need-within-requires
+within-requires c κs = search needs
+
+within-requires-2 : tie.Need-within-requires-2
+within-requires-2 c κs = search needs
+
+within-requires-3 : tie.Need-within-requires-3
+within-requires-3 c κs = search needs
+
+within-requires-4 : tie.Need-within-requires-4
+within-requires-4 c κs = search needs
+
+returns : tie.Need-returns
+returns c = cc
+
+pub start-spec : {M : Type 1} → statement M
+start-spec =
+    tie.close
+    (tie.spec within-requires within-requires-2 within-requires-3 within-requires-4 returns)

@@ -1,0 +1,2 @@
+-- What the contracts of the comparison with the series cite.
+pub mod Series

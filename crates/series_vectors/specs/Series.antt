@@ -1,0 +1,139 @@
+-- A stored true value against f_erfcinv, and the tally of many.
+-- Assumes nothing.
+use Prim.Native.Nat.{ℕ, zero, suc, _+_, _-_, _*_, _/_, _^_, max}
+use mathlib.Core.Bool.{cond}
+use mathlib.Core.List.{List, [], _∷_, _++_}
+use lib.Dec.{eqb, leb, ltb}
+use lib.ListN.{length, getD, take, drop}
+use Rattle.hex.specs.Hex.{readHex}
+use Rattle.lines.specs.Lines.{fieldOf, oneMore}
+use Rattle.lines.specs.declared.field.Field.{Field}
+use Rattle.lines.specs.declared.field.Field.the-variants as F
+use Rattle.pxfm.specs.Inverfc.{fErfcinvBits}
+use Rattle.series_vectors.specs.declared.line.Measured.{Measured}
+use Rattle.series_vectors.specs.declared.line.Measured.the-variants as M
+use Rattle.series_vectors.specs.declared.group.Group.{Group}
+use Rattle.series_vectors.specs.declared.tally.Tally.{Tally}
+
+-- ---- distances, 2^32 to a unit of the last place
+
+-- what stands for a result of the other sign, or 2^31 doubles away and more
+abbrev pub tooFar : ℕ
+tooFar = 2 ^ 64 - 1
+
+-- a result so many doubles nearer to zero than the double below the true value
+unfoldable pub stepsBelow : ℕ → ℕ → ℕ
+stepsBelow steps part = cond (ltb steps (2 ^ 31)) (steps * 2 ^ 32 + part) tooFar
+
+-- a result so many doubles farther from zero; of the two differences one is 0
+unfoldable pub stepsAbove : ℕ → ℕ → ℕ
+stepsAbove steps part = cond (ltb steps (2 ^ 31)) ((steps * 2 ^ 32 - part) + (part - steps * 2 ^ 32)) tooFar
+
+-- the distance of a result from the true value part / 2^32 of the way from the double with the bits `below` to the next
+unfoldable pub distanceOf : ℕ → ℕ → ℕ → ℕ
+distanceOf got below part =
+    cond (eqb (got / 2 ^ 63) (below / 2 ^ 63))
+    (cond (ltb got below) (stepsBelow (below - got) part) (stepsAbove (got - below) part))
+    tooFar
+
+-- a distance in ten-thousandths of a unit, rounded up
+unfoldable pub tenThousandths : ℕ → ℕ
+tenThousandths distance = (distance * 10000 + (2 ^ 32 - 1)) / 2 ^ 32
+
+-- ---- one line
+
+-- a number goes on, none makes the line malformed
+unfoldable pub afterField : Field → (ℕ → Measured) → Measured
+afterField (F.Value n) next = next n
+afterField F.Nothing next = M.Malformed
+
+-- the quantile at x against the true value
+unfoldable pub measuredAt : ℕ → ℕ → ℕ → ℕ → Measured
+measuredAt letter x below part = M.Distance letter x (distanceOf (fErfcinvBits x) below part)
+
+-- the rest of the way, from a line's byte 36 on
+unfoldable pub measuredBelow : List ℕ → ℕ → ℕ → ℕ → Measured
+measuredBelow s letter x below = afterField (fieldOf (readHex s 36 8)) (λ part. measuredAt letter x below part)
+
+-- the double below the true value, from byte 19 on, and the rest
+unfoldable pub measuredFrom : List ℕ → ℕ → ℕ → Measured
+measuredFrom s letter x = afterField (fieldOf (readHex s 19 16)) (λ below. measuredBelow s letter x below)
+
+-- the argument, from byte 2 on, and the rest
+unfoldable pub measuredFields : List ℕ → ℕ → Measured
+measuredFields s letter = afterField (fieldOf (readHex s 2 16)) (λ x. measuredFrom s letter x)
+
+-- a line: a letter, sixteen digits, sixteen digits, eight digits and a line end, with single spaces
+unfoldable pub measuredLine : List ℕ → Measured
+measuredLine s =
+    cond (eqb (length s) 45)
+    (cond (eqb (getD s 1 0) 32)
+    (cond (eqb (getD s 18 0) 32)
+    (cond (eqb (getD s 35 0) 32)
+    (cond (eqb (getD s 44 0) 10) (measuredFields s (getD s 0 0)) M.Malformed)
+    M.Malformed)
+    M.Malformed)
+    M.Malformed)
+    M.Malformed
+
+-- ---- the tally
+
+-- a group with no line yet, and its bound in ten-thousandths of a unit
+abbrev pub emptyGroup : ℕ → Group
+emptyGroup bound = record { count = 0; nearest = 0; greatest = 0; at = 0; bound = bound; beyond = 0 }
+
+-- no line yet: 0.53 units for the chances and for every x from 1.4e-11 up, 1.1 from 1e-20 up, and none below
+abbrev pub noLines : Tally
+noLines =
+    record {
+      chances = emptyGroup 5300;
+      others = emptyGroup 5300;
+      small = emptyGroup 11000;
+      far = emptyGroup (2 ^ 64 - 1);
+      malformed = 0;
+    }
+
+-- a group with one distance more: how many, how many within half a unit, the greatest and where, how many beyond the bound
+unfoldable pub grouped : Group → ℕ → ℕ → Group
+grouped g x distance =
+    record {
+      count = oneMore (g .count);
+      nearest = cond (leb distance (2 ^ 31)) (oneMore (g .nearest)) (g .nearest);
+      greatest = max (g .greatest) distance;
+      at = cond (ltb (g .greatest) distance) x (g .at);
+      bound = g .bound;
+      beyond = cond (ltb (g .bound) (tenThousandths distance)) (oneMore (g .beyond)) (g .beyond);
+    }
+
+-- a tally with one malformed line more
+unfoldable pub malformedOne : Tally → Tally
+malformedOne t =
+    record { chances = t .chances; others = t .others; small = t .small; far = t .far; malformed = oneMore (t .malformed) }
+
+-- a tally with one distance more, in the group of its letter: c, o, s or f
+unfoldable pub countedAt : Tally → ℕ → ℕ → ℕ → Tally
+countedAt t letter x d =
+    cond (eqb letter 99)
+    (record { chances = grouped (t .chances) x d; others = t .others; small = t .small; far = t .far; malformed = t .malformed })
+    (cond (eqb letter 111)
+    (record { chances = t .chances; others = grouped (t .others) x d; small = t .small; far = t .far; malformed = t .malformed })
+    (cond (eqb letter 115)
+    (record { chances = t .chances; others = t .others; small = grouped (t .small) x d; far = t .far; malformed = t .malformed })
+    (cond (eqb letter 102)
+    (record { chances = t .chances; others = t .others; small = t .small; far = grouped (t .far) x d; malformed = t .malformed })
+    (malformedOne t))))
+
+-- a tally with one line more
+unfoldable pub counted : Tally → Measured → Tally
+counted t (M.Distance letter x d) = countedAt t letter x d
+counted t M.Malformed = malformedOne t
+
+-- a tally with the lines of some bytes more, at most so many; a last line may be cut short
+unfoldable pub talliedIn : ℕ → List ℕ → Tally → Tally
+talliedIn zero s t = t
+talliedIn (suc most) s t =
+    cond (eqb (length s) 0) t (talliedIn most (drop 45 s) (counted t (measuredLine (take 45 s))))
+
+-- a tally with all lines of some bytes more
+unfoldable pub tallied : List ℕ → Tally → Tally
+tallied s t = talliedIn (length s) s t

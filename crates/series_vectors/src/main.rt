@@ -1,0 +1,117 @@
+// Measures f_erfcinv against stored true values of the inverse of erfc, worked out from the series of DLMF 7.17.
+// Reads the lines that tools/series writes from standard input. The output's last line is the verdict.
+mod distance;
+mod group;
+mod line;
+mod report;
+mod tally;
+
+ghost use mathlib.Core.Path.{_≡_};
+ghost use lib.ListN.{length};
+ghost use Rattle.series_vectors.specs.Series.{noLines};
+use group::Group;
+use line::Measured;
+use report::print;
+use report::print_group;
+use report::print_number;
+use tally::Tally;
+use tally::count;
+use tally::tally_chunk;
+
+// What one read leads to: the tally, and whether more may come.
+struct Turn {
+    tally: Tally,
+    more: bool,
+}
+
+fn main() {
+    if os::arg_count() > 1 {
+        print(b"usage: series_vectors < VALUES\n");
+        print(
+            b"A line is as tools/series writes it: a letter, x, the double below, the rest of the way.\n",
+        );
+        return;
+    }
+    print(b"x below 1e-20 and the distance there in units of the last place, with no bound:\n");
+    verdict(finished(replay()));
+}
+
+// Reads to the end of the input. A proved loop has to end, and nothing says that an input does:
+// the turns count down from a number that no run uses up.
+fn replay() -> Tally {
+    let mut turn = Turn {
+        tally: start(),
+        more: true,
+    };
+    let mut turns = u64::MAX;
+    while turns > 0 && turn.more {
+        let tally = turn.tally;
+        turn = replay_some(tally);
+        turns -= 1;
+    }
+    turn.tally
+}
+
+// No line yet. The bounds are in ten-thousandths of a unit of the last place.
+fn start() -> Tally
+    ensures { λ r. ⌜ r ≡ noLines ⌝ }
+{
+    Tally {
+        chances: Group::within(5300),
+        others: Group::within(5300),
+        small: Group::within(11000),
+        far: Group::within(0xffffffffffffffff),
+        malformed: 0,
+    }
+}
+
+// Reads as many lines as the buffer holds, all but the last time.
+fn replay_some(t: Tally) -> Turn {
+    let mut buf = lines_buffer();
+    let n = io::read_full(0, &mut buf);
+    let tally = tally_chunk(&buf[..n], t);
+    Turn {
+        tally,
+        more: n == 4050,
+    }
+}
+
+// Room for 90 lines.
+fn lines_buffer() -> [u8; 4050]
+    ensures { λ r. ⌜ 4050 ≡ length r ⌝ }
+{
+    [0; 4050]
+}
+
+// What cannot be read counts as a malformed line.
+fn finished(t: Tally) -> Tally {
+    if lines::input_ended() {
+        return t;
+    }
+    io::write_all(
+        2,
+        b"series_vectors: standard input cannot be read to its end\n",
+    );
+    count(t, Measured::Malformed)
+}
+
+// The groups, and the last line of the output.
+fn verdict(t: Tally) {
+    let chances = t.chances;
+    let others = t.others;
+    let small = t.small;
+    let far = t.far;
+    print_group(b"below 1e-20", far);
+    print_group(b"from 1e-20", small);
+    print_group(b"from 1.4e-11", others);
+    print_group(b"chances", chances);
+    print(b"series_vectors: beyond their bounds: ");
+    print_number(chances.beyond);
+    print(b" chances, ");
+    print_number(others.beyond);
+    print(b" from 1.4e-11, ");
+    print_number(small.beyond);
+    print(b" from 1e-20; ");
+    print_number(t.malformed);
+    print(b" malformed\n");
+}

@@ -1,0 +1,54 @@
+// Text for people: numbers, distances, and the line of a group.
+// What cannot be written is said on standard error.
+use crate::distance::ten_thousandths;
+use crate::group::Group;
+
+// The line of a group.
+pub fn print_group(name: &[u8], g: Group) {
+    print(name);
+    print(b": ");
+    print_number(g.count);
+    print(b" compared, ");
+    print_number(g.nearest);
+    print(b" nearest, greatest ");
+    print_units(ten_thousandths(g.greatest));
+    print(b" at ");
+    print(&hex::hex_of(g.at));
+    print_bound(g.bound, g.beyond);
+    print(b"\n");
+}
+
+// The bound, where there is one, and how many are beyond it.
+fn print_bound(bound: u64, beyond: u64) {
+    if bound < 0xffffffffffffffff {
+        print(b", bound ");
+        print_units(bound);
+        print(b", ");
+        print_number(beyond);
+        print(b" beyond");
+    }
+}
+
+// Ten-thousandths of a unit as units with four decimals.
+pub fn print_units(n: u64) {
+    print_number(n / 10000);
+    let mut decimals = [0u8; 4];
+    hex::decimal_into(n % 10000, &mut decimals);
+    print(b".");
+    print(&decimals);
+}
+
+// A number in decimal.
+pub fn print_number(n: u64) {
+    let d = hex::decimal_of(n);
+    let digits = d.digits;
+    let count = d.count;
+    print(&digits[..count]);
+}
+
+// Writes a text to standard output, or says that it cannot.
+pub fn print(text: &[u8]) {
+    if !io::write_all(1, text) {
+        io::write_all(2, b"series_vectors: standard output cannot be written\n");
+    }
+}

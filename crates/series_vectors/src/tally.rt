@@ -1,0 +1,142 @@
+// The groups of all lines, and how many lines are malformed.
+// A line of the far group is written out as it is met.
+ghost use mathlib.Core.Path.{_≡_};
+ghost use Rattle.series_vectors.specs.Series.{malformedOne, countedAt, counted, tallied};
+use crate::distance::ten_thousandths;
+use crate::group::Group;
+use crate::group::group_with;
+use crate::line::Measured;
+use crate::line::measure;
+use crate::report::print;
+use crate::report::print_units;
+use lines::line_end;
+use lines::one_more;
+
+pub struct Tally {
+    pub chances: Group,
+    pub others: Group,
+    pub small: Group,
+    pub far: Group,
+    pub malformed: u64,
+}
+
+// The lines of a chunk, one after another; the last may be cut short, and is malformed then.
+pub fn tally_chunk(chunk: &[u8], t: Tally) -> Tally
+    ensures { λ r. ⌜ r ≡ tallied (now (chunk .entry)) t ⌝ }
+{
+    let mut tally = t;
+    let mut at = 0;
+    while at < chunk.len() {
+        let end = line_end(at, 45, chunk.len());
+        let measured = measure(&chunk[at..end]);
+        tally = count(tally, measured);
+        show(measured);
+        at = end;
+    }
+    tally
+}
+
+// A tally with one line more.
+pub fn count(t: Tally, m: Measured) -> Tally
+    ensures { λ r. ⌜ r ≡ counted t m ⌝ }
+{
+    match m {
+        Measured::Distance {
+            letter,
+            x,
+            distance,
+        } => count_at(t, letter, x, distance),
+        Measured::Malformed => one_malformed(t),
+    }
+}
+
+// A tally with one distance more, in the group of its letter.
+fn count_at(t: Tally, letter: u8, x: u64, distance: u64) -> Tally
+    ensures { λ r. ⌜ r ≡ countedAt t letter x distance ⌝ }
+{
+    let chances = t.chances;
+    let others = t.others;
+    let small = t.small;
+    let far = t.far;
+    let malformed = t.malformed;
+    if letter == b'c' {
+        let chances = group_with(chances, x, distance);
+        return Tally {
+            chances,
+            others,
+            small,
+            far,
+            malformed,
+        };
+    }
+    if letter == b'o' {
+        let others = group_with(others, x, distance);
+        return Tally {
+            chances,
+            others,
+            small,
+            far,
+            malformed,
+        };
+    }
+    if letter == b's' {
+        let small = group_with(small, x, distance);
+        return Tally {
+            chances,
+            others,
+            small,
+            far,
+            malformed,
+        };
+    }
+    if letter == b'f' {
+        let far = group_with(far, x, distance);
+        return Tally {
+            chances,
+            others,
+            small,
+            far,
+            malformed,
+        };
+    }
+    one_malformed(t)
+}
+
+// A tally with one malformed line more.
+fn one_malformed(t: Tally) -> Tally
+    ensures { λ r. ⌜ r ≡ malformedOne t ⌝ }
+{
+    let chances = t.chances;
+    let others = t.others;
+    let small = t.small;
+    let far = t.far;
+    let malformed = one_more(t.malformed);
+    Tally {
+        chances,
+        others,
+        small,
+        far,
+        malformed,
+    }
+}
+
+// Writes a malformed line's mark, and a line of the far group.
+fn show(m: Measured) {
+    match m {
+        Measured::Distance {
+            letter,
+            x,
+            distance,
+        } => {
+            if letter == b'f' {
+                print(&hex::hex_of(x));
+                print(b" ");
+                print_units(ten_thousandths(distance));
+                print(b"\n");
+            }
+        }
+        Measured::Malformed => {
+            print(b"malformed line\n");
+        }
+    }
+}

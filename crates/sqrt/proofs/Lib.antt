@@ -1,0 +1,11 @@
+pub mod Squares
+pub mod Extending
+pub mod Checking
+pub mod Nans
+pub mod OneRounding
+pub mod Scaling
+pub mod Special
+pub mod Midpoints
+pub mod Counted
+pub mod Nearest
+pub mod Cases

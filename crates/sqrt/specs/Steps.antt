@@ -1,0 +1,29 @@
+-- What the steps of the root promise each other: the scaled significand, and its whole root with the remainder. Definitions only.
+-- The code takes the root of q * 2 ^ 54 for a q of 53 or 54 binary digits, and leaves a power of four to the rounding.
+use Prim.Native.Nat.{ℕ, _+_, _*_, _^_, _≤_, _<_}
+use mathlib.Core.Path.{_≡_}
+
+-- n is q * 2 ^ 54 * 4 ^ z, with a q of 53 or 54 binary digits
+pub record IsScaled (n q z : ℕ) : Type 0 where
+  pub same : n ≡ q * 2 ^ 54 * 4 ^ z
+  pub q-ge : 2 ^ 52 ≤ q
+  pub q-lt : q < 2 ^ 54
+  pub z-lt : z < 2000
+
+-- s is the whole root of n, and r the remainder
+pub record IsRest (n s r : ℕ) : Type 0 where
+  pub sum : n ≡ s * s + r
+  pub small : r ≤ 2 * s
+
+-- the first half of a guess at the root: t - 16 is what is left of q * 2 ^ 10 when the square of g is taken off
+pub record IsFirst (q g t : ℕ) : Type 0 where
+  pub sum : t + g * g ≡ q * 2 ^ 10 + 16
+  pub g-pos : 0 < g
+  pub g-lt : g < 2 ^ 32
+  pub t-lt : t < 2 ^ 36
+
+-- the middle step: s is the whole root of the scaled significand q * 2 ^ 54, r the remainder, and s has 54 binary digits
+pub record IsWhole (q s r : ℕ) : Type 0 where
+  pub rest : IsRest (q * 2 ^ 54) s r
+  pub s-ge : 2 ^ 53 ≤ s
+  pub s-lt : s < 2 ^ 54

@@ -1,0 +1,102 @@
+// Times our functions beside the Rust's and prints a table in markdown.
+// Both sides are called through one driver, on bit patterns, by the C convention, and take turns.
+
+use inputs::doubles::{low_part, moderate};
+use inputs::quantile::{chance, BELOW_ONE, CHANCES, ONE_TO_TWO};
+use inputs::random::Random;
+use original::steps;
+use ours::Step;
+use std::hint::black_box;
+use std::time::{Duration, Instant};
+
+type OnBits = extern "C" fn(u64) -> u64;
+
+/// Calls in a turn, and turns of each side; the least time of a turn counts.
+const CALLS: usize = 2_000;
+const TURNS: usize = 200;
+
+fn main() {
+    let mut random = Random::new(1);
+    println!("| | ours, ns | Rust, ns | ours / Rust |");
+    println!("|---|---|---|---|");
+    quantile_rows(&mut random);
+    pair_rows(&mut random);
+    let inputs = drawn(|| moderate(&mut random).abs().to_bits());
+    print_row(
+        "sqrt",
+        race(
+            [ours::sqrt_bits as OnBits, original::sqrt_bits],
+            &inputs,
+            call_bits,
+        ),
+    );
+}
+
+fn quantile_rows(random: &mut Random) {
+    for range in BELOW_ONE.iter().chain([&ONE_TO_TWO]) {
+        let inputs = drawn(|| range.draw(random));
+        quantile_row(range.name, &inputs);
+    }
+    let inputs = drawn(|| chance(random.whole(*CHANCES.start(), *CHANCES.end())));
+    quantile_row("chances", &inputs);
+}
+
+fn quantile_row(range: &str, inputs: &[u64]) {
+    let times = race(
+        [ours::f_erfcinv_bits as OnBits, original::f_erfcinv_bits],
+        inputs,
+        call_bits,
+    );
+    print_row(&format!("f_erfcinv, {range}"), times);
+}
+
+/// The pair operations on three positive pairs of moderate size; an operation reads as many as it takes.
+fn pair_rows(random: &mut Random) {
+    let inputs = drawn(|| {
+        let high: [f64; 3] = std::array::from_fn(|_| moderate(random).abs());
+        let low = high.map(|x| low_part(x, random));
+        [low[0], high[0], low[1], high[1], low[2], high[2]].map(f64::to_bits)
+    });
+    macro_rules! rows {
+        ($($name:ident)*) => {
+            $(print_row(stringify!($name), race([ours::$name as Step, steps::$name], &inputs, call_step));)*
+        };
+    }
+    rows!(dd_quick_mult dd_mul_add dd_div dd_recip dd_fast_sqrt);
+}
+
+fn drawn<T>(draw: impl FnMut() -> T) -> Vec<T> {
+    std::iter::repeat_with(draw).take(CALLS).collect()
+}
+
+/// The least time of a turn of each function; the two take turns over the same inputs.
+fn race<F: Copy, I>(sides: [F; 2], inputs: &[I], call: impl Fn(F, &I) -> u64) -> [Duration; 2] {
+    let mut least = [Duration::MAX; 2];
+    for _ in 0..TURNS {
+        for (function, least) in sides.into_iter().zip(&mut least) {
+            let function = black_box(function);
+            let start = Instant::now();
+            for input in inputs {
+                black_box(call(function, input));
+            }
+            *least = start.elapsed().min(*least);
+        }
+    }
+    least
+}
+
+fn call_bits(function: OnBits, input: &u64) -> u64 {
+    function(*input)
+}
+
+fn call_step(function: Step, input: &[u64; 6]) -> u64 {
+    let mut out = [0; 2];
+    // No listed function takes more than six places, and each writes two.
+    unsafe { function(input.as_ptr(), &mut out) };
+    out[0] ^ out[1]
+}
+
+fn print_row(name: &str, times: [Duration; 2]) {
+    let [ours, rust] = times.map(|time| time.as_secs_f64() * 1e9 / CALLS as f64);
+    println!("| {name} | {ours:.1} | {rust:.1} | {:.2} |", ours / rust);
+}

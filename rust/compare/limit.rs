@@ -1,0 +1,111 @@
+// The limit against document 01's formula, worked here with the Rust's quantile and the hardware's root,
+// over random and edge sets of times and chances, those that are refused included.
+
+use crate::options::Options;
+use crate::tally::{Tally, Totals};
+use inputs::quantile::chance as quantile_argument;
+use inputs::random::Random;
+
+const CHANCES: [u32; 9] = [
+    0,
+    1,
+    2,
+    1_000,
+    500_000,
+    999_998,
+    999_999,
+    1_000_000,
+    u32::MAX,
+];
+const TIMES: [u32; 8] = [0, 1, 2, 100, 1_048_574, 1_048_575, 1_048_576, u32::MAX];
+const COUNTS: [usize; 8] = [0, 1, 2, 3, 127, 128, 129, 1000];
+const LAST_TIME: u64 = 1_048_575;
+
+pub fn compare(options: &Options, totals: &mut Totals) {
+    compare_edges(options, totals);
+    compare_random(options, totals);
+}
+
+/// Every count, chance and two times of the edges: the two times in turn, then in random order.
+fn compare_edges(options: &Options, totals: &mut Totals) {
+    let mut tally = Tally::new("limit, edges");
+    let mut random = options.random("limit, edges");
+    for count in COUNTS {
+        for (first, second) in TIMES.iter().flat_map(|a| TIMES.map(|b| (*a, b))) {
+            for chance in CHANCES {
+                let turns = [first, second].into_iter().cycle();
+                let mut times: Vec<u32> = turns.take(count).collect();
+                compare_at(&times, chance, &mut tally);
+                times
+                    .iter_mut()
+                    .for_each(|time| *time = *random.pick(&[first, second]));
+                compare_at(&times, chance, &mut tally);
+            }
+        }
+    }
+    tally.close(totals);
+}
+
+/// Random times within a random spread, and at times one time or the chance out of range.
+fn compare_random(options: &Options, totals: &mut Totals) {
+    let mut tally = Tally::new("limit, random");
+    let mut random = options.random("limit, random");
+    for _ in 0..options.times(300_000) {
+        let mut times = random_times(&mut random);
+        let chance = random.whole(1, 999_999) as u32;
+        compare_at(&times, chance, &mut tally);
+        let place = random.below(times.len() as u64) as usize;
+        times[place] = *random.pick(&TIMES);
+        compare_at(&times, *random.pick(&CHANCES), &mut tally);
+    }
+    tally.close(totals);
+}
+
+fn random_times(random: &mut Random) -> Vec<u32> {
+    let count = random.whole(2, 128);
+    let low = random.whole(1, LAST_TIME);
+    let spread = random.whole(1, LAST_TIME) >> random.below(20);
+    let high = LAST_TIME.min(low + spread);
+    (0..count).map(|_| random.whole(low, high) as u32).collect()
+}
+
+fn compare_at(times: &[u32], chance: u32, tally: &mut Tally) {
+    let sides = [
+        ours::limit_bits(times, chance),
+        answer(limit(times, chance)),
+    ];
+    tally.take(sides, || format!("times {times:?} at {chance}"));
+}
+
+/// {0, bits of the limit} or {1, refusal}.
+fn answer(limit: Result<f64, u64>) -> [u64; 2] {
+    match limit {
+        Ok(limit) => [0, original::bits_of(limit)],
+        Err(refusal) => [1, refusal],
+    }
+}
+
+/// Document 01, Limit: mean + (spread × 1.4142135623730951) × e, or the first refusal that holds.
+#[allow(clippy::approx_constant)] // the digits are the paper's
+fn limit(times: &[u32], chance: u32) -> Result<f64, u64> {
+    let time_fits = |time: &u32| (1..=LAST_TIME).contains(&u64::from(*time));
+    if !(1..=999_999).contains(&chance) {
+        return Err(5);
+    }
+    if !(2..=128).contains(&times.len()) || !times.iter().all(time_fits) {
+        return Err(6);
+    }
+    let n = times.len() as u64;
+    let sum: u64 = times.iter().map(|time| u64::from(*time)).sum();
+    let squares: u64 = times.iter().map(|time| u64::from(*time).pow(2)).sum();
+    let d = n * squares - sum * sum;
+    let mean = sum as f64 / n as f64;
+    let spread = (d as f64 / (n * n) as f64).sqrt();
+    let e = f64::from_bits(original::f_erfcinv_bits(quantile_argument(chance.into())));
+    let limit = mean + (spread * 1.4142135623730951) * e;
+    if limit.is_finite() {
+        Ok(limit)
+    } else {
+        Err(8)
+    }
+}

@@ -1,0 +1,45 @@
+// Compares our functions with the Rust's, all bits of every result; exit status 1 if any result differs.
+// Scale N multiplies the numbers of random inputs; 1, the default, is the gate's size.
+
+mod functions;
+mod limit;
+mod logarithms;
+mod options;
+mod quantile;
+mod root;
+mod tally;
+
+use options::{Options, USAGE};
+use std::process::ExitCode;
+use tally::Totals;
+
+fn main() -> ExitCode {
+    let words: Vec<String> = std::env::args().skip(1).collect();
+    if words == ["--help"] {
+        println!("{USAGE}");
+        return ExitCode::SUCCESS;
+    }
+    let options = match Options::read(words.into_iter()) {
+        Ok(options) => options,
+        Err(message) => {
+            eprintln!("compare: {message}");
+            return ExitCode::from(2);
+        }
+    };
+    println!("compare: scale {}, seed {}", options.scale, options.seed);
+    let mut totals = Totals::default();
+    functions::compare(&options, &mut totals);
+    logarithms::compare(&mut totals);
+    root::compare(&options, &mut totals);
+    quantile::compare(&options, &mut totals);
+    limit::compare(&options, &mut totals);
+    println!(
+        "compare: {} results compared, {} differ",
+        totals.results, totals.differ
+    );
+    if totals.differ > 0 {
+        ExitCode::FAILURE
+    } else {
+        ExitCode::SUCCESS
+    }
+}

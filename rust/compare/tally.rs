@@ -1,0 +1,57 @@
+// Counts the results of a group of inputs and the differing ones, and shows the first of those.
+// A result is one answer, single or of two parts: it differs if any bit of it does.
+
+/// Differing inputs that a group shows.
+const SHOWN: u64 = 3;
+
+#[derive(Default)]
+pub struct Totals {
+    pub results: u64,
+    pub differ: u64,
+}
+
+pub struct Tally {
+    name: String,
+    results: u64,
+    differ: u64,
+}
+
+impl Tally {
+    pub fn new(name: impl Into<String>) -> Tally {
+        Tally {
+            name: name.into(),
+            results: 0,
+            differ: 0,
+        }
+    }
+
+    /// Takes a result of ours and the Rust's; the input is put in words only where it is shown.
+    pub fn take<const N: usize>(&mut self, sides: [[u64; N]; 2], input: impl Fn() -> String) {
+        self.results += 1;
+        let [ours, rust] = sides;
+        if ours == rust {
+            return;
+        }
+        self.differ += 1;
+        if self.differ <= SHOWN {
+            let (name, ours, rust) = (&self.name, hex(&ours), hex(&rust));
+            println!("  {name}: {} gives {ours}, in the Rust {rust}", input());
+        }
+    }
+
+    /// Prints the group's line and adds it to the totals.
+    pub fn close(self, totals: &mut Totals) {
+        println!(
+            "{:<40} {:>10} results, {} differ",
+            self.name, self.results, self.differ
+        );
+        totals.results += self.results;
+        totals.differ += self.differ;
+    }
+}
+
+/// Bit patterns as 16 hexadecimal digits each.
+pub fn hex(patterns: &[u64]) -> String {
+    let words: Vec<String> = patterns.iter().map(|bits| format!("{bits:016x}")).collect();
+    words.join(" ")
+}
