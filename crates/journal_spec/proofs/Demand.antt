@@ -1,0 +1,277 @@
+-- Demand 3, the theorem of the whole list: for every slice and every list of calls, the answers and the journal after them are the model's.
+-- The induction goes from any journal that holds what a model says, so that a list may start from a journal that was made otherwise.
+-- Assumes nothing.
+use mathlib.Core.Path.{_≡_, refl, sym, ap, ap₂, _∙_}
+use Prim.Native.Nat.{ℕ, zero, suc, _+_, _-_, _≤_, _<_, min, max}
+use mathlib.Core.List.{List, [], _∷_, _++_, append-assoc, append-nil}
+use native.Mathlib.Omega.{arith}
+use native.Mathlib.Nat.{add-zero}
+use lib.ListN.{length, take, drop, length-append, take-append-drop}
+use lib.Seq.{take-all, take-at, take-take, drop-drop, length-take-le}
+use lib.Dec.{eqb}
+use borrow.Author.Tests.{le-leb, lt-leb, eq-eqb, ne-eqb}
+use Rattle.journal_spec.specs.Bytes.{joined}
+use Rattle.journal_spec.specs.Record.{Record, IsDay, lastOf, recordReader, recordBytes, recordsBytes}
+use Rattle.journal_spec.specs.Scan.{maxLength, standing, contentsOf, statusOf, scanOf}
+use Rattle.journal_spec.specs.Read.{partOf, partPlace, readPart, markIn, readMark}
+use Rattle.journal_spec.specs.Append.{Offer, AppendResult, extended, Outcome, offered, written, unchanged, extend, settle, appendTo, appendUpto}
+use Rattle.journal_spec.specs.Append.{appendOf}
+use Rattle.journal_spec.specs.Calls.{operations, Call, callAppend, callAppendUpto, Journal, emptyIn, perform, journalOf, journalAfter}
+use Rattle.journal_spec.specs.Calls.{answersOf, reachOf}
+use Rattle.journal_spec.specs.Model.{Model, emptyModel, lengthsOf, committedOf, recordFor, Entry, enterRecord, enterUnless, enter, limitsGood}
+use Rattle.journal_spec.specs.Model.{modelRefusal, modelAfter, modelAnswers}
+use Rattle.journal_spec.specs.Demand.{modelScan, bytesAt, recordMark, Agrees, Demand3From, Demand3}
+use Rattle.journal_spec.proofs.Reading.{by-order, reads-cut}
+use Rattle.journal_spec.proofs.Limits.{formulaBits}
+use Rattle.journal_spec.proofs.Records.{Good, reads-record}
+use Rattle.journal_spec.proofs.Offers.{same-refusal, same-record, same-length}
+use Rattle.journal_spec.proofs.Ranged.{passed, accepted-exactly, good-record}
+use Rattle.journal_spec.proofs.Scanning.{Follow, Torn, follow-snoc, torn-none, records-snoc, placedFrom, recordsOf-placed, length-placed}
+use Rattle.journal_spec.proofs.Scanning.{contents-of}
+use Rattle.journal_spec.proofs.Placing.{written-length, written-take, written-drop, lengths-are, part-bytes, no-bytes, mark-placed, no-mark}
+
+-- ---- a journal that holds what a model says
+
+pub record Holds (room : ℕ) (j : Journal) (m : Model) : Type 0 where
+  pub slice : length (j .slice) ≡ room
+  pub len : j .len ≡ committedOf m + length (m .tail)
+  pub fits : j .len ≤ room
+  pub most : j .len ≤ maxLength
+  pub bytes : take (j .len) (j .slice) ≡ recordsBytes (m .records) ++ m .tail
+  pub follow : Follow [] (m .records)
+  pub torn : Torn (m .records) (m .tail)
+
+module _ (room : ℕ) (j : Journal) (m : Model) (h : Holds room j m) where
+  pub held : contentsOf (j .slice) (j .len) ≡ standing (placedFrom 0 (m .records)) (committedOf m)
+  unfolding committedOf
+  held =
+      contents-of (j .slice) (j .len) (m .records) (m .tail) (omega (arith, h .slice, h .fits)) (h .most) (h .bytes)
+      (h .len ∙ rw (lengths-are (m .records), length-append) refl) (h .follow) (h .torn)
+      ∙ rw (lengths-are (m .records)) refl
+
+  -- all of the length is committed exactly where the torn tail is empty
+  tail-test : eqb (committedOf m) (j .len) ≡ eqb (length (m .tail)) 0
+  tail-test = go (length (m .tail)) refl
+    where
+      go : (n : ℕ) → length (m .tail) ≡ n → eqb (committedOf m) (j .len) ≡ eqb (length (m .tail)) 0
+      go zero e = eq-eqb (committedOf m) (j .len) (omega (arith, h .len)) ∙ sym (eq-eqb (length (m .tail)) 0 e)
+      go (suc n) e = ne-eqb (committedOf m) (j .len) (λ x. omega (arith, h .len)) ∙ sym (ne-eqb (length (m .tail)) 0 (λ x. omega arith))
+
+  held-scan : scanOf (j .slice) (j .len) ≡ modelScan m
+  unfolding scanOf statusOf modelScan
+  held-scan = rw (held, length-placed, tail-test) refl
+
+  held-part : (i : ℕ) → readPart (j .slice) (j .len) i ≡ bytesAt (m .records) i
+  unfolding readPart partPlace partOf
+  held-part i =
+      rw held
+      (part-bytes (j .slice) 0 (m .records) (m .tail ++ drop (j .len) (j .slice))
+      (sym (take-append-drop (j .len) (j .slice)) ∙ rw (h .bytes, append-assoc) refl)
+      i)
+
+  pub held-mark : (i : ℕ) → readMark (j .slice) (j .len) i ≡ recordMark (m .records) i
+  unfolding readMark markIn
+  held-mark i = rw held (mark-placed 0 (m .records) i)
+
+  pub agrees : Agrees operations room j m
+  unfolding operations
+  agrees = record {
+    sliceLength = h .slice;
+    len = h .len;
+    bytes = h .bytes;
+    scan = held-scan;
+    shown = λ i below. held-part i;
+    others = λ i above. held-part i ∙ no-bytes (m .records) i above;
+    absent = λ i above. held-mark i ∙ no-mark (m .records) i above;
+  }
+
+-- ---- what is written after the committed length
+
+module _ (room : ℕ) (j : Journal) (m : Model) (h : Holds room j m) (new : List ℕ) (fits : committedOf m + length new ≤ min room maxLength) where
+  enough : committedOf m + length new ≤ length (j .slice)
+  enough = omega (arith, h .slice)
+
+  committed-part : take (committedOf m) (j .slice) ≡ recordsBytes (m .records)
+  unfolding committedOf
+  committed-part =
+      sym (take-take (committedOf m) (j .len) (j .slice) (omega (arith, h .len)))
+      ∙ ap (take (committedOf m)) (h .bytes)
+      ∙ take-at (recordsBytes (m .records)) (m .tail) (committedOf m) (sym (lengths-are (m .records)))
+
+  holds-new : (m′ : Model) → recordsBytes (m′ .records) ++ m′ .tail ≡ recordsBytes (m .records) ++ new
+      → Follow [] (m′ .records) → Torn (m′ .records) (m′ .tail)
+      → Holds room (record { slice = written (j .slice) (committedOf m) new; len = committedOf m + length new }) m′
+  unfolding committedOf
+  holds-new m′ e f t = record {
+    slice = written-length (j .slice) (committedOf m) new enough ∙ h .slice;
+    len =
+        rw (lengths-are (m .records), lengths-are (m′ .records))
+        (sym (length-append (recordsBytes (m .records)) new) ∙ ap length (sym e) ∙ length-append (recordsBytes (m′ .records)) (m′ .tail));
+    fits = omega arith;
+    most = omega arith;
+    bytes = written-take (j .slice) (committedOf m) new enough ∙ rw (committed-part, e) refl;
+    follow = f;
+    torn = t;
+  }
+
+-- ---- one call
+
+-- a call's outcome against the model's entry
+pub record Step (room : ℕ) (j : Journal) (out : Outcome) (entry : Entry) : Type 0 where
+  pub answer : out .answer ≡ entry .answer
+  pub holds : Holds room (journalOf out) (entry .model)
+  pub beyond : drop (out .len) (out .slice) ≡ drop (out .len) (j .slice)
+
+module _ (room : ℕ) (j : Journal) (m : Model) (h : Holds room j m) (o : Offer) (fits : IsDay (o .day)) (k : ℕ) where
+  abbrev bytes : List ℕ
+  bytes = recordBytes (recordFor o)
+
+  settled : appendUpto (j .slice) (j .len) o k
+      ≡ settle (modelRefusal room m o) (j .slice) (j .len) (committedOf m) (take k (recordBytes (offered o)))
+  unfolding appendUpto appendTo
+  settled = rw (held room j m h) (rw (recordsOf-placed 0 (m .records), h .slice, same-refusal room m o) refl)
+
+  step-declined : (n : ℕ) → modelRefusal room m o ≡ suc n
+      → Step room j (appendUpto (j .slice) (j .len) o k) (enterUnless (modelRefusal room m o) m (recordFor o) k)
+  unfolding enterUnless settle unchanged journalOf
+  step-declined n e = rw settled (rw e (record { answer = refl; holds = h; beyond = refl }))
+
+  module _ (e : modelRefusal room m o ≡ 0) where
+    -- the offer is the model's record, which nothing refuses, and there is room for it
+    good : Good (lastOf (m .records)) (recordFor o)
+    unfolding recordFor formulaBits limitsGood
+    good =
+        let p = passed room m o e in
+        let a = accepted-exactly room m o .0 e in
+        good-record (lastOf (m .records)) (recordFor o) refl (a .day) fits (p .name) (p .chances) (p .times) (p .limits) refl
+
+    same : recordBytes (offered o) ≡ bytes
+    same = let p = passed room m o e in ap recordBytes (same-record o (p .chances) (p .times) (p .limits))
+
+    room-for : committedOf m + length bytes ≤ min room maxLength
+    room-for = let a = accepted-exactly room m o .0 e in omega (arith, a .fitsSlice, a .fitsJournal)
+
+    -- the outcome where `new` is what is written, and the model's entry
+    step-written : (new : List ℕ) (m′ : Model) → take k bytes ≡ new → length new ≤ length bytes
+        → enterRecord m (recordFor o) k ≡ record { answer = extended (committedOf m + length new); model = m′ }
+        → recordsBytes (m′ .records) ++ m′ .tail ≡ recordsBytes (m .records) ++ new → Follow [] (m′ .records) → Torn (m′ .records) (m′ .tail)
+        → Step room j (appendUpto (j .slice) (j .len) o k) (enterUnless (modelRefusal room m o) m (recordFor o) k)
+    unfolding enterUnless settle extend journalOf
+    step-written new m′ t less entry b f torn =
+        let fit : committedOf m + length new ≤ min room maxLength = omega (arith, room-for) in
+        rw settled (rw (e, same, t, entry) (record {
+          answer = refl;
+          holds = holds-new room j m h new fit m′ b f torn;
+          beyond = written-drop (j .slice) (committedOf m) new (enough room j m h new fit);
+        }))
+
+    step-finished : length bytes ≤ k → Step room j (appendUpto (j .slice) (j .len) o k) (enterUnless (modelRefusal room m o) m (recordFor o) k)
+    unfolding enterRecord
+    step-finished all =
+        let m′ : Model = record { records = m .records ++ recordFor o ∷ []; tail = [] } in
+        step-written bytes m′ (take-all k bytes all) (omega arith) (rw (le-leb (length bytes) k all) refl)
+        (append-nil _ ∙ records-snoc (m .records) (recordFor o)) (follow-snoc [] (m .records) (recordFor o) (h .follow) good)
+        (torn-none (m′ .records))
+
+    step-cut : k < length bytes → Step room j (appendUpto (j .slice) (j .len) o k) (enterUnless (modelRefusal room m o) m (recordFor o) k)
+    unfolding enterRecord
+    step-cut less =
+        let n : length (take k bytes) ≡ k = length-take-le k bytes (omega arith) in
+        let m′ : Model = record { records = m .records; tail = take k bytes } in
+        step-written (take k bytes) m′ refl (omega (arith, n)) (rw (lt-leb (length bytes) k less, n) refl) refl (h .follow)
+        (record {
+          runsOut = λ at. reads-cut (recordReader (lastOf (m .records))) bytes (recordFor o)
+              (reads-record (lastOf (m .records)) (recordFor o) good) at k less;
+        })
+
+  step-upto : Step room j (appendUpto (j .slice) (j .len) o k) (enterUnless (modelRefusal room m o) m (recordFor o) k)
+  step-upto = byRefusal (modelRefusal room m o) refl
+    where
+      byRefusal : (n : ℕ) → modelRefusal room m o ≡ n → Step room j (appendUpto (j .slice) (j .len) o k) (enterUnless (modelRefusal room m o) m (recordFor o) k)
+      byRefusal zero e = by-order (length bytes) k (step-finished e) (step-cut e)
+      byRefusal (suc n) e = step-declined n e
+
+-- every call
+pub step : (room : ℕ) (j : Journal) (m : Model) → Holds room j m → (c : Call) → Step room j (perform operations j c) (enter room m c)
+unfolding perform operations enter appendOf
+step room j m h (callAppendUpto o fits k) = step-upto room j m h o fits k
+step room j m h (callAppend o fits) = rw (same-length o) (step-upto room j m h o fits (length (recordBytes (recordFor o))))
+
+-- ---- every list
+
+-- what holds after a list of calls that starts from a journal that holds what a model says
+pub record After (room : ℕ) (j : Journal) (m : Model) (cs : List Call) : Type 0 where
+  pub answers : answersOf operations j cs ≡ modelAnswers room m cs
+  pub holds : Holds room (journalAfter operations j cs) (modelAfter room m cs)
+  pub initial : drop (reachOf operations j cs) (journalAfter operations j cs .slice) ≡ drop (reachOf operations j cs) (j .slice)
+
+-- bytes that are the same from one place on are so from each later place on
+later-same : (a b : ℕ) (xs ys : List ℕ) → a ≤ b → drop a xs ≡ drop a ys → drop b xs ≡ drop b ys
+later-same a b xs ys h e =
+    let n : a + (b - a) ≡ b = omega arith in
+    ap (λ (k : ℕ). drop k xs) (sym n) ∙ sym (drop-drop (b - a) a xs) ∙ ap (drop (b - a)) e ∙ drop-drop (b - a) a ys ∙ ap (λ (k : ℕ). drop k ys) n
+
+-- the length after the calls is within their reach
+reach-least : (j : Journal) (cs : List Call) → j .len ≤ reachOf operations j cs
+unfolding reachOf
+reach-least j [] = omega arith
+reach-least j (c ∷ cs) = omega arith
+
+pub after-all : (room : ℕ) (j : Journal) (m : Model) → Holds room j m → (cs : List Call) → After room j m cs
+unfolding answersOf modelAnswers journalAfter modelAfter reachOf journalOf
+after-all room j m h [] = record { answers = refl; holds = h; initial = refl }
+after-all room j m h (c ∷ cs) =
+    let s = step room j m h c in
+    let out : Outcome = perform operations j c in
+    let a = after-all room (journalOf out) (enter room m c .model) (s .holds) cs in
+    let far : ℕ = reachOf operations (journalOf out) cs in
+    let near : out .len ≤ far = reach-least (journalOf out) cs in
+    record {
+      answers = ap₂ (λ (x : AppendResult) (xs : List AppendResult). x ∷ xs) (s .answer) (a .answers);
+      holds = a .holds;
+      initial =
+          later-same far (max (j .len) far) _ _ (omega arith) (a .initial)
+          ∙ later-same (out .len) (max (j .len) far) (out .slice) (j .slice) (omega arith) (s .beyond);
+    }
+
+-- demand 3 from any journal that holds what a model says
+pub demand3-from : (room : ℕ) (j : Journal) (m : Model) → Holds room j m → (cs : List Call) → Demand3From operations room j m cs
+demand3-from room j m h cs =
+    let a = after-all room j m h cs in
+    record {
+      answers = a .answers;
+      agrees = agrees room _ _ (a .holds);
+      beyond = λ c. step room _ _ (a .holds) c .beyond;
+      initial = a .initial;
+    }
+
+-- records end to end, each of which keeps the ranges, hold what the model of those records says
+pub holds-records : (slice : List ℕ) (len : ℕ) (rs : List Record) → len ≤ length slice → len ≤ maxLength
+    → take len slice ≡ recordsBytes rs → Follow [] rs → Holds (length slice) (record { slice = slice; len = len }) (record { records = rs; tail = [] })
+unfolding committedOf
+holds-records slice len rs fits most bytes f = record {
+  slice = refl;
+  len = sym (length-take-le len slice fits) ∙ ap length bytes ∙ sym (lengths-are rs) ∙ sym (add-zero (lengthsOf rs));
+  fits = fits;
+  most = most;
+  bytes = bytes ∙ sym (append-nil (recordsBytes rs));
+  follow = f;
+  torn = torn-none rs;
+}
+
+-- an empty journal holds what the empty model says
+pub start : (slice : List ℕ) → Holds (length slice) (emptyIn slice) emptyModel
+unfolding emptyIn emptyModel committedOf lengthsOf recordsBytes joined
+start slice = record {
+  slice = refl;
+  len = refl;
+  fits = omega arith;
+  most = omega arith;
+  bytes = refl;
+  follow = tt;
+  torn = torn-none [];
+}
+
+-- THE THEOREM: demand 3 holds of the journal's operations
+pub demand3 : Demand3 operations
+demand3 slice cs = demand3-from (length slice) (emptyIn slice) emptyModel (start slice) cs

@@ -1,0 +1,218 @@
+-- Worked examples, computed from the definitions: document 01's 33 bytes, cuts of them, faults at their places, marks, and declined offers.
+-- Assumes nothing.
+use mathlib.Core.Path.{_≡_, refl, sym, ap, _∙_}
+use Prim.Native.Nat.{ℕ, zero, suc, _≤_, _<_}
+use mathlib.Core.List.{List, [], _∷_, append-nil}
+use mathlib.Core.Bool.{true}
+use native.Mathlib.Omega.{arith}
+use lib.ListN.{length, take, getD, set, replicate}
+use lib.Ieee.{binary64, ofBits, toBits}
+use lib.Ieee.Scale.{finite}
+use Rattle.limit.specs.Times.{inRange}
+use Rattle.limit.specs.Limit.{chanceInRange}
+use Rattle.journal_spec.specs.Bytes.{bytesOf, valueOf, joined}
+use Rattle.journal_spec.specs.Refusals.{unless, outside, firstOf}
+use Rattle.journal_spec.specs.Reader.{run, then}
+use Rattle.journal_spec.specs.Section.{items, section, numberBytes, sectionBytes, itemsRefusal, sectionRefusal}
+use Rattle.journal_spec.specs.Record.{Record, lastOf, judgeForm, judgeDay, nameSection, lastChance, judgeChance, chanceSection, timeSection}
+use Rattle.journal_spec.specs.Record.{limitSection, recordReader, recordBytes, recordsBytes}
+use Rattle.journal_spec.specs.Scan.{recordsOf, contentsFrom, contentsOf, whole, torn, damaged, statusOf, scanOf}
+use Rattle.journal_spec.specs.Read.{flat, few, normal, letterOf, allEqual, areEqual, markOf}
+use Rattle.journal_spec.specs.Append.{Offer, declined, offerRefusal, appendRefusal, unchanged, settle, appendTo, appendUpto, appendOf}
+use Rattle.journal_spec.specs.Append as A
+use Rattle.journal_spec.specs.Model.{workedOut}
+use Rattle.journal_spec.specs.Ranges.{RecordRanges}
+use Rattle.journal_spec.proofs.EvenChance.{worked-hundred, worked-finite}
+use Rattle.journal_spec.proofs.Format.{whole-scan, torn-scan}
+
+-- ---- numbers
+
+pub little-endian : bytesOf 4 500_000 ≡ 0x20 ∷ 0xa1 ∷ 0x07 ∷ 0x00 ∷ []
+unfolding bytesOf
+little-endian = refl
+
+pub little-endian-value : valueOf (0x20 ∷ 0xa1 ∷ 0x07 ∷ 0x00 ∷ []) ≡ 500_000
+unfolding valueOf
+little-endian-value = refl
+
+-- ---- document 01's example
+
+-- name A, day 1, chance 500,000, times 100 and 100, limit 100
+unfoldable pub theRecord : Record
+theRecord = record {
+  form = 1;
+  day = 1;
+  name = 0x41 ∷ [];
+  chances = 500_000 ∷ [];
+  times = 100 ∷ 100 ∷ [];
+  limits = 0x4059_0000_0000_0000 ∷ [];
+}
+
+-- its 33 bytes as the paper has them
+unfoldable pub theBytes : List ℕ
+theBytes =
+    0x01 ∷ 0x00
+    ∷ 0x01 ∷ 0x00
+    ∷ 0x01 ∷ 0x00 ∷ 0x41
+    ∷ 0x01 ∷ 0x00 ∷ 0x20 ∷ 0xa1 ∷ 0x07 ∷ 0x00
+    ∷ 0x02 ∷ 0x00 ∷ 0x64 ∷ 0x00 ∷ 0x00 ∷ 0x00 ∷ 0x64 ∷ 0x00 ∷ 0x00 ∷ 0x00
+    ∷ 0x01 ∷ 0x00 ∷ 0x00 ∷ 0x00 ∷ 0x00 ∷ 0x00 ∷ 0x00 ∷ 0x00 ∷ 0x59 ∷ 0x40
+    ∷ []
+
+pub encoded : recordBytes theRecord ≡ theBytes
+unfolding theRecord theBytes recordBytes joined sectionBytes numberBytes bytesOf
+encoded = refl
+
+hundred-bits : toBits binary64 (ofBits binary64 0x4059_0000_0000_0000) ≡ 0x4059_0000_0000_0000
+unfolding ofBits toBits
+hundred-bits = refl
+
+keeps : RecordRanges (lastOf []) theRecord
+unfolding theRecord lastOf
+keeps = record {
+  form = refl;
+  day = omega arith;
+  dayFits = omega arith;
+  name = record { least = omega arith; most = omega arith; bytes = λ i k. letter i k };
+  chances = record { least = omega arith; most = omega arith; range = λ i k. chance i k; rising = λ i k. absurd (omega arith) };
+  times = record { least = omega arith; most = omega arith; range = λ i k. time i k };
+  limitCount = refl;
+  finite = λ i k. worked i k;
+  limits = λ i k. bits i k;
+}
+  where
+    letter : (i : ℕ) → i < 1 → (0x21 ≤ getD (0x41 ∷ []) i 0) × (getD (0x41 ∷ []) i 0 ≤ 0x7e)
+    letter zero k = (omega arith, omega arith)
+    letter (suc i) k = absurd (omega arith)
+
+    chance : (i : ℕ) → i < 1 → (1 ≤ getD (500_000 ∷ []) i 0) × (getD (500_000 ∷ []) i 0 ≤ 999_999)
+    chance zero k = (omega arith, omega arith)
+    chance (suc i) k = absurd (omega arith)
+
+    time : (i : ℕ) → i < 2 → (1 ≤ getD (100 ∷ 100 ∷ []) i 0) × (getD (100 ∷ 100 ∷ []) i 0 ≤ 1_048_575)
+    time zero k = (omega arith, omega arith)
+    time (suc zero) k = (omega arith, omega arith)
+    time (suc (suc i)) k = absurd (omega arith)
+
+    worked : (i : ℕ) → i < 1 → finite (workedOut (100 ∷ 100 ∷ []) (getD (500_000 ∷ []) i 0)) ≡ true
+    worked zero k = worked-finite
+    worked (suc i) k = absurd (omega arith)
+
+    bits : (i : ℕ) → i < 1
+        → getD (0x4059_0000_0000_0000 ∷ []) i 0 ≡ toBits binary64 (workedOut (100 ∷ 100 ∷ []) (getD (500_000 ∷ []) i 0))
+    bits zero k = sym (ap (toBits binary64) worked-hundred ∙ hundred-bits)
+    bits (suc i) k = absurd (omega arith)
+
+-- the example is whole, with one record and 33 bytes
+pub whole-example : scanOf theBytes 33 ≡ whole 1 33
+unfolding theBytes recordsBytes joined
+whole-example =
+    let all : recordsBytes (theRecord ∷ []) ≡ theBytes = append-nil (recordBytes theRecord) ∙ encoded in
+    whole-scan theBytes 33 (theRecord ∷ []) (keeps, tt) (omega arith) (omega arith) (sym all) ∙ rw all refl
+
+-- cut to 32 bytes it is torn, with none
+pub cut-example : scanOf theBytes 32 ≡ torn 0 0
+unfolding theBytes recordsBytes joined
+cut-example =
+    torn-scan theBytes 32 [] theRecord 32 tt keeps (omega arith) (rw encoded (omega arith)) (omega arith) (omega arith)
+    (ap (take 32) (sym encoded))
+
+-- the same, computed, where no limit stands
+pub cut-early : scanOf theBytes 25 ≡ torn 0 0
+unfolding theBytes scanOf statusOf contentsOf contentsFrom recordsOf lastOf recordReader run then section items valueOf
+    judgeForm judgeDay nameSection chanceSection judgeChance chanceInRange lastChance timeSection limitSection outside
+    unless inRange
+cut-early = refl
+
+pub empty-whole : scanOf theBytes 0 ≡ whole 0 0
+unfolding theBytes scanOf statusOf contentsOf contentsFrom
+empty-whole = refl
+
+-- ---- faults and their places
+
+abbrev fault-at : List ℕ → ℕ → ℕ → Type 0
+fault-at bytes number place = scanOf bytes (length bytes) ≡ damaged number place
+
+pub record Faults : Type 0 where
+  pub beyond : scanOf theBytes 34 ≡ damaged 1 0
+  pub form : fault-at (set theBytes 0 2) 2 0
+  pub nameCount : fault-at (set theBytes 4 0) 4 4
+  pub nameLong : fault-at (set theBytes 4 33) 4 4
+  pub nameByte : fault-at (set theBytes 6 0x20) 4 6
+  pub nameByteHigh : fault-at (set theBytes 6 0x7f) 4 6
+  pub chanceCount : fault-at (set theBytes 7 9) 5 7
+  pub chanceRange : fault-at (set theBytes 11 0x10) 5 9
+  pub timeCount : fault-at (set theBytes 13 1) 6 13
+  pub timeZero : fault-at (set theBytes 15 0) 6 15
+  pub secondTime : fault-at (set theBytes 21 0x10) 6 19
+  pub limitCount : fault-at (set theBytes 23 2) 7 23
+
+pub faults : Faults
+unfolding theBytes scanOf statusOf contentsOf contentsFrom recordsOf lastOf recordReader run then section items valueOf
+    judgeForm judgeDay nameSection chanceSection judgeChance chanceInRange lastChance timeSection limitSection outside
+    unless inRange
+faults = record {
+  beyond = refl;
+  form = refl;
+  nameCount = refl;
+  nameLong = refl;
+  nameByte = refl;
+  nameByteHigh = refl;
+  chanceCount = refl;
+  chanceRange = refl;
+  timeCount = refl;
+  timeZero = refl;
+  secondTime = refl;
+  limitCount = refl;
+}
+
+-- ---- declined offers
+
+-- an offer of which nothing is right, made better from the front
+abbrev offer : List ℕ → List ℕ → List ℕ → Offer
+offer name chances times = record { day = 1; name = name; chances = chances; times = times }
+
+abbrev declined-by : Offer → ℕ → Type 0
+declined-by o n = appendOf theBytes 0 o .answer ≡ declined n
+
+pub record Declined : Type 0 where
+  pub damage : appendOf (set theBytes 0 2) 33 (offer [] [] []) .answer ≡ A.damaged 2 0
+  pub name : declined-by (offer [] [] []) 4
+  pub chances : declined-by (offer (0x41 ∷ []) [] []) 5
+  pub falling : declined-by (offer (0x41 ∷ []) (2 ∷ 2 ∷ []) []) 5
+  pub times : declined-by (offer (0x41 ∷ []) (1 ∷ 2 ∷ []) []) 6
+
+pub declines : Declined
+unfolding theBytes appendOf appendUpto appendTo settle unchanged appendRefusal offerRefusal firstOf sectionRefusal
+    itemsRefusal contentsOf contentsFrom recordsOf lastOf recordReader run then section items valueOf judgeForm judgeDay
+    nameSection chanceSection judgeChance chanceInRange lastChance timeSection limitSection outside unless inRange
+declines = record {
+  damage = refl;
+  name = refl;
+  chances = refl;
+  falling = refl;
+  times = refl;
+}
+
+-- ---- marks
+
+pub record Marks : Type 0 where
+  pub equal : markOf (100 ∷ 100 ∷ []) ≡ flat
+  pub equalMany : markOf (replicate 9 100) ≡ flat
+  pub fewTimes : markOf (100 ∷ 100 ∷ 100 ∷ 100 ∷ 100 ∷ 100 ∷ 101 ∷ []) ≡ few
+  pub manyTimes : markOf (100 ∷ 100 ∷ 100 ∷ 100 ∷ 100 ∷ 100 ∷ 100 ∷ 101 ∷ []) ≡ normal
+  pub letterF : letterOf flat ≡ 0x46
+  pub letterS : letterOf few ≡ 0x53
+  pub letterN : letterOf normal ≡ 0x4e
+
+pub marks : Marks
+unfolding markOf areEqual allEqual letterOf
+marks = record {
+  equal = refl;
+  equalMany = refl;
+  fewTimes = refl;
+  manyTimes = refl;
+  letterF = refl;
+  letterS = refl;
+  letterN = refl;
+}

@@ -1,0 +1,38 @@
+-- The laws on the journal's definitions, one idea to a file, and the theorem of the whole list.
+-- `Format` has the format's laws by name, `Demand` the theorem, `Shown`, `Answers`, `TornOrWhole` and `ShutOut` what follows from it.
+
+-- numbers, refusals, readers, sections, records
+pub mod Numbers
+pub mod Judging
+pub mod Reading
+pub mod Sections
+pub mod Each
+pub mod Limits
+pub mod Records
+pub mod Offers
+pub mod Ranged
+-- scan and append
+pub mod Scanning
+pub mod Explained
+pub mod Independent
+pub mod Format
+pub mod Refused
+pub mod Table
+pub mod Placing
+-- demand 3
+pub mod Demand
+pub mod Shown
+pub mod Answers
+pub mod TornOrWhole
+mod NamedCalls
+pub mod ShutOut
+-- examples
+pub mod EvenChance
+pub mod Examples
+-- for the proofs of code
+pub mod NumberLoop
+pub mod FieldAt
+pub mod SectionAt
+pub mod RecordsLoop
+pub mod OfferLoop
+pub mod Writing

@@ -1,0 +1,168 @@
+-- Calls that need only one limit: day 1, the times 100 and 100, an even chance, and a name of n letters A, so that the record takes 32 + n bytes.
+-- What the model makes of lists of them. Assumes nothing.
+use mathlib.Core.Path.{_≡_, refl, ap, _∙_}
+use Prim.Native.Nat.{ℕ, zero, suc, _+_, _≤_, _<_}
+use mathlib.Core.List.{List, [], _∷_, _++_, map, append-nil}
+use mathlib.Core.Bool.{true}
+use native.Mathlib.Omega.{arith}
+use native.Mathlib.Nat.{zero-add}
+use lib.ListN.{length, take, getD, replicate, length-replicate, getD-replicate}
+use lib.Seq.{append-snoc}
+use lib.Ieee.Scale.{finite}
+use borrow.Author.Tests.{le-leb, lt-leb, lt-ltb}
+use Rattle.journal_spec.specs.Refusals.{roomRefusal}
+use Rattle.journal_spec.specs.Record.{Record, IsDay, lastOf, recordBytes}
+use Rattle.journal_spec.specs.Scan.{maxLength}
+use Rattle.journal_spec.specs.Append.{Offer, extended, declined}
+use Rattle.journal_spec.specs.Calls.{Call, callAppend, callAppendUpto}
+use Rattle.journal_spec.specs.Model.{Model, emptyModel, lengthsOf, committedOf, workedOut, recordFor, Entry, enterRecord, enterUnless, enter}
+use Rattle.journal_spec.specs.Model.{noRoom, modelRefusal, modelAfter}
+use Rattle.journal_spec.specs.Ranges.{Accepted}
+use Rattle.journal_spec.proofs.EvenChance.{worked-finite}
+use Rattle.journal_spec.proofs.Records.{length-record}
+use Rattle.journal_spec.proofs.Ranged.{passed, accepted-exactly}
+use Rattle.journal_spec.proofs.Placing.{lengths-snoc, lastOf-snoc}
+
+-- day 1, times 100 and 100, an even chance
+unfoldable pub named : ℕ → Offer
+named n = record { day = 1; name = replicate n 0x41; chances = 500_000 ∷ []; times = 100 ∷ 100 ∷ [] }
+
+pub named-day : (n : ℕ) → IsDay (named n .day)
+unfolding named
+named-day n = omega arith
+
+-- append of such an offer, and the call with the budget k
+unfoldable pub appendNamed : ℕ → Call
+appendNamed n = callAppend (named n) (named-day n)
+
+unfoldable pub appendNamedUpto : ℕ → ℕ → Call
+appendNamedUpto n k = callAppendUpto (named n) (named-day n) k
+
+-- its record takes 32 + n bytes
+pub named-length : (n : ℕ) → length (recordBytes (recordFor (named n))) ≡ 32 + n
+unfolding recordFor named
+named-length n = length-record (recordFor (named n)) ∙ rw (length-replicate {A = ℕ} n 0x41) (omega arith)
+
+-- the bytes that records with names of these lengths take
+unfoldable pub sizes : List ℕ → ℕ
+sizes [] = 0
+sizes (n ∷ ns) = 32 + n + sizes ns
+
+-- their records
+unfoldable pub namedRecords : List ℕ → List Record
+namedRecords ns = map (λ (n : ℕ). recordFor (named n)) ns
+
+-- each is the length of a name
+abbrev pub Names : List ℕ → Type 0
+Names [] = Unit {0}
+Names (n ∷ ns) = (1 ≤ n) × (n ≤ 32) × Names ns
+
+pub lengths-named : (ns : List ℕ) → lengthsOf (namedRecords ns) ≡ sizes ns
+unfolding namedRecords lengthsOf sizes
+lengths-named [] = refl
+lengths-named (n ∷ ns) = rw (named-length n, lengths-named ns) refl
+
+-- a list of finished appends
+abbrev pub appends : List ℕ → List Call
+appends ns = map appendNamed ns
+
+-- a model takes such an offer where its last day is not later than 1 and there is room
+accepts : (room : ℕ) (m : Model) (n : ℕ) → lastOf (m .records) .day ≤ 1 → 1 ≤ n → n ≤ 32
+    → committedOf m + (32 + n) ≤ room → committedOf m + (32 + n) ≤ maxLength → Accepted room m (named n)
+unfolding named
+accepts room m n day least most fits fits′ = record {
+  day = day;
+  name = record {
+    least = rw (length-replicate {A = ℕ} n 0x41) least;
+    most = rw (length-replicate {A = ℕ} n 0x41) most;
+    bytes = λ i k. rw (getD-replicate {A = ℕ} n i 0x41 0 (rw (length-replicate {A = ℕ} n 0x41) at k)) (omega arith, omega arith);
+  };
+  chances = record {
+    least = omega arith;
+    most = omega arith;
+    range = λ i k. one-chance i k;
+    rising = λ i k. absurd (omega arith);
+  };
+  times = record {
+    least = omega arith;
+    most = omega arith;
+    range = λ i k. two-times i k;
+  };
+  limits = λ i k. one-limit i k;
+  fitsSlice = rw (named-length n) fits;
+  fitsJournal = rw (named-length n) fits′;
+}
+  where
+    one-chance : (i : ℕ) → i < 1 → (1 ≤ getD (500_000 ∷ []) i 0) × (getD (500_000 ∷ []) i 0 ≤ 999_999)
+    one-chance zero k = (omega arith, omega arith)
+    one-chance (suc i) k = absurd (omega arith)
+
+    two-times : (i : ℕ) → i < 2 → (1 ≤ getD (100 ∷ 100 ∷ []) i 0) × (getD (100 ∷ 100 ∷ []) i 0 ≤ 1_048_575)
+    two-times zero k = (omega arith, omega arith)
+    two-times (suc zero) k = (omega arith, omega arith)
+    two-times (suc (suc i)) k = absurd (omega arith)
+
+    one-limit : (i : ℕ) → i < 1 → finite (workedOut (100 ∷ 100 ∷ []) (getD (500_000 ∷ []) i 0)) ≡ true
+    one-limit zero k = worked-finite
+    one-limit (suc i) k = absurd (omega arith)
+
+-- a model whose last day is not later than 1
+pub record Early (room : ℕ) (m : Model) (ns : List ℕ) : Type 0 where
+  pub day : lastOf (m .records) .day ≤ 1
+  pub names : Names ns
+  pub fits : committedOf m + sizes ns ≤ room
+  pub most : committedOf m + sizes ns ≤ maxLength
+
+entered : (room : ℕ) (m : Model) (n k : ℕ) → lastOf (m .records) .day ≤ 1 → 1 ≤ n → n ≤ 32
+    → committedOf m + (32 + n) ≤ room → committedOf m + (32 + n) ≤ maxLength
+    → enterUnless (modelRefusal room m (named n)) m (recordFor (named n)) k ≡ enterRecord m (recordFor (named n)) k
+unfolding enterUnless
+entered room m n k day least most fits fits′ = rw (accepted-exactly room m (named n) .1 (accepts room m n day least most fits fits′)) refl
+
+pub finished : (room : ℕ) (m : Model) (n : ℕ) → lastOf (m .records) .day ≤ 1 → 1 ≤ n → n ≤ 32
+    → committedOf m + (32 + n) ≤ room → committedOf m + (32 + n) ≤ maxLength
+    → enter room m (appendNamed n)
+    ≡ record { answer = extended (committedOf m + (32 + n)); model = record { records = m .records ++ recordFor (named n) ∷ []; tail = [] } }
+unfolding enter appendNamed enterRecord
+finished room m n day least most fits fits′ =
+    entered room m n (length (recordBytes (recordFor (named n)))) day least most fits fits′
+    ∙ rw (le-leb (length (recordBytes (recordFor (named n)))) (length (recordBytes (recordFor (named n)))) (omega arith), named-length n) refl
+
+-- after finished appends the model holds their records
+pub after-appends : (room : ℕ) (rs : List Record) (ns : List ℕ) → Early room (record { records = rs; tail = [] }) ns
+    → modelAfter room (record { records = rs; tail = [] }) (appends ns) ≡ record { records = rs ++ namedRecords ns; tail = [] }
+unfolding modelAfter namedRecords sizes committedOf
+after-appends room rs [] h = rw append-nil refl
+after-appends room rs (n ∷ ns) h =
+    let m : Model = record { records = rs; tail = [] } in
+    let r : Record = recordFor (named n) in
+    let e = finished room m n (h .day) (h .names .0) (h .names .1) (omega (arith, h .fits)) (omega (arith, h .most)) in
+    let day : lastOf (rs ++ r ∷ []) .day ≤ 1 = rw (lastOf-snoc rs r) (unfold recordFor named in omega arith) in
+    let size : lengthsOf (rs ++ r ∷ []) ≡ lengthsOf rs + (32 + n) = lengths-snoc rs r ∙ rw (named-length n) refl in
+    ap (λ (x : Entry). modelAfter room (x .model) (appends ns)) e
+    ∙ after-appends room (rs ++ r ∷ []) ns
+    (record { day = day; names = h .names .2; fits = omega (arith, size, h .fits); most = omega (arith, size, h .most) })
+    ∙ rw append-snoc refl
+
+-- a record that is cut after k bytes
+pub cut-short : (room : ℕ) (n k : ℕ) → 1 ≤ n → n ≤ 32 → k < 32 + n → 32 + n ≤ room
+    → enter room emptyModel (appendNamedUpto n k)
+    ≡ record { answer = extended k; model = record { records = []; tail = take k (recordBytes (recordFor (named n))) } }
+unfolding enter appendNamedUpto enterRecord emptyModel committedOf lengthsOf lastOf
+cut-short room n k least most less fits =
+    entered room emptyModel n k (omega arith) least most (omega arith) (omega arith)
+    ∙ rw (named-length n, lt-leb (32 + n) k less, zero-add k) refl
+
+-- no room is the refusal where nothing else is refused
+pub full : (room : ℕ) (m : Model) (n : ℕ) → lastOf (m .records) .day ≤ 1 → 1 ≤ n → n ≤ 32 → committedOf m + (32 + n) ≤ maxLength
+    → room < committedOf m + (32 + n) → modelRefusal room m (named n) ≡ roomRefusal
+unfolding modelRefusal noRoom
+full room m n day least most fits less =
+    let big : ℕ = committedOf m + (32 + n) in
+    let p = passed big m (named n) (accepted-exactly big m (named n) .1 (accepts big m n day least most (omega arith) fits)) in
+    rw (p .day, p .name, p .chances, p .times, p .limits, named-length n, lt-ltb room (committedOf m + (32 + n)) less) refl
+
+-- what the model answers then
+pub turned-away : (room : ℕ) (m : Model) (n : ℕ) → modelRefusal room m (named n) ≡ roomRefusal → enter room m (appendNamed n) .answer ≡ declined roomRefusal
+unfolding enter appendNamed enterUnless
+turned-away room m n e = rw e refl

@@ -1,0 +1,44 @@
+-- For code that judges and writes an offered list of numbers from the front: one number more, and the end of the list.
+-- Assumes nothing.
+use mathlib.Core.Path.{_≡_, refl, _∙_}
+use Prim.Native.Nat.{ℕ, zero, suc, _≤_, _<_}
+use mathlib.Core.List.{List, [], _∷_, _++_}
+use lib.ListN.{length, take, drop, getD, drop-of-length-le}
+use lib.Seq.{take-suc, drop-cons}
+use Rattle.journal_spec.specs.Bytes.{bytesOf}
+use Rattle.journal_spec.specs.Refusals.{firstOf}
+use Rattle.journal_spec.specs.Section.{numberBytes, itemsRefusal, refusalFrom}
+
+module _ (refusal : List ℕ → ℕ → ℕ) (xs : List ℕ) (i : ℕ) where
+  judged : i < length xs
+      → refusalFrom refusal xs i ≡ firstOf (refusal (take i xs) (getD xs i 0) ∷ refusalFrom refusal xs (suc i) ∷ [])
+  unfolding refusalFrom itemsRefusal
+  judged h = rw (drop-cons xs i 0 h, take-suc xs i 0 h) refl
+
+  -- the i-th number is refused
+  pub refuse-this : (n : ℕ) → i < length xs → refusal (take i xs) (getD xs i 0) ≡ suc n → refusalFrom refusal xs i ≡ suc n
+  unfolding firstOf
+  refuse-this n h e = judged h ∙ rw e refl
+
+  -- it is not, and the next ones decide
+  pub refuse-later : i < length xs → refusal (take i xs) (getD xs i 0) ≡ 0 → refusalFrom refusal xs i ≡ refusalFrom refusal xs (suc i)
+  refuse-later h e = judged h ∙ alone (refusal (take i xs) (getD xs i 0)) (refusalFrom refusal xs (suc i)) e
+    where
+      alone : (a b : ℕ) → a ≡ 0 → firstOf (a ∷ b ∷ []) ≡ b
+      alone a zero e = unfold firstOf in rw e refl
+      alone a (suc b) e = unfold firstOf in rw e refl
+
+  -- there is none left
+  pub refuse-none : length xs ≤ i → refusalFrom refusal xs i ≡ 0
+  unfolding refusalFrom itemsRefusal
+  refuse-none h = rw (drop-of-length-le xs {i = i} h) refl
+
+-- the bytes of the numbers from the i-th on
+pub numbers-next : (w : ℕ) (xs : List ℕ) (i : ℕ) → i < length xs
+    → numberBytes w (drop i xs) ≡ bytesOf w (getD xs i 0) ++ numberBytes w (drop (suc i) xs)
+unfolding numberBytes
+numbers-next w xs i h = rw (drop-cons xs i 0 h) refl
+
+pub numbers-end : (w : ℕ) (xs : List ℕ) (i : ℕ) → length xs ≤ i → numberBytes w (drop i xs) ≡ []
+unfolding numberBytes
+numbers-end w xs i h = rw (drop-of-length-le xs {i = i} h) refl

@@ -1,0 +1,178 @@
+-- Append's refusals of an offer are the model's, number for number, for every offer, whatever it holds.
+-- Assumes nothing.
+use mathlib.Core.Path.{_≡_, refl, sym, ap, _∙_}
+use Prim.Native.Nat.{ℕ, suc, _+_, min}
+use mathlib.Core.List.{List, [], _∷_, _++_}
+use mathlib.Core.Bool.{Bool, true, false, cond, not, _&&_, _||_}
+use native.Mathlib.Omega.{arith}
+use lib.ListN.{length, length-map}
+use lib.Dec.{leb, ltb}
+use borrow.Author.Tests.{le-leb, lt-leb, lt-ltb, le-ltb}
+use Rattle.limit.specs.Times.{minTicks, maxTicks, minCount, maxCount, inRange}
+use Rattle.limit.specs.Answer.{chanceRefusal, timesRefusal, finiteRefusal}
+use Rattle.limit.specs.Limit.{minChance, maxChance, chanceInRange}
+use Rattle.limit.proofs.InRange as R
+use Rattle.journal_spec.specs.Refusals.{dayRefusal, nameRefusal, roomRefusal, unless, outside, firstOf}
+use Rattle.journal_spec.specs.Section.{itemsRefusal, sectionRefusal}
+use Rattle.journal_spec.specs.Record.{lastOf, judgeDay, lastChance, judgeChance, nameSection, chanceSection, timeSection, minName, maxName}
+use Rattle.journal_spec.specs.Record.{minByte, maxByte, minChances, maxChances, recordBytes}
+use Rattle.journal_spec.specs.Scan.{maxLength}
+use Rattle.journal_spec.specs.Append.{Offer, offered, limitsOf, limitsRefusal, judgeRoom, offerRefusal, appendRefusal}
+use Rattle.journal_spec.specs.Model.{Model, committedOf, recordFor, each, risingFrom, rising, dayFalls, nameGood, chancesGood, timesGood}
+use Rattle.journal_spec.specs.Model.{limitsGood, noRoom, modelRefusal}
+use Rattle.journal_spec.proofs.Judging.{first-of-two}
+use Rattle.journal_spec.proofs.Reading.{by-order}
+use Rattle.journal_spec.proofs.Limits.{formulaBits, times-good, limits-refused, limits-are}
+use Rattle.journal_spec.proofs.Records.{length-record}
+
+-- ---- the sections, as tests of the whole list
+
+pub items-outside : (low high n : ℕ) (before xs : List ℕ)
+    → itemsRefusal (λ b. outside low high (suc n)) before xs ≡ unless (each (inRange low high) xs) (suc n)
+unfolding itemsRefusal each outside unless
+items-outside low high n before [] = refl
+items-outside low high n before (x ∷ xs) =
+    rw (items-outside low high n (before ++ x ∷ []) xs) (first-of-two (inRange low high x) (each (inRange low high) xs) n)
+
+pub name-refused : (xs : List ℕ) → sectionRefusal nameSection xs ≡ unless (nameGood xs) nameRefusal
+unfolding sectionRefusal nameSection nameGood
+name-refused xs =
+    rw (items-outside minByte maxByte 3 [] xs)
+    (unfold outside in first-of-two (inRange minName maxName (length xs)) (each (inRange minByte maxByte) xs) 3)
+
+pub time-refused : (xs : List ℕ) → sectionRefusal timeSection xs ≡ unless (timesGood xs) timesRefusal
+unfolding sectionRefusal timeSection timesGood
+time-refused xs =
+    rw (items-outside minTicks maxTicks 5 [] xs)
+    (unfold outside in first-of-two (inRange minCount maxCount (length xs)) (each (inRange minTicks maxTicks) xs) 5)
+
+-- ---- chances
+
+pub last-snoc : (xs : List ℕ) (x : ℕ) → lastChance (xs ++ x ∷ []) ≡ x
+unfolding lastChance
+last-snoc [] x = refl
+last-snoc (y ∷ []) x = refl
+last-snoc (y ∷ z ∷ xs) x = last-snoc (z ∷ xs) x
+
+-- a first test of each of two pairs, then a second
+pairwise : (a b c d : Bool) → (a && b) && (c && d) ≡ (a && c) && (b && d)
+pairwise true true c d = refl
+pairwise true false true d = refl
+pairwise true false false d = refl
+pairwise false b c d = refl
+
+items-chance : (before xs : List ℕ)
+    → itemsRefusal judgeChance before xs ≡ unless (each (inRange minChance maxChance) xs && risingFrom (lastChance before) xs) chanceRefusal
+unfolding itemsRefusal each risingFrom judgeChance chanceInRange unless
+items-chance before [] = refl
+items-chance before (x ∷ xs) =
+    let t : Bool = inRange minChance maxChance x in
+    let l : Bool = ltb (lastChance before) x in
+    let ts : Bool = each (inRange minChance maxChance) xs in
+    let ls : Bool = risingFrom x xs in
+    let ih : itemsRefusal judgeChance (before ++ x ∷ []) xs ≡ unless (ts && ls) chanceRefusal =
+    items-chance (before ++ x ∷ []) xs
+    ∙ ap (λ (y : ℕ). unless (each (inRange minChance maxChance) xs && risingFrom y xs) chanceRefusal) (last-snoc before x) in
+    ap (λ (n : ℕ). firstOf (unless (t && l) chanceRefusal ∷ n ∷ [])) ih
+    ∙ first-of-two (t && l) (ts && ls) 4
+    ∙ ap (λ (b : Bool). unless b chanceRefusal) (pairwise t l ts ls)
+
+-- chances in range rise from 0
+rises : (xs : List ℕ) → each (inRange minChance maxChance) xs && risingFrom 0 xs ≡ each (inRange minChance maxChance) xs && rising xs
+unfolding each risingFrom rising
+rises [] = refl
+rises (x ∷ xs) = go (inRange minChance maxChance x) refl
+  where
+    go : (b : Bool) → inRange minChance maxChance x ≡ b
+        → (inRange minChance maxChance x && each (inRange minChance maxChance) xs) && (ltb 0 x && risingFrom x xs)
+        ≡ (inRange minChance maxChance x && each (inRange minChance maxChance) xs) && risingFrom x xs
+    go true e = rw (lt-ltb 0 x (R.at-least minChance maxChance x e)) refl
+    go false e = rw e refl
+
+and-assoc : (a b c : Bool) → a && (b && c) ≡ (a && b) && c
+and-assoc true b c = refl
+and-assoc false b c = refl
+
+pub chance-refused : (xs : List ℕ) → sectionRefusal chanceSection xs ≡ unless (chancesGood xs) chanceRefusal
+unfolding sectionRefusal chanceSection chancesGood lastChance
+chance-refused xs =
+    rw (items-chance [] xs, rises xs)
+    (unfold outside in
+    first-of-two (inRange minChances maxChances (length xs)) (each (inRange minChance maxChance) xs && rising xs) 4
+    ∙ ap (λ (b : Bool). unless b chanceRefusal)
+    (and-assoc (inRange minChances maxChances (length xs)) (each (inRange minChance maxChance) xs) (rising xs)))
+
+-- ---- day and room
+
+not-below : (a b : ℕ) → leb a b ≡ not (ltb b a)
+not-below a b = by-order a b (λ h. le-leb a b h ∙ sym (ap not (le-ltb b a h))) (λ h. lt-leb a b h ∙ sym (ap not (lt-ltb b a h)))
+
+fits-both : (a r m : ℕ) → leb a (min r m) ≡ not (ltb r a || ltb m a)
+fits-both a r m =
+    by-order a r
+    (λ h.
+    by-order a m
+    (λ k. le-leb a (min r m) (omega arith) ∙ rw (le-ltb r a h, le-ltb m a k) refl)
+    (λ k. lt-leb a (min r m) (omega arith) ∙ rw (le-ltb r a h, lt-ltb m a k) refl))
+    (λ h. lt-leb a (min r m) (omega arith) ∙ rw (lt-ltb r a h) refl)
+
+-- ---- all refusals, in order
+
+-- both lists of refusals, by the tests' values: the limits are judged only where chances and times are good
+in-order : (d n c t l r : Bool) (limits : ℕ) → (c ≡ true → t ≡ true → limits ≡ unless l finiteRefusal)
+    → firstOf
+    (firstOf (unless (not d) dayRefusal ∷ unless n nameRefusal ∷ unless c chanceRefusal ∷ unless t timesRefusal ∷ limits ∷ [])
+    ∷ unless (not r) roomRefusal
+    ∷ [])
+    ≡ cond d dayRefusal
+    (cond (not n) nameRefusal
+    (cond (not c) chanceRefusal
+    (cond (not t) timesRefusal
+    (cond (not l) finiteRefusal
+    (cond r roomRefusal
+    0)))))
+unfolding unless firstOf
+in-order true n c t l r limits h = refl
+in-order false false c t l r limits h = refl
+in-order false true false t l r limits h = refl
+in-order false true true false l r limits h = refl
+in-order false true true true false r limits h = rw (h refl refl) refl
+in-order false true true true true true limits h = rw (h refl refl) refl
+in-order false true true true true false limits h = rw (h refl refl) refl
+
+-- what good chances say of each
+pub chances-each : (xs : List ℕ) → chancesGood xs ≡ true → each (inRange minChance maxChance) xs ≡ true
+unfolding chancesGood
+chances-each xs h =
+    R.second-of (inRange minChances maxChances (length xs)) (each (inRange minChance maxChance) xs)
+    (R.first-of (inRange minChances maxChances (length xs) && each (inRange minChance maxChance) xs) (rising xs) h)
+
+-- the record that append writes and the model's are of one length
+pub same-length : (o : Offer) → length (recordBytes (offered o)) ≡ length (recordBytes (recordFor o))
+unfolding offered recordFor limitsOf
+same-length o = length-record (offered o) ∙ rw (length-map, length-map) refl ∙ sym (length-record (recordFor o))
+
+pub same-refusal : (room : ℕ) (m : Model) (o : Offer)
+    → appendRefusal room (lastOf (m .records)) (committedOf m) o ≡ modelRefusal room m o
+unfolding appendRefusal offerRefusal modelRefusal judgeDay judgeRoom dayFalls noRoom limitsGood
+same-refusal room m o =
+    let size : ℕ = committedOf m + length (recordBytes (recordFor o)) in
+    rw (
+      not-below (lastOf (m .records) .day) (o .day),
+      name-refused (o .name),
+      chance-refused (o .chances),
+      time-refused (o .times),
+      same-length o,
+      fits-both size room maxLength,
+    )
+    (in-order (ltb (o .day) (lastOf (m .records) .day)) (nameGood (o .name)) (chancesGood (o .chances)) (timesGood (o .times))
+    (unfold limitsGood in limitsGood o) (ltb room size || ltb maxLength size) (limitsRefusal (o .times) (o .chances))
+    (λ c t. limits-refused (o .times) (sym (times-good (o .times)) ∙ t) (o .chances) (chances-each (o .chances) c)))
+
+-- an offer that is not declined is the model's record
+pub same-record : (o : Offer) → chancesGood (o .chances) ≡ true → timesGood (o .times) ≡ true → limitsGood o ≡ true → offered o ≡ recordFor o
+unfolding offered recordFor limitsGood formulaBits
+same-record o c t l =
+    let e : limitsOf (o .times) (o .chances) ≡ formulaBits (o .times) (o .chances) =
+    limits-are (o .times) (sym (times-good (o .times)) ∙ t) (o .chances) (chances-each (o .chances) c) l in
+    rw e refl

@@ -1,0 +1,239 @@
+-- The model's tests pass exactly where document 01's ranges hold, and a record that nothing refuses is exactly one that keeps them.
+-- Assumes nothing.
+use mathlib.Core.Path.{_≡_, refl, sym, ap, ap₂, _∙_}
+use mathlib.Core.Logic.{_↔_}
+use Prim.Native.Nat.{ℕ, zero, suc, _+_, _≤_, _<_}
+use mathlib.Core.List.{List, [], _∷_, map}
+use mathlib.Core.Bool.{Bool, true, false, cond, not, _&&_, _||_}
+use native.Mathlib.Omega.{arith}
+use lib.ListN.{length, getD, length-map}
+use lib.Dec.{leb, ltb, eqb}
+use lib.Ieee.{binary64, toBits}
+use lib.Ieee.Scale.{finite}
+use borrow.Author.Tests.{le-leb, leb-true, le-ltb, ltb-false, eq-eqb}
+use Rattle.limit.specs.Times.{minTicks, maxTicks, minCount, maxCount, inRange}
+use Rattle.limit.specs.Answer.{chanceRefusal, timesRefusal, finiteRefusal}
+use Rattle.limit.specs.Limit.{minChance, maxChance}
+use Rattle.limit.proofs.InRange as R
+use Rattle.journal_spec.specs.Refusals.{dayRefusal, nameRefusal, roomRefusal, limitRefusal, firstOf}
+use Rattle.journal_spec.specs.Section.{sectionRefusal}
+use Rattle.journal_spec.specs.Record.{Record, Last, IsDay, lastOf, theForm, judgeForm, judgeDay, limitSection, minName, maxName, minByte}
+use Rattle.journal_spec.specs.Record.{maxByte, minChances, maxChances, recordBytes}
+use Rattle.journal_spec.specs.Scan.{maxLength}
+use Rattle.journal_spec.specs.Append.{Offer}
+use Rattle.journal_spec.specs.Model.{Model, committedOf, workedOut, recordFor, each, rising, dayFalls, nameGood, chancesGood, timesGood}
+use Rattle.journal_spec.specs.Model.{limitsGood, noRoom, modelRefusal}
+use Rattle.journal_spec.specs.Ranges.{NameRanges, ChanceRanges, TimeRanges, FiniteLimits, Accepted, RecordRanges}
+use Rattle.journal_spec.proofs.Judging.{unless-none, unless-true, first-none, none-first}
+use Rattle.journal_spec.proofs.Each.{each-holds, holds-each, each-range, range-each, rising-holds, holds-rising}
+use Rattle.journal_spec.proofs.Limits.{formulaBits, allFinite, times-good, limits-good, limits-exact}
+use Rattle.journal_spec.proofs.Records.{Good, limit-count, form-one}
+use Rattle.journal_spec.proofs.Offers.{name-refused, chance-refused, time-refused, chances-each}
+
+-- ---- the sections
+
+pub name-ranged : (xs : List ℕ) → (nameGood xs ≡ true) ↔ NameRanges xs
+unfolding nameGood
+name-ranged xs = (
+  λ h.
+      let n = R.first-of (inRange minName maxName (length xs)) (each (inRange minByte maxByte) xs) h in
+      let b = R.second-of (inRange minName maxName (length xs)) (each (inRange minByte maxByte) xs) h in
+      record {
+        least = R.at-least minName maxName (length xs) n;
+        most = R.at-most minName maxName (length xs) n;
+        bytes = each-range minByte maxByte xs b;
+      },
+  λ g. R.both (R.inside minName maxName (length xs) (g .least) (g .most)) (range-each minByte maxByte xs (g .bytes)),
+)
+
+pub chance-ranged : (xs : List ℕ) → (chancesGood xs ≡ true) ↔ ChanceRanges xs
+unfolding chancesGood
+chance-ranged xs = (
+  λ h.
+      let both = R.first-of (inRange minChances maxChances (length xs) && each (inRange minChance maxChance) xs) (rising xs) h in
+      let n = R.first-of (inRange minChances maxChances (length xs)) (each (inRange minChance maxChance) xs) both in
+      record {
+        least = R.at-least minChances maxChances (length xs) n;
+        most = R.at-most minChances maxChances (length xs) n;
+        range = each-range minChance maxChance xs (R.second-of (inRange minChances maxChances (length xs)) _ both);
+        rising = rising-holds xs (R.second-of (inRange minChances maxChances (length xs) && each (inRange minChance maxChance) xs) _ h);
+      },
+  λ g.
+      R.both (R.both (R.inside minChances maxChances (length xs) (g .least) (g .most)) (range-each minChance maxChance xs (g .range)))
+      (holds-rising xs (g .rising)),
+)
+
+pub time-ranged : (xs : List ℕ) → (timesGood xs ≡ true) ↔ TimeRanges xs
+unfolding timesGood
+time-ranged xs = (
+  λ h.
+      let n = R.first-of (inRange minCount maxCount (length xs)) (each (inRange minTicks maxTicks) xs) h in
+      let b = R.second-of (inRange minCount maxCount (length xs)) (each (inRange minTicks maxTicks) xs) h in
+      record {
+        least = R.at-least minCount maxCount (length xs) n;
+        most = R.at-most minCount maxCount (length xs) n;
+        range = each-range minTicks maxTicks xs b;
+      },
+  λ g. R.both (R.inside minCount maxCount (length xs) (g .least) (g .most)) (range-each minTicks maxTicks xs (g .range)),
+)
+
+pub finite-ranged : (times chances : List ℕ) → (allFinite times chances ≡ true) ↔ FiniteLimits times chances
+finite-ranged times chances = (
+  each-holds (λ (c : ℕ). finite (workedOut times c)) chances,
+  holds-each (λ (c : ℕ). finite (workedOut times c)) chances,
+)
+
+-- ---- an offer
+
+-- what each test of the model says where none declines
+pub record Passed (room : ℕ) (m : Model) (o : Offer) : Type 0 where
+  pub day : dayFalls m o ≡ false
+  pub name : nameGood (o .name) ≡ true
+  pub chances : chancesGood (o .chances) ≡ true
+  pub times : timesGood (o .times) ≡ true
+  pub limits : limitsGood o ≡ true
+  pub room′ : noRoom room m o ≡ false
+
+none-of : (d n c t l r : Bool)
+    → cond d dayRefusal
+    (cond (not n) nameRefusal
+    (cond (not c) chanceRefusal
+    (cond (not t) timesRefusal
+    (cond (not l) finiteRefusal
+    (cond r roomRefusal
+    0)))))
+    ≡ 0 → (d ≡ false) × (n ≡ true) × (c ≡ true) × (t ≡ true) × (l ≡ true) × (r ≡ false)
+none-of true n c t l r h = absurd (omega arith)
+none-of false false c t l r h = absurd (omega arith)
+none-of false true false t l r h = absurd (omega arith)
+none-of false true true false l r h = absurd (omega arith)
+none-of false true true true false r h = absurd (omega arith)
+none-of false true true true true true h = absurd (omega arith)
+none-of false true true true true false h = (refl, refl, refl, refl, refl, refl)
+
+pub passed : (room : ℕ) (m : Model) (o : Offer) → modelRefusal room m o ≡ 0 → Passed room m o
+unfolding modelRefusal
+passed room m o h =
+    let z = none-of (dayFalls m o) (nameGood (o .name)) (chancesGood (o .chances)) (timesGood (o .times)) (limitsGood o) (noRoom room m o) h in
+    record { day = z .0; name = z .1; chances = z .2; times = z .3; limits = z .4; room′ = z .5 }
+
+pub not-declined : (room : ℕ) (m : Model) (o : Offer) → Passed room m o → modelRefusal room m o ≡ 0
+unfolding modelRefusal
+not-declined room m o p = rw (p .day, p .name, p .chances, p .times, p .limits, p .room′) refl
+
+either : (a b : Bool) → (a || b) ≡ false → (a ≡ false) × (b ≡ false)
+either true b h = (h, cc)
+either false b h = (refl, h)
+
+-- nothing declines an offer exactly under document 01's ranges
+pub accepted-exactly : (room : ℕ) (m : Model) (o : Offer) → (modelRefusal room m o ≡ 0) ↔ Accepted room m o
+unfolding dayFalls noRoom limitsGood
+accepted-exactly room m o = (
+  λ h.
+      let p = passed room m o h in
+      let size : ℕ = committedOf m + length (recordBytes (recordFor o)) in
+      let fit = either (ltb room size) (ltb maxLength size) (p .room′) in
+      record {
+        day = ltb-false (o .day) (lastOf (m .records) .day) (p .day);
+        name = name-ranged (o .name) .0 (p .name);
+        chances = chance-ranged (o .chances) .0 (p .chances);
+        times = time-ranged (o .times) .0 (p .times);
+        limits = finite-ranged (o .times) (o .chances) .0 (p .limits);
+        fitsSlice = ltb-false room size (fit .0);
+        fitsJournal = ltb-false maxLength size (fit .1);
+      },
+  λ a.
+      let size : ℕ = committedOf m + length (recordBytes (recordFor o)) in
+      not-declined room m o (record {
+        day = le-ltb (o .day) (lastOf (m .records) .day) (a .day);
+        name = name-ranged (o .name) .1 (a .name);
+        chances = chance-ranged (o .chances) .1 (a .chances);
+        times = time-ranged (o .times) .1 (a .times);
+        limits = finite-ranged (o .times) (o .chances) .1 (a .limits);
+        room′ = rw (le-ltb room size (a .fitsSlice), le-ltb maxLength size (a .fitsJournal)) refl;
+      }),
+)
+
+-- ---- a record
+
+-- the formula's limits are not refused
+own-limits : (cs ts : List ℕ) → chancesGood cs ≡ true → timesGood ts ≡ true → allFinite ts cs ≡ true
+    → sectionRefusal (limitSection cs ts) (formulaBits ts cs) ≡ 0
+unfolding sectionRefusal limitSection
+own-limits cs ts c t f =
+    let n : length (formulaBits ts cs) ≡ length cs = unfold formulaBits in length-map cs _ in
+    none-first _ _
+    (unless-true (eqb (length (formulaBits ts cs)) (length cs)) limitRefusal (eq-eqb (length (formulaBits ts cs)) (length cs) n))
+    (none-first _ [] (limits-good ts (sym (times-good ts) ∙ t) cs [] cs [] refl refl (chances-each cs c) f) (unfold firstOf in refl))
+
+-- limits that are not refused are the formula's
+exact-limits : (cs ts ls : List ℕ) → chancesGood cs ≡ true → timesGood ts ≡ true → length ls ≡ length cs
+    → sectionRefusal (limitSection cs ts) ls ≡ 0 → (allFinite ts cs ≡ true) × (ls ≡ formulaBits ts cs)
+unfolding sectionRefusal limitSection
+exact-limits cs ts ls c t n h =
+    limits-exact ts (sym (times-good ts) ∙ t) cs [] cs [] ls refl refl n (chances-each cs c)
+    (first-none _ [] (first-none _ _ h .1) .0)
+
+-- a record whose parts pass the tests and whose limits are the formula's
+pub good-record : (last : Last) (r : Record) → r .form ≡ theForm → last .day ≤ r .day → IsDay (r .day)
+    → nameGood (r .name) ≡ true → chancesGood (r .chances) ≡ true → timesGood (r .times) ≡ true
+    → allFinite (r .times) (r .chances) ≡ true → r .limits ≡ formulaBits (r .times) (r .chances) → Good last r
+unfolding judgeForm judgeDay
+good-record last r form day fits name chances times finite′ limits = record {
+  form = unless-true (eqb (r .form) theForm) 2 (eq-eqb (r .form) theForm form);
+  day = unless-true (leb (last .day) (r .day)) dayRefusal (le-leb (last .day) (r .day) day);
+  dayFits = fits;
+  name = name-refused (r .name) ∙ unless-true (nameGood (r .name)) nameRefusal name;
+  chances = chance-refused (r .chances) ∙ unless-true (chancesGood (r .chances)) chanceRefusal chances;
+  times = time-refused (r .times) ∙ unless-true (timesGood (r .times)) timesRefusal times;
+  limits = ap (sectionRefusal (limitSection (r .chances) (r .times))) limits ∙ own-limits (r .chances) (r .times) chances times finite′;
+}
+
+-- limits that are the formula's at each place are the formula's list
+formula-list : (times chances limits : List ℕ) → length limits ≡ length chances
+    → ((i : ℕ) → i < length chances → getD limits i 0 ≡ toBits binary64 (workedOut times (getD chances i 0)))
+    → limits ≡ formulaBits times chances
+unfolding formulaBits
+formula-list times [] [] n h = refl
+formula-list times [] (l ∷ ls) n h = absurd (omega arith)
+formula-list times (c ∷ cs) [] n h = absurd (omega arith)
+formula-list times (c ∷ cs) (l ∷ ls) n h =
+    ap₂ (λ (x : ℕ) (xs : List ℕ). x ∷ xs) (h 0 (omega arith)) (formula-list times cs ls (omega arith) (λ i k. h (suc i) (omega arith)))
+
+list-formula : (times chances limits : List ℕ) → limits ≡ formulaBits times chances
+    → (i : ℕ) → i < length chances → getD limits i 0 ≡ toBits binary64 (workedOut times (getD chances i 0))
+unfolding formulaBits
+list-formula times chances limits e i k = ap (λ (l : List ℕ). getD l i 0) e ∙ at-index chances i k
+  where
+    at-index : (cs : List ℕ) (i : ℕ) → i < length cs
+        → getD (map (λ (c : ℕ). toBits binary64 (workedOut times c)) cs) i 0 ≡ toBits binary64 (workedOut times (getD cs i 0))
+    at-index [] i k = absurd (omega arith)
+    at-index (c ∷ cs) zero k = refl
+    at-index (c ∷ cs) (suc i) k = at-index cs i (omega arith)
+
+-- nothing refuses a record exactly where it keeps document 01's ranges
+pub good-exactly : (last : Last) (r : Record) → Good last r ↔ RecordRanges last r
+good-exactly last r = (
+  λ g.
+      let day : last .day ≤ r .day = unfold judgeDay in leb-true (last .day) (r .day) (unless-none (leb (last .day) (r .day)) 2 (g .day)) in
+      let name = unless-none (nameGood (r .name)) 3 (sym (name-refused (r .name)) ∙ g .name) in
+      let chances = unless-none (chancesGood (r .chances)) 4 (sym (chance-refused (r .chances)) ∙ g .chances) in
+      let times = unless-none (timesGood (r .times)) 5 (sym (time-refused (r .times)) ∙ g .times) in
+      let count = limit-count last r g in
+      let l = exact-limits (r .chances) (r .times) (r .limits) chances times count (g .limits) in
+      record {
+        form = form-one last r g;
+        day = day;
+        dayFits = g .dayFits;
+        name = name-ranged (r .name) .0 name;
+        chances = chance-ranged (r .chances) .0 chances;
+        times = time-ranged (r .times) .0 times;
+        limitCount = count;
+        finite = finite-ranged (r .times) (r .chances) .0 (l .0);
+        limits = list-formula (r .times) (r .chances) (r .limits) (l .1);
+      },
+  λ k.
+      good-record last r (k .form) (k .day) (k .dayFits) (name-ranged (r .name) .1 (k .name)) (chance-ranged (r .chances) .1 (k .chances))
+      (time-ranged (r .times) .1 (k .times)) (finite-ranged (r .times) (r .chances) .1 (k .finite))
+      (formula-list (r .times) (r .chances) (r .limits) (k .limitCount) (k .limits)),
+)

@@ -1,0 +1,131 @@
+-- What scan finds in records end to end with a torn tail after them: those records, each in its place, and their length.
+-- Assumes nothing.
+use mathlib.Core.Path.{_≡_, refl, sym, ap, _∙_}
+use Prim.Native.Nat.{ℕ, zero, suc, _+_, _-_, _≤_, _<_, min}
+use mathlib.Core.List.{List, [], _∷_, _++_, append-assoc, append-nil, map-append}
+use native.Mathlib.Omega.{arith}
+use native.Mathlib.Nat.{add-zero, add-assoc, zero-add, add-sub-cancel-left}
+use lib.ListN.{length, take, length-append}
+use lib.Seq.{append-snoc}
+use borrow.Author.Tests.{le-leb, lt-leb}
+use Rattle.journal_spec.specs.Bytes.{joined}
+use Rattle.journal_spec.specs.Refusals.{lengthRefusal}
+use Rattle.journal_spec.specs.Reader.{found, fault, short, run}
+use Rattle.journal_spec.specs.Record.{Record, lastOf, recordReader, recordBytes, recordsBytes}
+use Rattle.journal_spec.specs.Scan.{maxLength, Placed, recordsOf, standing, faulty, contentsFrom, contentsOf}
+use Rattle.journal_spec.proofs.Reading.{field-short}
+use Rattle.journal_spec.proofs.Records.{Good, reads-record, record-length}
+
+-- ---- journals
+
+-- each record is one that nothing refuses after those before it
+abbrev pub Follow : List Record → List Record → Type 0
+Follow before [] = Unit {0}
+Follow before (r ∷ rs) = Good (lastOf before) r × Follow (before ++ r ∷ []) rs
+
+-- a torn tail after some records: in it the bytes run out before a record is whole, with no refusal in the fields that stand
+pub record Torn (before : List Record) (tail : List ℕ) : Type 0 where
+  pub runsOut : (at : ℕ) → run (recordReader (lastOf before)) at tail ≡ short
+
+pub follow-snoc : (before rs : List Record) (r : Record) → Follow before rs → Good (lastOf (before ++ rs)) r → Follow before (rs ++ r ∷ [])
+follow-snoc before [] r f g = (rw append-nil at g, tt)
+follow-snoc before (s ∷ rs) r f g = (f .0, follow-snoc (before ++ s ∷ []) rs r (f .1) (rw append-snoc g))
+
+pub torn-none : (before : List Record) → Torn before []
+torn-none before = record { runsOut = λ at. unfold recordReader in field-short 2 _ _ at [] (omega arith) }
+
+-- ---- bytes and places of records end to end
+
+pub records-snoc : (rs : List Record) (r : Record) → recordsBytes (rs ++ r ∷ []) ≡ recordsBytes rs ++ recordBytes r
+unfolding recordsBytes joined
+records-snoc [] r = append-nil (recordBytes r)
+records-snoc (s ∷ rs) r = rw (records-snoc rs r) (sym (append-assoc (recordBytes s) (recordsBytes rs) (recordBytes r)))
+
+-- a journal has no more records than bytes
+pub records-count : (before rs : List Record) → Follow before rs → length rs ≤ length (recordsBytes rs)
+unfolding recordsBytes joined
+records-count before [] f = omega arith
+records-count before (r ∷ rs) f =
+    rw length-append (omega (arith, record-length (lastOf before) r (f .0), records-count (before ++ r ∷ []) rs (f .1)))
+
+-- the records in their places, from the place `at` on
+unfoldable pub placedFrom : ℕ → List Record → List Placed
+placedFrom at [] = []
+placedFrom at (r ∷ rs) = record { content = r; start = at; size = length (recordBytes r) } ∷ placedFrom (at + length (recordBytes r)) rs
+
+pub recordsOf-snoc : (ps : List Placed) (p : Placed) → recordsOf (ps ++ p ∷ []) ≡ recordsOf ps ++ p .content ∷ []
+unfolding recordsOf
+recordsOf-snoc ps p = map-append (λ (q : Placed). q .content) ps (p ∷ [])
+
+pub recordsOf-placed : (at : ℕ) (rs : List Record) → recordsOf (placedFrom at rs) ≡ rs
+unfolding recordsOf placedFrom
+recordsOf-placed at [] = refl
+recordsOf-placed at (r ∷ rs) = ap (λ (l : List Record). r ∷ l) (recordsOf-placed (at + length (recordBytes r)) rs)
+
+pub length-placed : (at : ℕ) (rs : List Record) → length (placedFrom at rs) ≡ length rs
+unfolding placedFrom
+length-placed at [] = refl
+length-placed at (r ∷ rs) = ap suc (length-placed (at + length (recordBytes r)) rs)
+
+-- ---- the scan
+
+pub contents-from : (more : ℕ) (ps : List Placed) (rs : List Record) (at : ℕ) (tail : List ℕ)
+    → Follow (recordsOf ps) rs → Torn (recordsOf ps ++ rs) tail → length rs ≤ more
+    → contentsFrom more ps at (recordsBytes rs ++ tail) ≡ standing (ps ++ placedFrom at rs) (at + length (recordsBytes rs))
+unfolding contentsFrom recordsBytes joined placedFrom
+contents-from zero ps [] at tail f t h = rw (append-nil, add-zero)
+contents-from zero ps (r ∷ rs) at tail f t h = absurd (omega arith)
+contents-from (suc more) ps [] at tail f t h = rw ((rw append-nil at t) .runsOut at, contentsFrom) (rw (append-nil, add-zero))
+contents-from (suc more) ps (r ∷ rs) at tail f t h =
+    let n : ℕ = length (recordBytes r) in
+    let p : Placed = record { content = r; start = at; size = n } in
+    let read = reads-record (lastOf (recordsOf ps)) r (f .0) .on at (recordsBytes rs ++ tail) in
+    let snoc : recordsOf (ps ++ p ∷ []) ≡ recordsOf ps ++ r ∷ [] = recordsOf-snoc ps p in
+    rw append-assoc
+    (rw (read, contentsFrom)
+    (rw (add-sub-cancel-left at n)
+    (contents-from more (ps ++ p ∷ []) rs (at + n) tail (rw snoc (f .1)) (rw (snoc, append-snoc) t) (omega arith)
+    ∙ rw (append-snoc, length-append, add-assoc) refl)))
+
+-- a slice that holds records end to end and a torn tail, up to a length
+pub contents-of : (slice : List ℕ) (len : ℕ) (rs : List Record) (tail : List ℕ) → len ≤ length slice → len ≤ maxLength
+    → take len slice ≡ recordsBytes rs ++ tail → len ≡ length (recordsBytes rs ++ tail) → Follow [] rs → Torn rs tail
+    → contentsOf slice len ≡ standing (placedFrom 0 rs) (length (recordsBytes rs))
+unfolding contentsOf recordsOf
+contents-of slice len rs tail fits most bytes n f t =
+    rw (le-leb len (min (length slice) maxLength) (omega arith), bytes)
+    (contents-from len [] rs 0 tail f t (omega (arith, n, length-append (recordsBytes rs) tail, records-count [] rs f))
+    ∙ rw zero-add refl)
+
+-- ---- one turn, by what the record's reader finds
+
+pub turn-short : (more : ℕ) (ps : List Placed) (at : ℕ) (bs : List ℕ)
+    → run (recordReader (lastOf (recordsOf ps))) at bs ≡ short → contentsFrom more ps at bs ≡ standing ps at
+unfolding contentsFrom
+turn-short zero ps at bs h = refl
+turn-short (suc more) ps at bs h = rw (h, contentsFrom) refl
+
+pub turn-fault : (more : ℕ) (ps : List Placed) (at : ℕ) (bs : List ℕ) (n p : ℕ)
+    → run (recordReader (lastOf (recordsOf ps))) at bs ≡ fault n p → 0 < more → contentsFrom more ps at bs ≡ faulty n p
+unfolding contentsFrom
+turn-fault zero ps at bs n p h pos = absurd (omega arith)
+turn-fault (suc more) ps at bs n p h pos = rw (h, contentsFrom) refl
+
+pub turn-found : (more : ℕ) (ps : List Placed) (at : ℕ) (bs : List ℕ) (r : Record) (e : ℕ) (rest : List ℕ)
+    → run (recordReader (lastOf (recordsOf ps))) at bs ≡ found r e rest → 0 < more
+    → contentsFrom more ps at bs ≡ contentsFrom (more - 1) (ps ++ record { content = r; start = at; size = e - at } ∷ []) e rest
+unfolding contentsFrom
+turn-found zero ps at bs r e rest h pos = absurd (omega arith)
+turn-found (suc more) ps at bs r e rest h pos = let z : suc more - 1 ≡ more = omega arith in rw z (rw (h, contentsFrom) refl)
+
+-- ---- the answer
+
+-- a slice whose length is good
+pub contents-fits : (slice : List ℕ) (len : ℕ) → len ≤ length slice → len ≤ maxLength → contentsOf slice len ≡ contentsFrom len [] 0 (take len slice)
+unfolding contentsOf
+contents-fits slice len h k = rw (le-leb len (min (length slice) maxLength) (omega arith)) refl
+
+-- one whose length is beyond the slice or the longest journal
+pub contents-long : (slice : List ℕ) (len : ℕ) → min (length slice) maxLength < len → contentsOf slice len ≡ faulty lengthRefusal 0
+unfolding contentsOf
+contents-long slice len h = rw (lt-leb len (min (length slice) maxLength) h) refl

@@ -1,0 +1,137 @@
+-- Demand 3's sentence, read off the theorem: the journal shows exactly the records of the calls that finished, in their order, each with the
+-- day, name, chances and times given and the formula's bits for its limits. Assumes nothing.
+use mathlib.Core.Path.{_≡_, refl, sym, ap, _∙_}
+use Prim.Native.Nat.{ℕ, zero, suc, _<_}
+use mathlib.Core.List.{List, [], _∷_, _++_, append-assoc, append-nil}
+use mathlib.Core.Bool.{Bool, true, false, cond}
+use native.Mathlib.Omega.{arith}
+use native.Mathlib.Nat.{zero-add}
+use lib.ListN.{getD, length}
+use lib.Dec.{leb, eqb}
+use borrow.Author.Tests.{ne-eqb}
+use Rattle.journal_spec.specs.Reader.{found, run}
+use Rattle.journal_spec.specs.Record.{Last, lastOf, recordReader}
+use Rattle.journal_spec.specs.Record.{Record, recordBytes}
+use Rattle.journal_spec.specs.Read.{readPart, readMark}
+use Rattle.journal_spec.specs.Calls.{operations, Call, callAppend, callAppendUpto, emptyIn, journalAfter}
+use Rattle.journal_spec.specs.Model.{Model, emptyModel, lengthsOf, committedOf, workedOut, recordFor, Entry, enterRecord, enterUnless, enter}
+use Rattle.journal_spec.specs.Model.{modelRefusal, modelAfter}
+use Rattle.journal_spec.specs.Shown.{offerOf, budgetOf, recordOf, finishes, finished, Given}
+use Rattle.journal_spec.specs.Demand.{bytesAt, recordMark}
+use Rattle.journal_spec.proofs.Records.{Good, reads-record}
+use Rattle.journal_spec.proofs.Scanning.{Follow}
+use Rattle.journal_spec.proofs.Demand.{start, after-all, agrees, held-mark, demand3}
+
+-- ---- the calls, one by one
+
+pub enter-is : (room : ℕ) (m : Model) (c : Call) → enter room m c ≡ enterUnless (modelRefusal room m (offerOf c)) m (recordOf c) (budgetOf c)
+unfolding enter offerOf budgetOf recordOf
+enter-is room m (callAppend o fits) = refl
+enter-is room m (callAppendUpto o fits k) = refl
+
+-- ---- which records are shown
+
+records-entered : (n : ℕ) (m : Model) (r : Record) (k : ℕ)
+    → enterUnless n m r k .model .records ≡ m .records ++ cond (cond (eqb n 0) (leb (length (recordBytes r)) k) false) (r ∷ []) []
+unfolding enterUnless enterRecord
+records-entered (suc n) m r k = rw (ne-eqb (suc n) 0 (λ e. omega arith)) (sym (append-nil (m .records)))
+records-entered zero m r k = go (leb (length (recordBytes r)) k) refl
+  where
+    go : (b : Bool) → leb (length (recordBytes r)) k ≡ b → enterRecord m r k .model .records ≡ m .records ++ cond (leb (length (recordBytes r)) k) (r ∷ []) []
+    go true e = rw e refl
+    go false e = rw e (sym (append-nil (m .records)))
+
+-- the model's records are exactly those of the calls whose last byte was written, in that order
+pub records-are-finished : (room : ℕ) (m : Model) (cs : List Call) → modelAfter room m cs .records ≡ m .records ++ finished room m cs
+unfolding modelAfter finished finishes
+records-are-finished room m [] = sym (append-nil (m .records))
+records-are-finished room m (c ∷ cs) =
+    let one : enter room m c .model .records ≡ m .records ++ cond (finishes room m c) (recordOf c ∷ []) [] =
+    ap (λ (e : Entry). e .model .records) (enter-is room m c) ∙ records-entered (modelRefusal room m (offerOf c)) m (recordOf c) (budgetOf c) in
+    records-are-finished room (enter room m c .model) cs
+    ∙ ap (λ (rs : List Record). rs ++ finished room (enter room m c .model) cs) one
+    ∙ append-assoc (m .records) _ _
+
+-- record i shown is the record of the i-th call that finished
+pub shown-bytes : (slice : List ℕ) (cs : List Call) (i : ℕ)
+    → let j = journalAfter operations (emptyIn slice) cs in
+    let rs = finished (length slice) emptyModel cs in
+    i < length rs → readPart (j .slice) (j .len) i ≡ bytesAt rs i
+unfolding operations emptyModel
+shown-bytes slice cs i below =
+    let e = records-are-finished (length slice) emptyModel cs in
+    demand3 slice cs .agrees .shown i (rw e below) ∙ rw e refl
+
+-- each has what the call offered, and the formula's bits for its limits
+pub shown-fields : (c : Call) → Given (offerOf c) (recordOf c)
+unfolding recordOf recordFor workedOut
+shown-fields c = record { day = refl; name = refl; chances = refl; times = refl; limits = refl }
+
+-- ---- a record shown, whole
+
+-- stands in for a record where there is none
+blank : Record
+blank = record { form = 0; day = 0; name = []; chances = []; times = []; limits = [] }
+
+bytes-at : (rs : List Record) (i : ℕ) → i < length rs → bytesAt rs i ≡ recordBytes (getD rs i blank)
+unfolding bytesAt
+bytes-at [] i h = absurd (omega arith)
+bytes-at (r ∷ rs) zero h = refl
+bytes-at (r ∷ rs) (suc i) h = bytes-at rs i (omega arith)
+
+good-at : (before rs : List Record) (i : ℕ) → Follow before rs → i < length rs → (last : Last) × Good last (getD rs i blank)
+good-at before [] i f h = absurd (omega arith)
+good-at before (r ∷ rs) zero f h = (lastOf before, f .0)
+good-at before (r ∷ rs) (suc i) f h = good-at (before ++ r ∷ []) rs i (f .1) (omega arith)
+
+finished-at : (room : ℕ) (m : Model) (cs : List Call) (i : ℕ) → i < length (finished room m cs)
+    → (c : Call) × (getD (finished room m cs) i blank ≡ recordOf c)
+unfolding finished
+finished-at room m [] i h = absurd (omega arith)
+finished-at room m (c ∷ cs) i h = by-first c (finished room (enter room m c .model) cs) (finished-at room (enter room m c .model) cs) (finishes room m c) i h
+  where
+    by-first : (c : Call) (rest : List Record) → ((i : ℕ) → i < length rest → (d : Call) × (getD rest i blank ≡ recordOf d))
+        → (b : Bool) (i : ℕ) → i < length (cond b (recordOf c ∷ []) [] ++ rest)
+        → (d : Call) × (getD (cond b (recordOf c ∷ []) [] ++ rest) i blank ≡ recordOf d)
+    by-first c rest later false i h = later i h
+    by-first c rest later true zero h = (c, refl)
+    by-first c rest later true (suc i) h = later i (omega arith)
+
+-- record i shown: the call that it is of, its bytes, what is in it, and that its part reads back as it
+pub record ShownRecord (slice : List ℕ) (cs : List Call) (i : ℕ) : Type 0 where
+  pub call : Call
+  pub part : readPart (journalAfter operations (emptyIn slice) cs .slice) (journalAfter operations (emptyIn slice) cs .len) i ≡ recordBytes (recordOf call)
+  pub fields : Given (offerOf call) (recordOf call)
+  pub last : Last
+  pub reads : run (recordReader last) 0 (recordBytes (recordOf call)) ≡ found (recordOf call) (length (recordBytes (recordOf call))) []
+
+pub shown-record : (slice : List ℕ) (cs : List Call) (i : ℕ) → i < length (finished (length slice) emptyModel cs) → ShownRecord slice cs i
+unfolding emptyModel
+shown-record slice cs i h =
+    let rs : List Record = finished (length slice) emptyModel cs in
+    let f = finished-at (length slice) emptyModel cs i h in
+    let follow : Follow [] rs =
+    rw (records-are-finished (length slice) emptyModel cs)
+    at (after-all (length slice) (emptyIn slice) emptyModel (start slice) cs .holds .follow) in
+    let g = good-at [] rs i follow h in
+    let good : Good (g .0) (recordOf (f .0)) = rw (f .1) at (g .1) in
+    let on = reads-record (g .0) (recordOf (f .0)) good .on 0 [] in
+    record {
+      call = f .0;
+      part = shown-bytes slice cs i h ∙ bytes-at rs i h ∙ ap recordBytes (f .1);
+      fields = shown-fields (f .0);
+      last = g .0;
+      reads = rw (append-nil, zero-add) at on;
+    }
+
+-- the committed length is the sum of the lengths of the records shown
+pub committed-sum : (slice : List ℕ) (cs : List Call)
+    → committedOf (modelAfter (length slice) emptyModel cs) ≡ lengthsOf (finished (length slice) emptyModel cs)
+unfolding committedOf emptyModel
+committed-sum slice cs = rw (records-are-finished (length slice) emptyModel cs) refl
+
+-- the mark of each record shown
+pub shown-mark : (slice : List ℕ) (cs : List Call) (i : ℕ)
+    → let j = journalAfter operations (emptyIn slice) cs in
+    readMark (j .slice) (j .len) i ≡ recordMark (modelAfter (length slice) emptyModel cs .records) i
+shown-mark slice cs i = held-mark (length slice) _ _ (after-all (length slice) (emptyIn slice) emptyModel (start slice) cs .holds) i

@@ -1,0 +1,215 @@
+-- Every refusal is a number of document 01's table: scan's are 1 to 8 and an append declines by 3 to 9, whatever the bytes and the offer.
+-- Assumes nothing.
+use mathlib.Core.Path.{_≡_, refl, sym, _∙_}
+use Prim.Native.Nat.{ℕ, zero, suc, _+_, _-_, _≤_, min}
+use mathlib.Core.List.{List, [], _∷_, _++_}
+use mathlib.Core.Bool.{Bool, true, false, cond}
+use native.Mathlib.Omega.{arith}
+use lib.ListN.{length, take, drop, getD}
+use lib.Dec.{leb}
+use Rattle.limit.specs.Answer.{LimitResult, limited, refused}
+use Rattle.limit.specs.Limit.{limitOf}
+use Rattle.journal_spec.specs.Bytes.{valueOf}
+use Rattle.journal_spec.specs.Refusals.{unless, outside, firstOf}
+use Rattle.journal_spec.specs.Reader.{Reader, done, field, then, Found, found, fault, short, run}
+use Rattle.journal_spec.specs.Section.{Section, items, section}
+use Rattle.journal_spec.specs.Record.{Record, Last, lastOf, judgeForm, judgeDay, judgeChance, judgeLimit, nameSection, chanceSection}
+use Rattle.journal_spec.specs.Record.{timeSection, limitSection, recordReader}
+use Rattle.journal_spec.specs.Scan.{maxLength, Placed, recordsOf, Contents, standing, faulty, contentsFrom, contentsOf, statusOf, scanOf}
+use Rattle.journal_spec.specs.Scan as S
+use Rattle.journal_spec.specs.Append.{Offer, declined, judgeWorked, limitsRefusal, judgeRoom, offerRefusal, appendRefusal, unchanged, extend}
+use Rattle.journal_spec.specs.Append.{settle, appendTo, appendUpto}
+use Rattle.journal_spec.specs.Model.{nameGood, chancesGood, timesGood}
+use Rattle.journal_spec.proofs.Reading.{field-cases}
+use Rattle.journal_spec.proofs.Scanning.{turn-short, turn-fault, turn-found}
+use Rattle.journal_spec.proofs.Refused.{standing-not-damaged}
+use Rattle.journal_spec.proofs.Offers.{name-refused, chance-refused, time-refused}
+
+-- ---- what a reader can refuse by
+
+-- every refusal of the reader has the property P
+abbrev pub Faults : {A : Type 0} → (ℕ → Type 0) → Reader A → Type 0
+Faults P (done a) = Unit {0}
+Faults P (field w refusal next) = ((v n : ℕ) → refusal v ≡ suc n → P (suc n)) × ((v : ℕ) → Faults P (next v))
+
+pub fault-known : {A : Type 0} (P : ℕ → Type 0) (r : Reader A) → Faults P r → (at : ℕ) (bs : List ℕ) (n p : ℕ) → run r at bs ≡ fault n p → P n
+unfolding run
+fault-known P (done a) f at bs n p h = let z : _≡_ {A = ℕ} 0 1 = cc in absurd (omega arith)
+fault-known P (field w refusal next) f at bs n p h =
+    field-cases w refusal next at bs (λ x. x ≡ fault n p → P n)
+    (λ few e. let z : _≡_ {A = ℕ} 0 1 = cc in absurd (omega arith))
+    (λ m enough bad e. let same : suc m ≡ n = cc in rw same at (f .0 (valueOf (take w bs)) m bad))
+    (λ enough good e. fault-known P (next (valueOf (take w bs))) (f .1 (valueOf (take w bs))) (at + w) (drop w bs) n p e)
+    h
+
+faults-then : {A B : Type 0} (P : ℕ → Type 0) (r : Reader A) (k : A → Reader B) → Faults P r → ((a : A) → Faults P (k a)) → Faults P (then r k)
+unfolding then
+faults-then P (done a) k f g = g a
+faults-then P (field w refusal next) k f g = (f .0, λ v. faults-then P (next v) k (f .1 v) g)
+
+faults-items : (P : ℕ → Type 0) (w : ℕ) (refusal : List ℕ → ℕ → ℕ) → ((before : List ℕ) (v n : ℕ) → refusal before v ≡ suc n → P (suc n))
+    → (n : ℕ) (before : List ℕ) → Faults P (items w refusal n before)
+unfolding items
+faults-items P w refusal f zero before = tt
+faults-items P w refusal f (suc n) before = (f before, λ v. faults-items P w refusal f n (before ++ v ∷ []))
+
+faults-section : (P : ℕ → Type 0) (s : Section) → ((v n : ℕ) → s .count v ≡ suc n → P (suc n))
+    → ((before : List ℕ) (v n : ℕ) → s .item before v ≡ suc n → P (suc n)) → Faults P (section s)
+unfolding section
+faults-section P s f g = (f, λ n. faults-items P (s .width) (s .item) g n [])
+
+-- ---- the record's
+
+-- one of 2 to 8
+abbrev pub OfRecord : ℕ → Type 0
+OfRecord n = (2 ≤ n) × (n ≤ 8)
+
+pub unless-number : (b : Bool) (m n : ℕ) → unless b m ≡ suc n → suc n ≡ m
+unfolding unless
+unless-number true m n h = absurd (omega arith)
+unless-number false m n h = sym h
+
+limit-number : (r : LimitResult) (bits n : ℕ) → judgeLimit r bits ≡ suc n → OfRecord (suc n)
+unfolding judgeLimit
+limit-number (limited x) bits n h = let e = unless-number _ 7 n h in (omega arith, omega arith)
+limit-number (refused m) bits n h = (omega arith, omega arith)
+
+-- a refusal of the one number m, which is of a record's
+only : (b : Bool) (m n : ℕ) → 2 ≤ m → m ≤ 8 → unless b m ≡ suc n → OfRecord (suc n)
+only b m n least most h = let e = unless-number b m n h in (omega arith, omega arith)
+
+pub record-faults : (last : Last) → Faults OfRecord (recordReader last)
+unfolding recordReader judgeForm judgeDay nameSection chanceSection judgeChance timeSection limitSection outside
+record-faults last = (
+  λ v n h. only _ 2 n (omega arith) (omega arith) h,
+  λ form. (
+    λ v n h. only _ 3 n (omega arith) (omega arith) h,
+    λ day.
+        faults-then OfRecord (section nameSection) _
+        (faults-section OfRecord nameSection (λ v n h. only _ 4 n (omega arith) (omega arith) h) (λ before v n h. only _ 4 n (omega arith) (omega arith) h))
+        (λ name.
+        faults-then OfRecord (section chanceSection) _
+        (faults-section OfRecord chanceSection (λ v n h. only _ 5 n (omega arith) (omega arith) h) (λ before v n h. only _ 5 n (omega arith) (omega arith) h))
+        (λ chances.
+        faults-then OfRecord (section timeSection) _
+        (faults-section OfRecord timeSection (λ v n h. only _ 6 n (omega arith) (omega arith) h) (λ before v n h. only _ 6 n (omega arith) (omega arith) h))
+        (λ times.
+        faults-then OfRecord (section (limitSection chances times)) _
+        (faults-section OfRecord (limitSection chances times) (λ v n h. only _ 7 n (omega arith) (omega arith) h)
+        (λ before v n h. limit-number (limitOf times (getD chances (length before) 0)) v n h))
+        (λ limits. tt)))),
+  ),
+)
+
+-- ---- scan's
+
+by-found : (more : ℕ) (ps : List Placed) (at : ℕ) (bs : List ℕ) (n p : ℕ)
+    → ((qs : List Placed) (e : ℕ) (rest : List ℕ) (m q : ℕ) → contentsFrom more qs e rest ≡ faulty m q → OfRecord m)
+    → (f : Found Record) → run (recordReader (lastOf (recordsOf ps))) at bs ≡ f → contentsFrom (suc more) ps at bs ≡ faulty n p → OfRecord n
+by-found more ps at bs n p later (found r e rest) ran h =
+    let z : suc more - 1 ≡ more = omega arith in
+    later _ e rest n p (rw z at (sym (turn-found (suc more) ps at bs r e rest ran (omega arith)) ∙ h))
+by-found more ps at bs n p later (fault m q) ran h =
+    let e : faulty m q ≡ faulty n p = sym (turn-fault (suc more) ps at bs m q ran (omega arith)) ∙ h in
+    let same : m ≡ n = cc in
+    rw same at (fault-known OfRecord (recordReader (lastOf (recordsOf ps))) (record-faults (lastOf (recordsOf ps))) at bs m q ran)
+by-found more ps at bs n p later short ran h =
+    let e : standing ps at ≡ faulty n p = sym (turn-short (suc more) ps at bs ran) ∙ h in
+    let z : _≡_ {A = ℕ} 0 1 = cc in
+    absurd (omega arith)
+
+contents-number : (more : ℕ) (ps : List Placed) (at : ℕ) (bs : List ℕ) (n p : ℕ) → contentsFrom more ps at bs ≡ faulty n p → OfRecord n
+unfolding contentsFrom
+contents-number zero ps at bs n p h = let z : _≡_ {A = ℕ} 0 1 = cc in absurd (omega arith)
+contents-number (suc more) ps at bs n p h =
+    by-found more ps at bs n p (contents-number more) (run (recordReader (lastOf (recordsOf ps))) at bs) refl h
+
+-- document 01's numbers of a damaged journal: 1 to 8
+pub scan-number : (slice : List ℕ) (len n p : ℕ) → scanOf slice len ≡ S.damaged n p → (1 ≤ n) × (n ≤ 8)
+unfolding scanOf
+scan-number slice len n p h = by-contents (contentsOf slice len) refl h
+  where
+    by-length : (t : Bool) (m q : ℕ) → cond t (contentsFrom len [] 0 (take len slice)) (faulty 1 0) ≡ faulty m q → (1 ≤ m) × (m ≤ 8)
+    by-length true m q e = let r = contents-number len [] 0 (take len slice) m q e in (omega (arith, r), omega (arith, r))
+    by-length false m q e = let z : 1 ≡ m = cc in (omega arith, omega arith)
+
+    by-contents : (x : Contents) → contentsOf slice len ≡ x → statusOf len x ≡ S.damaged n p → (1 ≤ n) × (n ≤ 8)
+    by-contents (standing ps committed) e h = absurd (standing-not-damaged len ps committed n p h)
+    by-contents (faulty m q) e h =
+        unfold statusOf in
+        let same : m ≡ n = cc in
+        rw same at (by-length (leb len (min (length slice) maxLength)) m q (unfold contentsOf in e))
+
+-- ---- append's
+
+-- a first refusal is one of its list
+first-number : (P : ℕ → Type 0) (a : ℕ) (ns : List ℕ) (n : ℕ) → ((m : ℕ) → a ≡ suc m → P (suc m))
+    → ((m : ℕ) → firstOf ns ≡ suc m → P (suc m)) → firstOf (a ∷ ns) ≡ suc n → P (suc n)
+unfolding firstOf
+first-number P zero ns n f g h = g n h
+first-number P (suc m) ns n f g h = rw h at (f m refl)
+
+-- one of 3 to 9
+abbrev pub OfOffer : ℕ → Type 0
+OfOffer n = (3 ≤ n) × (n ≤ 9)
+
+offered-only : (b : Bool) (m n : ℕ) → 3 ≤ m → m ≤ 9 → unless b m ≡ suc n → OfOffer (suc n)
+offered-only b m n least most h = let e = unless-number b m n h in (omega arith, omega arith)
+
+none : (n : ℕ) → firstOf [] ≡ suc n → OfOffer (suc n)
+unfolding firstOf
+none n h = absurd (omega arith)
+
+worked-number : (r : LimitResult) (n : ℕ) → judgeWorked r ≡ suc n → OfOffer (suc n)
+unfolding judgeWorked
+worked-number (limited x) n h = absurd (omega arith)
+worked-number (refused m) n h = (omega arith, omega arith)
+
+limits-number : (times chances : List ℕ) (n : ℕ) → limitsRefusal times chances ≡ suc n → OfOffer (suc n)
+unfolding limitsRefusal
+limits-number times [] n h = none n h
+limits-number times (c ∷ cs) n h = first-number OfOffer _ _ n (λ m e. worked-number (limitOf times c) m e) (λ m e. limits-number times cs m e) h
+
+offer-number : (last : Last) (o : Offer) (n : ℕ) → offerRefusal last o ≡ suc n → OfOffer (suc n)
+unfolding offerRefusal judgeDay
+offer-number last o n h =
+    first-number OfOffer _ _ n (λ m e. offered-only _ 3 m (omega arith) (omega arith) e)
+    (λ m e. first-number OfOffer _ _ m (λ k d. offered-only (nameGood (o .name)) 4 k (omega arith) (omega arith) (sym (name-refused (o .name)) ∙ d))
+    (λ k d. first-number OfOffer _ _ k (λ i x. offered-only (chancesGood (o .chances)) 5 i (omega arith) (omega arith) (sym (chance-refused (o .chances)) ∙ x))
+    (λ i x. first-number OfOffer _ _ i (λ l y. offered-only (timesGood (o .times)) 6 l (omega arith) (omega arith) (sym (time-refused (o .times)) ∙ y))
+    (λ l y. first-number OfOffer _ _ l (limits-number (o .times) (o .chances)) none y)
+    x) d) e) h
+
+append-number : (room : ℕ) (last : Last) (committed : ℕ) (o : Offer) (n : ℕ) → appendRefusal room last committed o ≡ suc n → OfOffer (suc n)
+unfolding appendRefusal judgeRoom
+append-number room last committed o n h =
+    first-number OfOffer _ _ n (offer-number last o)
+    (λ m e. first-number OfOffer _ _ m (λ k d. offered-only _ 9 k (omega arith) (omega arith) d) none e) h
+
+extended-not-declined : (slice : List ℕ) (len committed : ℕ) (new : List ℕ) (n : ℕ) → settle 0 slice len committed new .answer ≡ declined n → ⊥
+unfolding settle extend
+extended-not-declined slice len committed new n e = let z : _≡_ {A = ℕ} 0 1 = cc in omega arith
+
+declined-same : (m : ℕ) (slice : List ℕ) (len committed : ℕ) (new : List ℕ) (n : ℕ)
+    → settle (suc m) slice len committed new .answer ≡ declined n → suc m ≡ n
+unfolding settle unchanged
+declined-same m slice len committed new n e = cc
+
+damaged-not-declined : (m p : ℕ) (slice : List ℕ) (len : ℕ) (o : Offer) (k n : ℕ) → appendTo (faulty m p) slice len o k .answer ≡ declined n → ⊥
+unfolding appendTo unchanged
+damaged-not-declined m p slice len o k n e = let z : _≡_ {A = ℕ} 0 1 = cc in omega arith
+
+-- document 01's numbers of a declined append: 3 to 9 (7 is no refusal of an offer: its limits are worked out and not given)
+pub declined-number : (slice : List ℕ) (len : ℕ) (o : Offer) (k n : ℕ) → appendUpto slice len o k .answer ≡ declined n → OfOffer n
+unfolding appendUpto
+declined-number slice len o k n h = by-contents (contentsOf slice len) h
+  where
+    by-refusal : (m committed : ℕ) (new : List ℕ) → ((i : ℕ) → m ≡ suc i → OfOffer (suc i)) → settle m slice len committed new .answer ≡ declined n → OfOffer n
+    by-refusal zero committed new f e = absurd (extended-not-declined slice len committed new n e)
+    by-refusal (suc m) committed new f e = rw (declined-same m slice len committed new n e) at (f m refl)
+
+    by-contents : (x : Contents) → appendTo x slice len o k .answer ≡ declined n → OfOffer n
+    by-contents (faulty m p) e = absurd (damaged-not-declined m p slice len o k n e)
+    by-contents (standing ps committed) e =
+        unfold appendTo in
+        by-refusal (appendRefusal (length slice) (lastOf (recordsOf ps)) committed o) committed _ (append-number (length slice) _ committed o) e

@@ -1,0 +1,150 @@
+-- Demand 3's sentence, read off the theorem: scan says torn exactly when the last call that was not declined wrote some but not all of its
+-- record, and whole otherwise, both with the number of records and the committed length. Assumes nothing.
+use mathlib.Core.Path.{_≡_, refl, ap, _∙_}
+use mathlib.Core.Logic.{_⊎_, inl, inr, ⊎-elim}
+use Prim.Native.Nat.{ℕ, zero, suc, _+_, _≤_, _<_}
+use mathlib.Core.List.{List, [], _∷_, _++_}
+use native.Mathlib.Omega.{arith}
+use lib.ListN.{length, take, length-append}
+use lib.Seq.{length-take-le}
+use borrow.Author.Tests.{le-leb, lt-leb, ne-eqb}
+use Rattle.journal_spec.specs.Record.{Record, recordBytes}
+use Rattle.journal_spec.specs.Scan.{whole, torn, scanOf}
+use Rattle.journal_spec.specs.Append.{extended, declined}
+use Rattle.journal_spec.specs.Calls.{operations, Call, emptyIn, journalAfter}
+use Rattle.journal_spec.specs.Model.{Model, emptyModel, lengthsOf, committedOf, Entry, enterRecord, enterUnless, enter}
+use Rattle.journal_spec.specs.Model.{modelRefusal, modelAfter}
+use Rattle.journal_spec.specs.Shown.{offerOf, budgetOf, recordOf, AllDeclined}
+use Rattle.journal_spec.specs.Demand.{modelScan}
+use Rattle.journal_spec.proofs.Records.{length-record}
+use Rattle.journal_spec.proofs.Placing.{lengths-snoc}
+use Rattle.journal_spec.proofs.Demand.{agrees, demand3}
+use Rattle.journal_spec.proofs.Shown.{enter-is}
+
+declined-stays : (room : ℕ) (m : Model) (c : Call) → (modelRefusal room m (offerOf c) ≡ 0 → ⊥) → enter room m c .model ≡ m
+declined-stays room m c h = ap (λ (e : Entry). e .model) (enter-is room m c) ∙ go (modelRefusal room m (offerOf c)) h
+  where
+    go : (n : ℕ) → (n ≡ 0 → ⊥) → enterUnless n m (recordOf c) (budgetOf c) .model ≡ m
+    go zero h = absurd (h refl)
+    go (suc n) h = unfold enterUnless in refl
+
+all-stay : (room : ℕ) (m : Model) (cs : List Call) → AllDeclined room m cs → modelAfter room m cs ≡ m
+unfolding modelAfter
+all-stay room m [] h = refl
+all-stay room m (c ∷ cs) h =
+    let e = declined-stays room m c (h .0) in
+    ap (λ (x : Model). modelAfter room x cs) e ∙ all-stay room m cs (h .1)
+
+model-append : (room : ℕ) (m : Model) (cs ds : List Call) → modelAfter room m (cs ++ ds) ≡ modelAfter room (modelAfter room m cs) ds
+unfolding modelAfter
+model-append room m [] ds = refl
+model-append room m (c ∷ cs) ds = model-append room (enter room m c .model) cs ds
+
+-- every list of calls either has none that is taken, or ends as the laws below say
+pub record LastTaken (room : ℕ) (m : Model) (cs : List Call) : Type 0 where
+  pub before : List Call
+  pub call : Call
+  pub others : List Call
+  pub parts : cs ≡ before ++ call ∷ others
+  pub taken : modelRefusal room (modelAfter room m before) (offerOf call) ≡ 0
+  pub declined : AllDeclined room (enter room (modelAfter room m before) call .model) others
+
+pub last-taken : (room : ℕ) (m : Model) (cs : List Call) → AllDeclined room m cs ⊎ LastTaken room m cs
+unfolding modelAfter
+last-taken room m [] = inl tt
+last-taken room m (c ∷ cs) = ⊎-elim (λ all. by-refusal (modelRefusal room m (offerOf c)) refl all) (λ l. inr (record {
+  before = c ∷ l .before;
+  call = l .call;
+  others = l .others;
+  parts = ap (λ (x : List Call). c ∷ x) (l .parts);
+  taken = l .taken;
+  declined = l .declined;
+})) (last-taken room (enter room m c .model) cs)
+  where
+    by-refusal : (n : ℕ) → modelRefusal room m (offerOf c) ≡ n → AllDeclined room (enter room m c .model) cs
+        → AllDeclined room m (c ∷ cs) ⊎ LastTaken room m (c ∷ cs)
+    by-refusal zero e all =
+        inr (record {
+          before = [];
+          call = c;
+          others = cs;
+          parts = refl;
+          taken = unfold modelAfter in e;
+          declined = unfold modelAfter in all;
+        })
+    by-refusal (suc n) e all =
+        let no₁ : modelRefusal room m (offerOf c) ≡ 0 → ⊥ = λ z. omega arith in
+        inl (no₁, rw (declined-stays room m c no₁) at all)
+
+-- what scan answers after a list of calls
+scanned : (slice : List ℕ) (cs : List Call)
+    → let j = journalAfter operations (emptyIn slice) cs in scanOf (j .slice) (j .len) ≡ modelScan (modelAfter (length slice) emptyModel cs)
+unfolding operations
+scanned slice cs = demand3 slice cs .agrees .scan
+
+-- no call but declined ones: whole, with nothing in it
+pub whole-if-all-declined : (slice : List ℕ) (cs : List Call) → AllDeclined (length slice) emptyModel cs
+    → let j = journalAfter operations (emptyIn slice) cs in scanOf (j .slice) (j .len) ≡ whole 0 0
+whole-if-all-declined slice cs h =
+    scanned slice cs ∙ ap modelScan (all-stay (length slice) emptyModel cs h) ∙ unfold modelScan emptyModel committedOf lengthsOf in refl
+
+-- what the model's scan says after a record is entered, by the budget
+module _ (m : Model) (r : Record) (k : ℕ) where
+  entered-cut : 0 < k → k < length (recordBytes r) → modelScan (enterRecord m r k .model) ≡ torn (length (m .records)) (committedOf m)
+  unfolding enterRecord modelScan committedOf
+  entered-cut some less =
+      let e : enterRecord m r k ≡ record { answer = extended (committedOf m + k); model = record { records = m .records; tail = take k (recordBytes r) } } =
+      rw (lt-leb (length (recordBytes r)) k less) refl in
+      ap (λ (x : Entry). modelScan (x .model)) e
+      ∙ rw (length-take-le k (recordBytes r) (omega arith), ne-eqb k 0 (λ z. omega arith)) refl
+
+  entered-all : length (recordBytes r) ≤ k
+      → modelScan (enterRecord m r k .model) ≡ whole (length (m .records) + 1) (committedOf m + length (recordBytes r))
+  unfolding enterRecord modelScan committedOf
+  entered-all all =
+      let e : enterRecord m r k
+      ≡ record { answer = extended (committedOf m + length (recordBytes r)); model = record { records = m .records ++ r ∷ []; tail = [] } } =
+      rw (le-leb (length (recordBytes r)) k all) refl in
+      ap (λ (x : Entry). modelScan (x .model)) e
+      ∙ rw (length-append, lengths-snoc (m .records) r) refl
+
+  entered-none : k ≡ 0 → modelScan (enterRecord m r k .model) ≡ whole (length (m .records)) (committedOf m)
+  unfolding enterRecord modelScan committedOf
+  entered-none none =
+      let e : enterRecord m r k ≡ record { answer = extended (committedOf m + k); model = record { records = m .records; tail = take k (recordBytes r) } } =
+      rw (lt-leb (length (recordBytes r)) k (omega (arith, length-record r))) refl in
+      ap (λ (x : Entry). modelScan (x .model)) e
+      ∙ rw none refl
+
+-- the list ends with a call that is not declined, after which all are declined
+module _ (slice : List ℕ) (cs : List Call) (c : Call) (ds : List Call)
+    (taken : modelRefusal (length slice) (modelAfter (length slice) emptyModel cs) (offerOf c) ≡ 0)
+    (others : AllDeclined (length slice) (enter (length slice) (modelAfter (length slice) emptyModel cs) c .model) ds) where
+  abbrev base : Model
+  base = modelAfter (length slice) emptyModel cs
+
+  ends : modelAfter (length slice) emptyModel (cs ++ c ∷ ds) ≡ enterRecord base (recordOf c) (budgetOf c) .model
+  unfolding enterUnless modelAfter
+  ends =
+      model-append (length slice) emptyModel cs (c ∷ ds)
+      ∙ all-stay (length slice) _ ds others
+      ∙ ap (λ (e : Entry). e .model) (enter-is (length slice) base c)
+      ∙ rw taken refl
+
+  -- it wrote some of its record but not all: torn
+  pub torn-if-cut : 0 < budgetOf c → budgetOf c < length (recordBytes (recordOf c))
+      → let j = journalAfter operations (emptyIn slice) (cs ++ c ∷ ds) in
+      scanOf (j .slice) (j .len) ≡ torn (length (base .records)) (committedOf base)
+  torn-if-cut some less = scanned slice (cs ++ c ∷ ds) ∙ ap modelScan ends ∙ entered-cut base (recordOf c) (budgetOf c) some less
+
+  -- it wrote all of it: whole, with one record more
+  pub whole-if-finished : length (recordBytes (recordOf c)) ≤ budgetOf c
+      → let j = journalAfter operations (emptyIn slice) (cs ++ c ∷ ds) in
+      scanOf (j .slice) (j .len) ≡ whole (length (base .records) + 1) (committedOf base + length (recordBytes (recordOf c)))
+  whole-if-finished all = scanned slice (cs ++ c ∷ ds) ∙ ap modelScan ends ∙ entered-all base (recordOf c) (budgetOf c) all
+
+  -- it wrote none of it: whole
+  pub whole-if-none : budgetOf c ≡ 0
+      → let j = journalAfter operations (emptyIn slice) (cs ++ c ∷ ds) in
+      scanOf (j .slice) (j .len) ≡ whole (length (base .records)) (committedOf base)
+  whole-if-none none = scanned slice (cs ++ c ∷ ds) ∙ ap modelScan ends ∙ entered-none base (recordOf c) (budgetOf c) none

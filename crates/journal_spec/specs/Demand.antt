@@ -1,0 +1,56 @@
+-- Demand 3 as one statement about a slice and a whole list of calls, for any operations: every answer was the model's, and the journal
+-- after the list is what the model says: its length, its bytes, and what scan and both calls of reading answer.
+use mathlib.Core.Path.{_≡_}
+use Prim.Native.Nat.{ℕ, zero, suc, _+_, _≤_, _<_}
+use mathlib.Core.List.{List, [], _∷_, _++_}
+use mathlib.Core.Bool.{cond}
+use lib.ListN.{length, take, drop}
+use lib.Dec.{eqb}
+use Rattle.journal_spec.specs.Refusals.{absentRefusal}
+use Rattle.journal_spec.specs.Record.{Record, recordBytes, recordsBytes}
+use Rattle.journal_spec.specs.Scan.{ScanResult, whole, torn}
+use Rattle.journal_spec.specs.Read.{MarkResult, marked, unmarked, markOf}
+use Rattle.journal_spec.specs.Calls.{Operations, Call, Journal, emptyIn, perform, journalAfter, answersOf, reachOf}
+use Rattle.journal_spec.specs.Model.{Model, emptyModel, committedOf, modelAfter, modelAnswers}
+
+-- whole if the torn tail is empty, else torn, with the number of records and the committed length
+unfoldable pub modelScan : Model → ScanResult
+modelScan m = cond (eqb (length (m .tail)) 0) (whole (length (m .records)) (committedOf m)) (torn (length (m .records)) (committedOf m))
+
+-- the bytes of record i, none where there is no such record
+unfoldable pub bytesAt : List Record → ℕ → List ℕ
+bytesAt [] i = []
+bytesAt (r ∷ rs) zero = recordBytes r
+bytesAt (r ∷ rs) (suc i) = bytesAt rs i
+
+-- the mark of record i, or that there is no such record
+unfoldable pub recordMark : List Record → ℕ → MarkResult
+recordMark [] i = unmarked absentRefusal
+recordMark (r ∷ rs) zero = marked (markOf (r .times))
+recordMark (r ∷ rs) (suc i) = recordMark rs i
+
+-- the journal in a slice of `room` bytes is what the model says
+pub record Agrees (ops : Operations) (room : ℕ) (j : Journal) (m : Model) : Type 0 where
+  pub sliceLength : length (j .slice) ≡ room
+  pub len : j .len ≡ committedOf m + length (m .tail)
+  pub bytes : take (j .len) (j .slice) ≡ recordsBytes (m .records) ++ m .tail
+  pub scan : ops .scan (j .slice) (j .len) ≡ modelScan m
+  pub shown : (i : ℕ) → i < length (m .records) → ops .readPart (j .slice) (j .len) i ≡ bytesAt (m .records) i
+  pub others : (i : ℕ) → length (m .records) ≤ i → ops .readPart (j .slice) (j .len) i ≡ []
+  pub absent : (i : ℕ) → length (m .records) ≤ i → ops .readMark (j .slice) (j .len) i ≡ unmarked absentRefusal
+
+-- every byte at or beyond the length after a call is as it was before the call
+abbrev pub Beyond : Operations → Journal → Call → Type 0
+Beyond ops j c = drop (perform ops j c .len) (perform ops j c .slice) ≡ drop (perform ops j c .len) (j .slice)
+
+-- Demand 3 for one list of calls, from a journal in a slice of `room` bytes and the model that it starts with. Besides: a next call changes
+-- no byte beyond the length after it, and bytes at or beyond the greatest length of the list are the initial ones.
+pub record Demand3From (ops : Operations) (room : ℕ) (j : Journal) (m : Model) (cs : List Call) : Type 0 where
+  pub answers : answersOf ops j cs ≡ modelAnswers room m cs
+  pub agrees : Agrees ops room (journalAfter ops j cs) (modelAfter room m cs)
+  pub beyond : (c : Call) → Beyond ops (journalAfter ops j cs) c
+  pub initial : drop (reachOf ops j cs) (journalAfter ops j cs .slice) ≡ drop (reachOf ops j cs) (j .slice)
+
+-- demand 3: for every slice, of any length and with any bytes, and every list of calls, from length 0 and the empty model
+abbrev pub Demand3 : Operations → Type 0
+Demand3 ops = (slice : List ℕ) (cs : List Call) → Demand3From ops (length slice) (emptyIn slice) emptyModel cs

@@ -1,0 +1,70 @@
+-- Document 01's ranges as inequalities: what holds of a record that may stand in a journal, and of an offer that is not declined.
+-- The model's tests are booleans; the law `accepted-exactly` says that they pass exactly where these hold.
+use mathlib.Core.Path.{_≡_}
+use Prim.Native.Nat.{ℕ, suc, _+_, _≤_, _<_}
+use mathlib.Core.List.{List, [], _∷_, _++_}
+use mathlib.Core.Bool.{true}
+use lib.ListN.{length, getD}
+use lib.Ieee.{binary64, toBits}
+use lib.Ieee.Scale.{finite}
+use Rattle.limit.specs.Times.{minTicks, maxTicks, minCount, maxCount}
+use Rattle.limit.specs.Limit.{minChance, maxChance}
+use Rattle.journal_spec.specs.Record.{Record, Last, IsDay, lastOf, theForm, minName, maxName, minByte, maxByte, minChances, maxChances}
+use Rattle.journal_spec.specs.Record.{recordBytes}
+use Rattle.journal_spec.specs.Scan.{maxLength}
+use Rattle.journal_spec.specs.Append.{Offer}
+use Rattle.journal_spec.specs.Model.{Model, committedOf, workedOut, recordFor}
+
+-- each number of the list is one of low, low + 1, .., high
+abbrev pub Each : ℕ → ℕ → List ℕ → Type 0
+Each low high xs = (i : ℕ) → i < length xs → (low ≤ getD xs i 0) × (getD xs i 0 ≤ high)
+
+-- 1 to 32 bytes, each 21 to 7e
+pub record NameRanges (name : List ℕ) : Type 0 where
+  pub least : minName ≤ length name
+  pub most : length name ≤ maxName
+  pub bytes : Each minByte maxByte name
+
+-- 1 to 8 chances, each 1 to 999,999, rising strictly
+pub record ChanceRanges (chances : List ℕ) : Type 0 where
+  pub least : minChances ≤ length chances
+  pub most : length chances ≤ maxChances
+  pub range : Each minChance maxChance chances
+  pub rising : (i : ℕ) → suc i < length chances → getD chances i 0 < getD chances (suc i) 0
+
+-- 2 to 128 times, each 1 to 1,048,575
+pub record TimeRanges (times : List ℕ) : Type 0 where
+  pub least : minCount ≤ length times
+  pub most : length times ≤ maxCount
+  pub range : Each minTicks maxTicks times
+
+-- each limit worked out is finite
+abbrev pub FiniteLimits : List ℕ → List ℕ → Type 0
+FiniteLimits times chances = (i : ℕ) → i < length chances → finite (workedOut times (getD chances i 0)) ≡ true
+
+-- an offer that a journal with these records and this room takes
+pub record Accepted (room : ℕ) (m : Model) (o : Offer) : Type 0 where
+  pub day : lastOf (m .records) .day ≤ o .day
+  pub name : NameRanges (o .name)
+  pub chances : ChanceRanges (o .chances)
+  pub times : TimeRanges (o .times)
+  pub limits : FiniteLimits (o .times) (o .chances)
+  pub fitsSlice : committedOf m + length (recordBytes (recordFor o)) ≤ room
+  pub fitsJournal : committedOf m + length (recordBytes (recordFor o)) ≤ maxLength
+
+-- a record that may stand after the record `last`
+pub record RecordRanges (last : Last) (r : Record) : Type 0 where
+  pub form : r .form ≡ theForm
+  pub day : last .day ≤ r .day
+  pub dayFits : IsDay (r .day)
+  pub name : NameRanges (r .name)
+  pub chances : ChanceRanges (r .chances)
+  pub times : TimeRanges (r .times)
+  pub limitCount : length (r .limits) ≡ length (r .chances)
+  pub finite : FiniteLimits (r .times) (r .chances)
+  pub limits : (i : ℕ) → i < length (r .chances) → getD (r .limits) i 0 ≡ toBits binary64 (workedOut (r .times) (getD (r .chances) i 0))
+
+-- each record may stand after those before it
+abbrev pub AllRanges : List Record → List Record → Type 0
+AllRanges before [] = Unit {0}
+AllRanges before (r ∷ rs) = RecordRanges (lastOf before) r × AllRanges (before ++ r ∷ []) rs

@@ -1,0 +1,48 @@
+-- Document 01's table of refusals: the numbers that crate `limit` does not define, and how a refusal is found.
+-- A refusal is its number, from 1 up; 0 stands for none. 5, 6 and 8 are `chanceRefusal`, `timesRefusal` and `finiteRefusal` of `limit`.
+use Prim.Native.Nat.{ℕ, zero, suc}
+use mathlib.Core.List.{List, [], _∷_}
+use mathlib.Core.Bool.{Bool, cond}
+use Rattle.limit.specs.Times.{inRange}
+
+-- 1: length beyond the slice or the longest journal
+abbrev pub lengthRefusal : ℕ
+lengthRefusal = 1
+
+-- 2: form
+abbrev pub formRefusal : ℕ
+formRefusal = 2
+
+-- 3: day below that of the record before
+abbrev pub dayRefusal : ℕ
+dayRefusal = 3
+
+-- 4: name count or byte
+abbrev pub nameRefusal : ℕ
+nameRefusal = 4
+
+-- 7: limit count, or a limit's bits
+abbrev pub limitRefusal : ℕ
+limitRefusal = 7
+
+-- 9: no room for the record
+abbrev pub roomRefusal : ℕ
+roomRefusal = 9
+
+-- 10: no such record
+abbrev pub absentRefusal : ℕ
+absentRefusal = 10
+
+-- none where the test holds, else n
+unfoldable pub unless : Bool → ℕ → ℕ
+unless good n = cond good 0 n
+
+-- the refusal n of a number that is not low, low + 1, .., high
+unfoldable pub outside : ℕ → ℕ → ℕ → ℕ → ℕ
+outside low high n x = unless (inRange low high x) n
+
+-- the first that is a refusal, or none
+unfoldable pub firstOf : List ℕ → ℕ
+firstOf [] = 0
+firstOf (zero ∷ ns) = firstOf ns
+firstOf (suc n ∷ ns) = suc n
