@@ -1,1 +1,3 @@
+-- The definitions that the contracts of the C interface cite.
+-- Those of the functions behind it are in their own crates.
 pub mod Limit

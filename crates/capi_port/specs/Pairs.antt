@@ -6,6 +6,7 @@ use lib.ListN.{getD}
 use lib.Ieee.{Float, binary64, ofBits, toBits}
 use Rattle.pxfm.specs.declared.double_double.DoubleDouble.{DoubleDouble}
 use Rattle.pxfm.specs.DoubleDouble.{newOf}
+use Rattle.pxfm.specs.Polyeval.{fPolyeval4, fPolyeval5}
 
 -- The double whose pattern stands at a place.
 abbrev pub f64At : List ℕ → ℕ → Float
@@ -22,3 +23,10 @@ pairBits a = toBits binary64 (a .lo) ∷ toBits binary64 (a .hi) ∷ []
 -- A double alone, as the high part beside a zero.
 abbrev pub f64Bits : Float → List ℕ
 f64Bits x = 0 ∷ toBits binary64 x ∷ []
+
+-- The polynomials at the double at place 0, their coefficients at the places after it.
+abbrev pub polyeval4At : List ℕ → Float
+polyeval4At xs = fPolyeval4 (f64At xs 0) (f64At xs 1) (f64At xs 2) (f64At xs 3) (f64At xs 4)
+
+abbrev pub polyeval5At : List ℕ → Float
+polyeval5At xs = fPolyeval5 (f64At xs 0) (f64At xs 1) (f64At xs 2) (f64At xs 3) (f64At xs 4) (f64At xs 5)

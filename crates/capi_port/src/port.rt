@@ -1,10 +1,9 @@
 // The port's other functions on bit patterns, for the comparison with the Rust.
 // `inp` and `out` are as in pairs.rt; a function whose argument has a range answers a pair of NaN outside of it.
 ghost use mathlib.Core.Path.{_≡_};
-ghost use Rattle.capi_port.specs.Pairs.{f64At, pairAt, pairBits, f64Bits};
+ghost use Rattle.capi_port.specs.Pairs.{f64At, pairAt, pairBits, f64Bits, polyeval4At, polyeval5At};
 ghost use Rattle.pxfm.specs.Common.{fFmla, ddFmla};
 ghost use Rattle.pxfm.specs.PowExec.{logPoly1};
-ghost use Rattle.pxfm.specs.Polyeval.{fPolyeval4, fPolyeval5};
 ghost use Rattle.pxfm.specs.Checked.{checkedLogDd, checkedLogDToDd, checkedErfCore};
 ghost use Rattle.pxfm.specs.Rationals.{inverf0p06To0p75, inverfAsymptSmall, inverfAsymptLong};
 use crate::patterns::pair;
@@ -47,7 +46,7 @@ pub extern "C" fn px_log_poly_1(inp: &[u64; 1], out: &mut [u64; 2])
 
 #[no_mangle]
 pub extern "C" fn px_f_polyeval4(inp: &[u64; 5], out: &mut [u64; 2])
-    ensures { λ r. ⌜ now (out .exit) ≡ f64Bits (fPolyeval4 (f64At (now (inp .entry)) 0) (f64At (now (inp .entry)) 1) (f64At (now (inp .entry)) 2) (f64At (now (inp .entry)) 3) (f64At (now (inp .entry)) 4)) ⌝ }
+    ensures { λ r. ⌜ now (out .exit) ≡ f64Bits (polyeval4At (now (inp .entry))) ⌝ }
 {
     let x = of_bits(inp[0]);
     let a0 = of_bits(inp[1]);
@@ -59,7 +58,7 @@ pub extern "C" fn px_f_polyeval4(inp: &[u64; 5], out: &mut [u64; 2])
 
 #[no_mangle]
 pub extern "C" fn px_f_polyeval5(inp: &[u64; 6], out: &mut [u64; 2])
-    ensures { λ r. ⌜ now (out .exit) ≡ f64Bits (fPolyeval5 (f64At (now (inp .entry)) 0) (f64At (now (inp .entry)) 1) (f64At (now (inp .entry)) 2) (f64At (now (inp .entry)) 3) (f64At (now (inp .entry)) 4) (f64At (now (inp .entry)) 5)) ⌝ }
+    ensures { λ r. ⌜ now (out .exit) ≡ f64Bits (polyeval5At (now (inp .entry))) ⌝ }
 {
     let x = of_bits(inp[0]);
     let a0 = of_bits(inp[1]);

@@ -43,7 +43,7 @@ pub fn limit(times: &[u32], chance: u32) -> Answer
     }
 }
 
-// The limit of times whose sums are known. Sums that no times in range can have are refused as times out of range are.
+// The limit of times whose sums are known. Sums outside the bounds that the sums of times in range meet are refused as such times are.
 pub fn limit_of_sums(s: Sums, chance: u32) -> Answer
     ensures { λ r. ⌜ meaning r ≡ limitOfSums s chance ⌝ }
 {

@@ -52,7 +52,8 @@ impl Sums {
         }
     }
 
-    // Whether these can be the sums of 2 to 128 times in range. Each test bounds the numbers that the next one multiplies.
+    // Whether these meet the bounds that the sums of 2 to 128 times in range meet; some that do belong to no times.
+    // Each test bounds the numbers that the next one multiplies.
     pub(crate) fn is_plausible(self) -> bool
         ensures { λ r. ⌜ r ≡ isPlausible self ⌝ }
     {

@@ -1,3 +1,5 @@
+-- The definitions of the port, a file for each file of the Rust; Argument, Bins and Checked state what the laws speak of.
+-- In the order in which they build on each other.
 pub mod DoubleDouble
 pub mod Common
 pub mod Polyeval

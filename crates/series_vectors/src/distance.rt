@@ -6,7 +6,7 @@ ghost use Rattle.series_vectors.specs.Series.{distanceOf, stepsAbove, st
 
 // The distance of a result from the true value that lies part / 2^32 of the way from the double with
 // the bits `below` to the next one away from zero.
-pub fn distance(got: u64, below: u64, part: u64) -> u64
+pub(crate) fn distance(got: u64, below: u64, part: u64) -> u64
     requires { ⌜ part < 2 ^ 32 ⌝ }
     ensures { λ r. ⌜ r ≡ distanceOf got below part ⌝ }
 {
