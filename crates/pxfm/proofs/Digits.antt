@@ -1,4 +1,4 @@
--- How many binary digits a whole number has, against the powers of two on either side of it.
+-- How many binary digits a whole number has, against the powers of two on either side of it, and a product with two such powers.
 -- Powers of two rise strictly, and `size n` is the first exponent whose power is above n. Assumes nothing.
 use mathlib.Core.Path.{_≡_, sym, ap, _∙_}
 use Prim.Native.Nat.{ℕ, suc, _+_, _*_, _^_, _≤_, _<_}

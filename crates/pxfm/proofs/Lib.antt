@@ -22,4 +22,5 @@ pub mod Exponent
 pub mod Bins
 pub mod Reduced
 pub mod ScaledValue
+pub mod Answers
 pub mod PositiveFinite

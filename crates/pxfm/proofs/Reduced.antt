@@ -1,11 +1,14 @@
 -- The reduced argument t of the logarithms, as a number: it is the significand m over 2 ^ 53 where it is halved and over 2 ^ 52 else.
 -- The pattern made of m's digits and the exponent's field 1023 stands for m / 2 ^ 52, and a product with 1/2 or 1 rounds nothing.
--- So what holds of the fraction m / `unitOf m` holds of the double t: r × t - 1 is below 1/128 in size. Assumes nothing.
+-- So what holds of the fraction m / `unitOf m` holds of the double t: r × t - 1 is below 1/128 in size,
+-- and t lies from the root of 1/2 up to the root of 2. Assumes nothing.
 use mathlib.Core.Path.{_≡_, refl, sym, ap, _∙_, subst}
 use mathlib.Core.Bool.{Bool, true, false, cond}
 use Prim.Native.Nat.{ℕ, _+_, _-_, _*_, _/_, _%_, _^_, _≤_, _<_}
-use native.Mathlib.Nat.{lt-of-lt-of-le, mul-one, mul-assoc, mul-lt-mul-of-pos-right, mul-right-comm}
+use native.Mathlib.Nat.{lt-of-lt-of-le, le-of-mul-le-mul-right, mul-one, mul-comm, mul-assoc, mul-right-comm, mul-mul-mul-comm, mul-pos}
+use native.Mathlib.Nat.{mul-le-mul, mul-le-mul-right, mul-lt-mul-of-pos-right}
 use native.Mathlib.Omega.{arith}
+use borrow.Author.Tests.{leb-true, leb-false}
 use lib.Dec.{lit<}
 use lib.Pow.{pow-add, pow-pos, pow-mono, shl-lt}
 use lib.Ieee.{Float, binary64, ofBits, mul, round}
@@ -16,7 +19,7 @@ use Rattle.pxfm.specs.DoubleDouble.{one}
 use Rattle.pxfm.specs.PowTables.{entryAt, powInverse}
 use Rattle.pxfm.specs.PowExec.{half}
 use Rattle.pxfm.specs.FastLogDd.{halved, factorOf, indexOf, reducedOf}
-use Rattle.pxfm.specs.Bins.{NearOne, unitOf}
+use Rattle.pxfm.specs.Bins.{NearOne, AroundOne, unitOf}
 use Rattle.pxfm.proofs.Digits.{lt-of-mul-lt, add-exponents}
 use Rattle.pxfm.proofs.Exact.{value-same}
 use Rattle.pxfm.proofs.Bins.{reduced-near}
@@ -50,7 +53,8 @@ times-power x y m i M h I v w =
     let k : 1074 ≡ 1022 - i + (52 + i) = omega arith in
     let g : m * 2 ^ 1074 ≡ m * 2 ^ (1022 - i) * 2 ^ (52 + i) =
     ap (λ (n : ℕ). m * 2 ^ n) k ∙ ap (λ (n : ℕ). m * n) (pow-add 2 (1022 - i) (52 + i)) ∙ sym (mul-assoc m (2 ^ (1022 - i)) (2 ^ (52 + i))) in
-    let few : m * 2 ^ (1022 - i) < 2 ^ 2098 = lt-of-lt-of-le (shl-lt 53 (1022 - i) h) (pow-mono {j = 2098} (let w : 53 + (1022 - i) ≤ 2098 = omega arith in w)) in
+    let z : 53 + (1022 - i) ≤ 2098 = omega arith in
+    let few : m * 2 ^ (1022 - i) < 2 ^ 2098 = lt-of-lt-of-le (shl-lt 53 (1022 - i) h) (pow-mono z) in
     subst (λ (z : Float). HasValue z false m (2 ^ (52 + i))) (sym e)
     (round-exact binary64 false m (2 ^ (52 + i)) m (1022 - i) (pow-pos (52 + i)) h few g)
 
@@ -105,3 +109,59 @@ reduced-double-near m l h =
     let t = reducedOf m in
     near-same (entryAt powInverse (indexOf m)) m (unitOf m) (num t) (den t) (den-pos t)
     (value→cross t m (unitOf m) (reduced-value m l h)) (reduced-near m l h)
+
+-- ---- from the root of 1/2 up to the root of 2
+
+-- t is halved where m / 2 ^ 52 is the root of 2 or more: where its square is 2 or more.
+pub halved-root : (m : ℕ) → halved m ≡ true → 2 * (2 ^ 52 * 2 ^ 52) ≤ m * m
+halved-root m e =
+    let h = leb-true 0x16a0_9e66_7f3b_cd m e in
+    let s : 0x16a0_9e66_7f3b_cd * 0x16a0_9e66_7f3b_cd ≤ m * m = mul-le-mul h h in
+    omega arith
+
+pub kept-root : (m : ℕ) → halved m ≡ false → m * m < 2 * (2 ^ 52 * 2 ^ 52)
+kept-root m e =
+    let h = leb-false 0x16a0_9e66_7f3b_cd m e in
+    let k : m ≤ 0x16a0_9e66_7f3b_cc = omega arith in
+    let s : m * m ≤ 0x16a0_9e66_7f3b_cc * 0x16a0_9e66_7f3b_cc = mul-le-mul k k in
+    omega arith
+
+fraction-range : (m : ℕ) → 2 ^ 52 ≤ m → m < 2 ^ 53 → AroundOne m (unitOf m)
+fraction-range m l h = go (halved m) (halved-root m) (kept-root m)
+  where
+    low : 2 ^ 52 * 2 ^ 52 ≤ m * m
+    low = mul-le-mul l l
+
+    high : m * m ≤ 2 ^ 53 * 2 ^ 53
+    high = let k : m ≤ 2 ^ 53 = omega arith in mul-le-mul k k
+
+    go : (b : Bool) → (b ≡ true → 2 * (2 ^ 52 * 2 ^ 52) ≤ m * m) → (b ≡ false → m * m < 2 * (2 ^ 52 * 2 ^ 52))
+        → AroundOne m (cond b (2 ^ 53) (2 ^ 52))
+    go true y n = let k = y refl in let g = high in record { from = omega arith; to = omega arith }
+    go false y n = let k = n refl in let g = low in record { from = omega arith; to = omega arith }
+
+-- It holds of every way to write the fraction.
+around-same : (n d n' d' : ℕ) → 0 < d → 0 < d' → n' * d ≡ n * d' → AroundOne n d → AroundOne n' d'
+around-same n d n' d' D D' e h =
+    let s : n' * n' * (d * d) ≡ n * n * (d' * d') =
+    mul-mul-mul-comm n' n' d d ∙ ap (λ (z : ℕ). z * z) e ∙ mul-mul-mul-comm n d' n d' in
+    let a = mul-le-mul-right (d' * d') (h .from) in
+    let b = mul-lt-mul-of-pos-right (h .to) (mul-pos D' D') in
+    let c : d * d * (d' * d') ≡ d' * d' * (d * d) = mul-comm (d * d) (d' * d') in
+    let p = mul-assoc 2 (n * n) (d' * d') in
+    let q = mul-assoc 2 (d * d) (d' * d') in
+    let p' = mul-assoc 2 (n' * n') (d * d) in
+    let q' = mul-assoc 2 (d' * d') (d * d) in
+    let low : d' * d' * (d * d) ≤ 2 * (n' * n') * (d * d) = omega arith in
+    let high : n' * n' * (d * d) < 2 * (d' * d') * (d * d) = omega arith in
+    record { from = le-of-mul-le-mul-right low (mul-pos D D); to = lt-of-mul-lt (d * d) high }
+
+-- The double t lies from the root of 1/2 up to the root of 2.
+pub reduced-range : (m : ℕ) → 2 ^ 52 ≤ m → m < 2 ^ 53 → AroundOne (num (reducedOf m)) (den (reducedOf m))
+reduced-range m l h =
+    let t = reducedOf m in
+    around-same m (unitOf m) (num t) (den t) (unit-pos (halved m)) (den-pos t) (value→cross t m (unitOf m) (reduced-value m l h)) (fraction-range m l h)
+  where
+    unit-pos : (b : Bool) → 0 < cond b (2 ^ 53) (2 ^ 52)
+    unit-pos true = pow-pos 53
+    unit-pos false = pow-pos 52
