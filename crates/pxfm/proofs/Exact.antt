@@ -11,7 +11,7 @@ use lib.Ieee.Exact.{HasValue, round-exact}
 use Rattle.pxfm.proofs.Value.{Gap, Val, Rounds, gap-same, val-same}
 
 -- A value as another fraction of the same size.
-value-same : (x : Float) (s : Bool) (w l num den : ℕ) → 0 < l → num * l ≡ w * den → HasValue x s w l → HasValue x s num den
+pub value-same : (x : Float) (s : Bool) (w l num den : ℕ) → 0 < l → num * l ≡ w * den → HasValue x s w l → HasValue x s num den
 value-same nan s w l num den p h v = v
 value-same (inf t) s w l num den p h v = v
 value-same (fin t m e) s w l num den p h v = (

@@ -20,4 +20,7 @@ pub mod Rows
 pub mod Shift
 pub mod Exponent
 pub mod Bins
+pub mod Reduced
+pub mod ScaledValue
+pub mod Answers
 pub mod PositiveFinite

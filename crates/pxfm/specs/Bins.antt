@@ -19,3 +19,8 @@ pub record NearOne (r : Float) (n d : ℕ) : Type 0 where
 -- The reduced argument of the significand m is m over this.
 abbrev pub unitOf : ℕ → ℕ
 unitOf m = cond (halved m) (2 ^ 53) (2 ^ 52)
+
+-- n / d lies from the root of 1/2 up to the root of 2: its square is at least 1/2 and below 2.
+pub record AroundOne (n d : ℕ) : Type 0 where
+  pub from : d * d ≤ 2 * (n * n)
+  pub to : n * n < 2 * (d * d)

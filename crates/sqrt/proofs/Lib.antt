@@ -8,4 +8,5 @@ pub mod Special
 pub mod Midpoints
 pub mod Counted
 pub mod Nearest
+pub mod Negative
 pub mod Cases

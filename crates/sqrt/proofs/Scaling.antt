@@ -103,29 +103,35 @@ value-mid x t h = go (eqb (suc x) 2047) (ne-eqb (suc x) 2047 (λ (e : suc x ≡ 
         subst (λ (c : Bool). HasValue (cond c (cond (eqb t 0) (inf false) nan) (odd 53 false (2 ^ 52 + t) x 1074)) false ((2 ^ 52 + t) * 2 ^ x) (2 ^ 1074))
         (sym e) (odd-sign 53 false (2 ^ 52 + t) x 1074)
 
+-- a pattern below 2 ^ 52
+pub pattern-low : (b : ℕ) → b / 2 ^ 52 ≡ 0 → HasValue (ofBits binary64 b) false (b % 2 ^ 52) (2 ^ 1074)
+pattern-low b E =
+    let t = b % 2 ^ 52 in
+    subst (λ (x : Float). HasValue x false t (2 ^ 1074)) (sym (fields b 0 t (omega arith) E refl))
+    (subst (λ (a : ℕ). HasValue (ofFields binary64 false 0 t) false a (2 ^ 1074)) (mul-one t) (value-low t))
+
+-- from there up to the infinity's
+pub pattern-mid : (b : ℕ) → b < 2047 * 2 ^ 52 → (b / 2 ^ 52 ≡ 0 → ⊥)
+    → HasValue (ofBits binary64 b) false ((b % 2 ^ 52 + 2 ^ 52) * 2 ^ (b / 2 ^ 52 - 1)) (2 ^ 1074)
+pattern-mid b B E =
+    let x = b / 2 ^ 52 - 1 in
+    let t = b % 2 ^ 52 in
+    let k : b / 2 ^ 52 ≡ suc x = omega arith in
+    let w : 2 ^ 52 + t ≡ t + 2 ^ 52 = omega arith in
+    subst (λ (y : Float). HasValue y false ((t + 2 ^ 52) * 2 ^ x) (2 ^ 1074)) (sym (fields b (suc x) t (omega arith) k refl))
+    (subst (λ (a : ℕ). HasValue (ofFields binary64 false (suc x) t) false (a * 2 ^ x) (2 ^ 1074)) w (value-mid x t (omega arith)))
+
 -- ---- the scaled significand of a pattern
 
 -- below 2 ^ 52
 pub scaled-low : (b q z : ℕ) → b / 2 ^ 52 ≡ 0 → IsScaled (b % 2 ^ 52 * 2 ^ 1074) q z → IsScaled (radicand binary64 (ofBits binary64 b)) q z
 scaled-low b q z E s =
-    subst (λ (n : ℕ). IsScaled n q z)
-    (sym
-    (radicand-of binary64 (ofBits binary64 b) (b % 2 ^ 52 * 2 ^ 0)
-    (subst (λ (x : Float). HasValue x false (b % 2 ^ 52 * 2 ^ 0) (2 ^ 1074)) (sym (fields b 0 (b % 2 ^ 52) (omega arith) E refl)) (value-low (b % 2 ^ 52)))
-    ∙ ap (λ (x : ℕ). x * 2 ^ 1074) (mul-one (b % 2 ^ 52))))
-    s
+    subst (λ (n : ℕ). IsScaled n q z) (sym (radicand-of binary64 (ofBits binary64 b) (b % 2 ^ 52) (pattern-low b E))) s
 
 -- from there up to the infinity's
 module _ (b : ℕ) (B : b < 2047 * 2 ^ 52) (E : b / 2 ^ 52 ≡ 0 → ⊥) where
   radicand-mid : radicand binary64 (ofBits binary64 b) ≡ (b % 2 ^ 52 + 2 ^ 52) * 2 ^ (b / 2 ^ 52 - 1) * 2 ^ 1074
-  radicand-mid =
-      let x = b / 2 ^ 52 - 1 in
-      let t = b % 2 ^ 52 in
-      let k : b / 2 ^ 52 ≡ suc x = omega arith in
-      let w : 2 ^ 52 + t ≡ t + 2 ^ 52 = omega arith in
-      radicand-of binary64 (ofBits binary64 b) ((t + 2 ^ 52) * 2 ^ x)
-      (subst (λ (y : Float). HasValue y false ((t + 2 ^ 52) * 2 ^ x) (2 ^ 1074)) (sym (fields b (suc x) t (omega arith) k refl))
-      (subst (λ (a : ℕ). HasValue (ofFields binary64 false (suc x) t) false (a * 2 ^ x) (2 ^ 1074)) w (value-mid x t (omega arith))))
+  radicand-mid = radicand-of binary64 (ofBits binary64 b) ((b % 2 ^ 52 + 2 ^ 52) * 2 ^ (b / 2 ^ 52 - 1)) (pattern-mid b B E)
 
   -- an even power of two, counted from the field e + 1019
   pub scaled-even : (b / 2 ^ 52 + 1019) % 2 ≡ 0 → IsScaled (radicand binary64 (ofBits binary64 b)) (b % 2 ^ 52 + 2 ^ 52) ((b / 2 ^ 52 + 1019) / 2)
