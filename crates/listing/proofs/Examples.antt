@@ -1,0 +1,56 @@
+-- Document 01's example listed, whole and cut to 32 bytes, a journal with a fault, and the empty one: computed from the definitions.
+-- Assumes nothing.
+use mathlib.Core.Path.{_≡_, refl}
+use mathlib.Core.List.{List, [], _∷_, _++_}
+use Prim.Native.Nat.{ℕ}
+use lib.ListN.{take, set}
+use lib.Ieee.{ofInt, ofBits, toBits, isNan, eq, add, mul, div}
+use Rattle.sqrt.specs.Sqrt.{sqrtIn}
+use Rattle.pxfm.specs.Inverfc.{fErfcinv}
+use Rattle.limit.specs.Times.{inRange, timeInRange, allInRange, timesInRange, sumOf, squaresOf}
+use Rattle.limit.specs.Formula.{meanOf, spreadBy, spreadOf, quantileOf, limitFrom, formulaOf}
+use Rattle.limit.specs.Limit.{chanceInRange, finiteOrRefused, judge, limitOf}
+use Rattle.hex.specs.Hex.{glyphOf, digits, orMore, placesIn, placesOf, decimalDigits}
+use Rattle.journal_spec.specs.Bytes.{valueOf, joined}
+use Rattle.journal_spec.specs.Refusals.{unless, outside}
+use Rattle.journal_spec.specs.Reader.{run, then}
+use Rattle.journal_spec.specs.Section.{items, section}
+use Rattle.journal_spec.specs.Record.{lastOf, judgeForm, judgeDay, nameSection, lastChance, judgeChance, chanceSection, timeSection}
+use Rattle.journal_spec.specs.Record.{judgeLimit, limitSection, recordReader}
+use Rattle.journal_spec.specs.Scan.{recordsOf, contentsFrom, contentsOf, statusOf}
+use Rattle.journal_spec.specs.Read.{letterOf, allEqual, areEqual, markOf}
+use Rattle.listing.specs.Listing.{spaced, lineOf, quotedLimit, quotedLimits, recordLine, wordWhole, wordTorn, wordDamaged}
+use Rattle.listing.specs.Listing.{stateLine, recordLines, listingOf}
+
+-- The 33 bytes of document 01.
+abbrev example : List ℕ
+example =
+    1 ∷ 0 ∷ 1 ∷ 0 ∷ 1 ∷ 0 ∷ 0x41 ∷ 1 ∷ 0 ∷ 0x20 ∷ 0xa1 ∷ 0x07 ∷ 0 ∷ 2 ∷ 0 ∷ 0x64 ∷ 0 ∷ 0 ∷ 0 ∷ 0x64 ∷ 0 ∷ 0 ∷ 0 ∷ 1 ∷ 0 ∷
+    0 ∷ 0 ∷ 0 ∷ 0 ∷ 0 ∷ 0 ∷ 0x59 ∷ 0x40 ∷ []
+
+-- `A 1 F 500000:4059000000000000`
+abbrev exampleLine : List ℕ
+exampleLine =
+    0x41 ∷ 0x20 ∷ 0x31 ∷ 0x20 ∷ 0x46 ∷ 0x20 ∷ 0x35 ∷ 0x30 ∷ 0x30 ∷ 0x30 ∷ 0x30 ∷ 0x30 ∷ 0x3a ∷
+    0x34 ∷ 0x30 ∷ 0x35 ∷ 0x39 ∷ 0x30 ∷ 0x30 ∷ 0x30 ∷ 0x30 ∷ 0x30 ∷ 0x30 ∷ 0x30 ∷ 0x30 ∷ 0x30 ∷ 0x30 ∷ 0x30 ∷ 0x30 ∷ 0x0a ∷ []
+
+pub record Examples : Type 0 where
+  -- and `whole 1 33`
+  pub whole-listed : listingOf example ≡ exampleLine ++ (0x77 ∷ 0x68 ∷ 0x6f ∷ 0x6c ∷ 0x65 ∷ 0x20 ∷ 0x31 ∷ 0x20 ∷ 0x33 ∷ 0x33 ∷ 0x0a ∷ [])
+  -- `torn 0 0`
+  pub cut-listed : listingOf (take 32 example) ≡ 0x74 ∷ 0x6f ∷ 0x72 ∷ 0x6e ∷ 0x20 ∷ 0x30 ∷ 0x20 ∷ 0x30 ∷ 0x0a ∷ []
+  -- `damaged 7 25`: the limit's lowest bit is set
+  pub fault-listed :
+      listingOf (set example 25 1) ≡ 0x64 ∷ 0x61 ∷ 0x6d ∷ 0x61 ∷ 0x67 ∷ 0x65 ∷ 0x64 ∷ 0x20 ∷ 0x37 ∷ 0x20 ∷ 0x32 ∷ 0x35 ∷ 0x0a ∷ []
+  -- `whole 0 0`
+  pub empty-listed : listingOf [] ≡ 0x77 ∷ 0x68 ∷ 0x6f ∷ 0x6c ∷ 0x65 ∷ 0x20 ∷ 0x30 ∷ 0x20 ∷ 0x30 ∷ 0x0a ∷ []
+
+pub listed-examples : Examples
+unfolding ofInt ofBits toBits isNan eq add mul div sqrtIn fErfcinv
+    inRange timeInRange allInRange timesInRange sumOf squaresOf meanOf spreadBy spreadOf quantileOf limitFrom formulaOf
+    chanceInRange finiteOrRefused judge limitOf glyphOf digits orMore placesIn placesOf decimalDigits
+    valueOf joined unless outside run then items section
+    lastOf judgeForm judgeDay nameSection lastChance judgeChance chanceSection timeSection judgeLimit limitSection recordReader
+    recordsOf contentsFrom contentsOf statusOf letterOf allEqual areEqual markOf
+    spaced lineOf quotedLimit quotedLimits recordLine wordWhole wordTorn wordDamaged stateLine recordLines listingOf
+listed-examples = record { whole-listed = refl; cut-listed = refl; fault-listed = refl; empty-listed = refl }

@@ -1,0 +1,3 @@
+-- Worked examples of the listing's text.
+-- Assumes nothing.
+pub mod Examples

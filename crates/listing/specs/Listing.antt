@@ -1,0 +1,70 @@
+-- The listing of a journal as bytes of text (document 01, Marks and listing): a line for each record, then the line of the end state.
+-- Numbers are decimal, limits 16 lowercase hexadecimal digits; single spaces stand between words, and byte 0a ends each line.
+use Prim.Native.Nat.{ℕ}
+use mathlib.Core.List.{List, [], _∷_, _++_, map}
+use mathlib.Core.Bool.{cond}
+use lib.ListN.{length}
+use lib.Dec.{eqb}
+use Rattle.hex.specs.Hex.{hexDigits, decimalDigits}
+use Rattle.journal_spec.specs.Bytes.{joined}
+use Rattle.journal_spec.specs.Record.{Record}
+use Rattle.journal_spec.specs.Scan.{Placed, recordsOf, Contents, standing, faulty, contentsOf, ScanResult, whole, torn, damaged, statusOf}
+use Rattle.journal_spec.specs.Read.{letterOf, markOf}
+
+-- A space, and the byte that ends a line.
+abbrev pub space : ℕ
+space = 0x20
+
+abbrev pub newline : ℕ
+newline = 0x0a
+
+-- Words by single spaces.
+unfoldable pub spaced : List (List ℕ) → List ℕ
+spaced [] = []
+spaced (w ∷ []) = w
+spaced (w ∷ v ∷ ws) = w ++ (space ∷ spaced (v ∷ ws))
+
+-- A line of words.
+unfoldable pub lineOf : List (List ℕ) → List ℕ
+lineOf ws = spaced ws ++ (newline ∷ [])
+
+-- `chance:limit`, the chance decimal and the limit as 16 hexadecimal digits.
+unfoldable pub quotedLimit : ℕ → ℕ → List ℕ
+quotedLimit chance limit = decimalDigits chance ++ (0x3a ∷ hexDigits 16 limit)
+
+-- Each chance with its limit.
+unfoldable pub quotedLimits : List ℕ → List ℕ → List (List ℕ)
+quotedLimits [] limits = []
+quotedLimits (c ∷ cs) [] = []
+quotedLimits (c ∷ cs) (l ∷ ls) = quotedLimit c l ∷ quotedLimits cs ls
+
+-- A record's line: name, day, mark, then `chance:limit` for each chance.
+unfoldable pub recordLine : Record → List ℕ
+recordLine r = lineOf (r .name ∷ decimalDigits (r .day) ∷ (letterOf (markOf (r .times)) ∷ []) ∷ quotedLimits (r .chances) (r .limits))
+
+-- The words `whole`, `torn` and `damaged`.
+unfoldable pub wordWhole : List ℕ
+wordWhole = 0x77 ∷ 0x68 ∷ 0x6f ∷ 0x6c ∷ 0x65 ∷ []
+
+unfoldable pub wordTorn : List ℕ
+wordTorn = 0x74 ∷ 0x6f ∷ 0x72 ∷ 0x6e ∷ []
+
+unfoldable pub wordDamaged : List ℕ
+wordDamaged = 0x64 ∷ 0x61 ∷ 0x6d ∷ 0x61 ∷ 0x67 ∷ 0x65 ∷ 0x64 ∷ []
+
+-- The line of the end state: its word, then the number of records and the committed length, or the fault's number and place.
+unfoldable pub stateLine : ScanResult → List ℕ
+stateLine (whole n committed) = lineOf (wordWhole ∷ decimalDigits n ∷ decimalDigits committed ∷ [])
+stateLine (torn n committed) = lineOf (wordTorn ∷ decimalDigits n ∷ decimalDigits committed ∷ [])
+stateLine (damaged n p) = lineOf (wordDamaged ∷ decimalDigits n ∷ decimalDigits p ∷ [])
+
+-- The records' lines; none where there is a fault.
+unfoldable pub recordLines : Contents → List ℕ
+recordLines (standing ps committed) = joined (map recordLine (recordsOf ps))
+recordLines (faulty n p) = []
+
+-- The listing of some bytes, all of them the journal.
+unfoldable pub listingOf : List ℕ → List ℕ
+listingOf bytes =
+    let c = contentsOf bytes (length bytes) in
+    recordLines c ++ stateLine (statusOf (length bytes) c)
