@@ -1,0 +1,123 @@
+-- The public functions' answers by what the pass over the journal answered.
+-- Assumes nothing.
+use mathlib.Core.Path.{_≡_, refl, sym, ap, _∙_}
+use Prim.Native.Nat.{ℕ, zero, suc, _+_, _-_, _≤_, _<_, min}
+use mathlib.Core.List.{List, [], _∷_}
+use mathlib.Core.Bool.{Bool, cond}
+use native.Mathlib.Omega.{arith}
+use lib.ListN.{length, take}
+use lib.Dec.{eqb}
+use Rattle.journal_spec.specs.Refusals.{lengthRefusal, absentRefusal}
+use Rattle.journal_spec.specs.Scan.{maxLength, Placed, standing, faulty, contentsOf, whole, torn, damaged, statusOf, scanOf}
+use Rattle.journal_spec.specs.Scan as Scan
+use Rattle.journal_spec.specs.Read.{noPart, partAt, partOf, partPlace, marked, unmarked, markOf, markAt, markIn, readMark}
+use Rattle.journal_spec.proofs.Scanning.{contents-long}
+use Rattle.journal_spec.proofs.RecordsLoop.{contents-part, mark-beyond}
+use Rattle.journal.specs.declared.Fault.{Fault}
+use Rattle.journal.specs.declared.record.Head.{Head}
+use Rattle.journal.specs.declared.contents.Shown.{Shown}
+use Rattle.journal.specs.declared.contents.Contents.{Contents}
+use Rattle.journal.specs.declared.contents.Contents.the-variants as C
+use Rattle.journal.specs.Contents.{shownOf, noneShown, shownAt, contentsRead, recordsRead}
+use Rattle.journal.specs.Answers.{markFrom}
+
+-- ---- the length
+
+pub contents-beyond : (v : List ℕ) (len i : ℕ) → min (length v) maxLength < len
+    → C.Damaged (record { number = lengthRefusal; place = 0 }) ≡ contentsRead i (contentsOf v len)
+unfolding contentsRead
+contents-beyond v len i h = rw (contents-long v len h)
+
+pub contents-within : (v : List ℕ) (len i : ℕ) → len ≤ length v → len ≤ maxLength → recordsRead i (take len v) ≡ contentsRead i (contentsOf v len)
+unfolding recordsRead
+contents-within v len i h k = ap (contentsRead i) (sym (contents-part v len h k))
+
+-- ---- the answer, taken back
+
+pub record Stood (k : Scan.Contents) (i records committed : ℕ) (shown : Shown) : Type 0 where
+  pub ps : List Placed
+  pub count : records ≡ length ps
+  pub seen : shown ≡ shownAt ps i
+  pub is : k ≡ standing ps committed
+
+stands-stood : (k : Scan.Contents) (i records committed : ℕ) (last : Head) (shown : Shown)
+    → C.Stands records committed last shown ≡ contentsRead i k → Stood k i records committed shown
+unfolding contentsRead
+stands-stood (standing ps e) i records committed last shown h =
+    let count : records ≡ length ps = cc in
+    let place : committed ≡ e = cc in
+    let seen : shown ≡ shownAt ps i = cc in
+    record { ps = ps; count = count; seen = seen; is = ap (standing ps) (sym place) }
+stands-stood (faulty n p) i records committed last shown h = let z : _≡_ {A = ℕ} 0 1 = cc in absurd (omega arith)
+
+damaged-faulty : (k : Scan.Contents) (i : ℕ) (f : Fault) → C.Damaged f ≡ contentsRead i k → k ≡ faulty (f .number) (f .place)
+unfolding contentsRead
+damaged-faulty (standing ps e) i f h = let z : _≡_ {A = ℕ} 0 1 = cc in absurd (omega arith)
+damaged-faulty (faulty n p) i f h =
+    let e : record { number = n; place = p } ≡ f = cc in ap (λ (y : Fault). faulty (y .number) (y .place)) e
+
+-- ---- the parts and marks that are shown
+
+shown-part : (ps : List Placed) (i : ℕ) → record { start = shownAt ps i .start; size = shownAt ps i .size } ≡ partAt ps i
+unfolding shownAt partAt shownOf noneShown noPart
+shown-part [] i = refl
+shown-part (p ∷ ps) zero = refl
+shown-part (p ∷ ps) (suc i) = shown-part ps i
+
+shown-mark : (ps : List Placed) (i : ℕ) → i < length ps → marked (markFrom (shownAt ps i .flat) (shownAt ps i .times)) ≡ markAt ps i
+unfolding shownAt markAt shownOf markFrom markOf
+shown-mark [] i h = absurd (omega arith)
+shown-mark (p ∷ ps) zero h = refl
+shown-mark (p ∷ ps) (suc i) h = shown-mark ps i (omega arith)
+
+-- ---- the answers
+
+scan-placed : (ps : List Placed) (records committed len : ℕ) → records ≡ length ps
+    → cond (eqb committed len) (whole records committed) (torn records committed) ≡ statusOf len (standing ps committed)
+unfolding statusOf
+scan-placed ps records committed len e = rw e
+
+part-placed : (ps : List Placed) (i : ℕ) (shown : Shown) → shown ≡ shownAt ps i → record { start = shown .start; size = shown .size } ≡ partAt ps i
+part-placed ps i shown e = rw e (shown-part ps i)
+
+mark-placed : (ps : List Placed) (i : ℕ) (shown : Shown) → shown ≡ shownAt ps i → i < length ps
+    → marked (markFrom (shown .flat) (shown .times)) ≡ markAt ps i
+mark-placed ps i shown e h = rw e (shown-mark ps i h)
+
+module _ (v : List ℕ) (len i : ℕ) (x : Contents) (read : x ≡ contentsRead i (contentsOf v len)) where
+  module _ (records committed : ℕ) (last : Head) (shown : Shown) (told : x ≡ C.Stands records committed last shown) where
+    stood : Stood (contentsOf v len) i records committed shown
+    stood = stands-stood (contentsOf v len) i records committed last shown (sym told ∙ read)
+
+    pub scan-stands : cond (eqb committed len) (whole records committed) (torn records committed) ≡ scanOf v len
+    unfolding scanOf
+    scan-stands = scan-placed (stood .ps) records committed len (stood .count) ∙ ap (statusOf len) (sym (stood .is))
+
+    pub part-stands : record { start = shown .start; size = shown .size } ≡ partPlace v len i
+    unfolding partPlace partOf
+    part-stands = part-placed (stood .ps) i shown (stood .seen) ∙ ap (λ k. partOf k i) (sym (stood .is))
+
+    pub mark-stands : i < records → marked (markFrom (shown .flat) (shown .times)) ≡ readMark v len i
+    unfolding readMark markIn
+    mark-stands h =
+        mark-placed (stood .ps) i shown (stood .seen) (omega (arith, stood .count)) ∙ ap (λ k. markIn k i) (sym (stood .is))
+
+    pub mark-absent : records ≤ i → unmarked absentRefusal ≡ readMark v len i
+    unfolding readMark markIn
+    mark-absent h = sym (mark-beyond (stood .ps) i (omega (arith, stood .count))) ∙ ap (λ k. markIn k i) (sym (stood .is))
+
+  module _ (f : Fault) (told : x ≡ C.Damaged f) where
+    is : contentsOf v len ≡ faulty (f .number) (f .place)
+    is = damaged-faulty (contentsOf v len) i f (sym told ∙ read)
+
+    pub scan-damaged : damaged (f .number) (f .place) ≡ scanOf v len
+    unfolding scanOf statusOf
+    scan-damaged = rw is
+
+    pub part-damaged : noPart ≡ partPlace v len i
+    unfolding partPlace partOf
+    part-damaged = rw is
+
+    pub mark-damaged : unmarked (f .number) ≡ readMark v len i
+    unfolding readMark markIn
+    mark-damaged = rw is

@@ -1,0 +1,109 @@
+-- The loop over a rule's numbers: after some of them the least value of the next one and the sums are those of the numbers passed.
+-- The start, one more number, and the three ways to end. Assumes nothing.
+use mathlib.Core.Path.{_≡_, refl, sym, ap, _∙_}
+use Prim.Native.Nat.{ℕ, zero, suc, _+_, _-_, _≤_, _<_}
+use mathlib.Core.List.{List, [], _∷_, _++_}
+use mathlib.Core.Bool.{Bool, true, false}
+use native.Mathlib.Omega.{arith}
+use lib.ListN.{length, drop}
+use Rattle.limit.specs.declared.sums.Sums.{Sums}
+use Rattle.limit.specs.Times.{minTicks, maxTicks, maxCount, timeInRange, allInRange, sumOf, squaresOf}
+use Rattle.limit.specs.Sums.{sumsOf, noTimes, addTime}
+use Rattle.limit.proofs.InRange.{both, inside}
+use Rattle.limit.proofs.Bounds.{head-in-range, tail-in-range}
+use Rattle.limit.proofs.Adding.{add-one-time}
+use Rattle.journal_spec.specs.Reader.{run}
+use Rattle.journal_spec.specs.Section.{items}
+use Rattle.journal_spec.proofs.FieldAt.{Items, items-start, items-end}
+use Rattle.journal.specs.declared.Fault.{Fault}
+use Rattle.journal.specs.declared.field.FieldRead.the-variants as F
+use Rattle.journal.specs.declared.section.SectionRead.the-variants as S
+use Rattle.journal.specs.Rules.{leastNext, leastAfter, itemRefusal}
+use Rattle.journal.specs.Found.{fieldBy, fieldAt, sectionRead}
+use Rattle.journal.proofs.Fields.{afterField, field-value}
+use Rattle.journal.proofs.Items.{items-answer, items-more}
+
+-- ---- one number more at the end of a list
+
+pub all-append : (ts : List ℕ) (t : ℕ) → allInRange ts ≡ true → timeInRange t ≡ true → allInRange (ts ++ t ∷ []) ≡ true
+unfolding allInRange
+all-append [] t e d = both d refl
+all-append (u ∷ ts) t e d = both (head-in-range u ts e) (all-append ts t (tail-in-range u ts e) d)
+
+pub time-between : (t : ℕ) → minTicks ≤ t → t ≤ maxTicks → timeInRange t ≡ true
+unfolding timeInRange
+time-between t h k = inside minTicks maxTicks t h k
+
+pub least-append : (rising : Bool) (low : ℕ) (xs : List ℕ) (x : ℕ)
+    → leastAfter rising low (xs ++ x ∷ []) ≡ leastNext rising (leastAfter rising low xs) x
+unfolding leastAfter
+least-append rising low [] x = refl
+least-append rising low (y ∷ xs) x = least-append rising (leastNext rising low y) xs x
+
+least-positive : (rising : Bool) (low x : ℕ) → minTicks ≤ low → minTicks ≤ leastNext rising low x
+unfolding leastNext
+least-positive true low x h = omega arith
+least-positive false low x h = h
+
+-- ---- the loop
+
+-- `left` of n numbers are still to be read from the place p on
+pub record Numbering (b : List ℕ) (at n w high : ℕ) (rising : Bool) (refusal first low : ℕ) (sums : Sums) (p left : ℕ) : Type 0 where
+  pub before : List ℕ
+  pub passed : Items w (itemRefusal rising first high refusal) n at b left before p
+  pub next : low ≡ leastAfter rising first before
+  pub positive : minTicks ≤ low
+  pub total : sums ≡ sumsOf before
+  pub each : allInRange before ≡ true
+
+module _ (b : List ℕ) (at n w high : ℕ) (rising : Bool) (refusal first : ℕ) where
+  pub numbering-start : at ≤ length b → minTicks ≤ first → Numbering b at n w high rising refusal first first noTimes at n
+  unfolding leastAfter sumsOf noTimes sumOf squaresOf allInRange
+  numbering-start h k = record {
+    before = [];
+    passed = items-start w (itemRefusal rising first high refusal) n at b h;
+    next = refl;
+    positive = k;
+    total = refl;
+    each = refl;
+  }
+
+  module _ (low : ℕ) (sums : Sums) (p left : ℕ) (g : Numbering b at n w high rising refusal first low sums p left) where
+    -- no number is left
+    pub numbering-end : left ≡ 0 → S.Read p sums ≡ sectionRead (run (items w (itemRefusal rising first high refusal) n []) at (drop at b))
+    unfolding sectionRead
+    numbering-end e =
+        rw (items-end w (itemRefusal rising first high refusal) n at b left (g .before) p (g .passed) e, g .total)
+
+    -- the field's range is that of the next number
+    same : fieldAt w low high refusal p b ≡ fieldBy w (itemRefusal rising first high refusal (g .before)) p b
+    unfolding itemRefusal
+    same = rw (g .next)
+
+    pub numbering-short : 0 < left → F.Short ≡ fieldAt w low high refusal p b
+        → S.Short ≡ sectionRead (run (items w (itemRefusal rising first high refusal) n []) at (drop at b))
+    unfolding sectionRead afterField
+    numbering-short pos e =
+        rw (items-answer w (itemRefusal rising first high refusal) n at b left (g .before) p (g .passed) pos F.Short (e ∙ same))
+
+    pub numbering-refused : (f : Fault) → 0 < left → F.Refused f ≡ fieldAt w low high refusal p b
+        → S.Refused f ≡ sectionRead (run (items w (itemRefusal rising first high refusal) n []) at (drop at b))
+    unfolding sectionRead afterField
+    numbering-refused f pos e =
+        rw (items-answer w (itemRefusal rising first high refusal) n at b left (g .before) p (g .passed) pos (F.Refused f) (e ∙ same))
+
+    pub numbering-more : (x : ℕ) → 0 < left → 0 < refusal → high ≤ maxTicks → n ≤ maxCount → F.Value x ≡ fieldAt w low high refusal p b
+        → Numbering b at n w high rising refusal first (leastNext rising low x) (addTime sums x) (p + w) (left - 1)
+    numbering-more x pos some small few e =
+        let v = field-value w low high refusal p b x some e in
+        let good = time-between x (omega (arith, v .least, g .positive)) (omega (arith, v .most)) in
+        let room : length (g .before) < maxCount = omega (arith, g .passed .count) in
+        record {
+          before = g .before ++ x ∷ [];
+          passed =
+              items-more w (itemRefusal rising first high refusal) n at b left (g .before) p (g .passed) pos x (e ∙ same);
+          next = sym (least-append rising first (g .before) x ∙ ap (λ (l : ℕ). leastNext rising l x) (sym (g .next)));
+          positive = least-positive rising low x (g .positive);
+          total = rw (g .total) (add-one-time (g .before) x (g .each) room (omega (arith, v .most)));
+          each = all-append (g .before) x (g .each) good;
+        }

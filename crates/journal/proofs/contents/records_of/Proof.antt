@@ -1,0 +1,83 @@
+-- `records_of` reads one record a turn: its loop keeps the count, the last record and what is asked of record i.
+-- The measure is what is left of the bytes, since a record takes some. Assumes nothing.
+use mathlib.Core.Path.{_≡_}
+use Prim.Native.Nat.{_-_}
+use native.Mathlib.Omega.{arith}
+use borrow.Author.Needs.{needs}
+use lib.ListN.{length}
+use denote.Ref.{now}
+use Rattle.journal.proofs.Counting.{Counting, Counted, counting-start, counting-short, counting-refused, counting-more}
+use Rattle.journal.proofs.contents.records_of.Statement.{statement}
+use Rattle.journal.proofs.contents.records_of.Tie as tie
+
+abbrev Inv-loop : tie.InvT-loop
+Inv-loop b i records₀ at₀ last₀ shown₀ records at last shown = Counting b i records at last shown
+
+abbrev μ-loop : tie.MeasureT-loop
+μ-loop b i records₀ at₀ last₀ shown₀ records at last shown = length b - at
+
+loop-holds : tie.Need-loop-holds Inv-loop μ-loop
+loop-holds c = counting-start (now (c .before .args .b)) (c .before .args .i)
+
+record-at-requires : tie.Need-record-at-requires Inv-loop μ-loop
+record-at-requires c κs = c .loop .inv .going .inside
+
+-- where a record was read
+counted : (c : tie.After-known-told Inv-loop μ-loop)
+    → Counted (now (c .before .before .before .before .before .before .args .b)) (c .before .before .before .before .before .before .args .i)
+    (c .before .before .before .before .loop .records) (c .before .before .before .before .loop .at)
+    (c .before .before .before .before .loop .shown) (c .before .x .given .0 .0)
+counted c =
+    let read = c .before .before .before in
+    let l = read .before .loop in
+    let a = read .before .before .before .args in
+    counting-more (now (a .b)) (a .i) (l .records) (l .at) (l .last) (l .shown) (l .inv)
+    (read .record-at .result) (read .record-at .ensures) (c .before .x .given .0 .0) (c .before .x .given .1)
+
+shown-next-requires : tie.Need-shown-next-requires Inv-loop μ-loop
+shown-next-requires c κs = omega (arith, counted c .later)
+
+add-records : tie.Need-add-records Inv-loop μ-loop
+add-records c =
+    let l = c .before .before .before .before .before .loop in
+    omega (arith, l .inv .count, l .inv .going .few, l .inv .going .inside)
+
+loop-less : tie.Need-loop-less Inv-loop μ-loop
+loop-less c = omega (arith, counted (c .before) .later, counted (c .before) .there)
+
+loop-again : tie.Need-loop-again Inv-loop μ-loop
+loop-again c = rw (c .shown-next .ensures) (counted (c .before) .counting)
+
+returns : tie.Need-returns Inv-loop μ-loop
+returns c =
+    let read = c .before .before in
+    let l = read .before .loop in
+    let a = read .before .before .before .args in
+    counting-short (now (a .b)) (a .i) (l .records) (l .at) (l .last) (l .shown) (l .inv)
+    (read .record-at .result) (read .record-at .ensures) (c .enum-told .given .1)
+
+returns-2 : tie.Need-returns-2 Inv-loop μ-loop
+returns-2 c =
+    let read = c .before .before .before in
+    let l = read .before .loop in
+    let a = read .before .before .before .args in
+    counting-refused (now (a .b)) (a .i) (l .records) (l .at) (l .last) (l .shown) (l .inv)
+    (read .record-at .result) (read .record-at .ensures) (c .before .x2 .given .0 .0) (c .before .x2 .given .1)
+
+pub records-of-spec : {M : Type 1} → statement M
+records-of-spec =
+    tie.close
+    (tie.spec
+    Inv-loop
+    μ-loop
+    loop-holds
+    record-at-requires
+    (λ c. search needs)
+    shown-next-requires
+    add-records
+    loop-less
+    loop-again
+    (λ c. search needs)
+    returns
+    (λ c. search needs)
+    returns-2)

@@ -1,0 +1,43 @@
+-- `limits_part` reads the limits by the place of the chances and the sums of the times, and keeps what the answer needs.
+-- Assumes nothing.
+use mathlib.Core.Path.{_∙_}
+use borrow.Author.Needs.{needs}
+use denote.Ref.{now}
+use Rattle.journal.proofs.LimitsPart.{limits-part-short, limits-part-refused, limits-part-read}
+use Rattle.journal.proofs.record.limits_part.Statement.{statement}
+use Rattle.journal.proofs.record.limits_part.Tie as tie
+
+returns : tie.Need-returns
+returns c = λ name list times stand good total.
+    let read = c .before .before .before in
+    let a = read .before .before .before .args in
+    rw (read .before .all-equal .ensures)
+    (limits-part-read (now (a .b)) (a .chances) (a .n) (a .sums) list times stand good total (a .at) (a .head .form) (a .head .day) name
+    (read .limit-section-at .result) (read .limit-section-at .ensures) (c .before .x .given .0 .0) (c .before .x .given .1))
+
+returns-2 : tie.Need-returns-2
+returns-2 c = λ name list times stand good total.
+    let read = c .before .before in
+    let a = read .before .before .before .args in
+    limits-part-short (now (a .b)) (a .chances) (a .n) (a .sums) list times stand good total (a .at) (a .head .form) (a .head .day) name
+    (read .limit-section-at .result) (read .limit-section-at .ensures) (c .enum-told .given .1)
+
+returns-3 : tie.Need-returns-3
+returns-3 c = λ name list times stand good total.
+    let read = c .before .before .before in
+    let a = read .before .before .before .args in
+    limits-part-refused (now (a .b)) (a .chances) (a .n) (a .sums) list times stand good total (a .at) (a .head .form) (a .head .day) name
+    (read .limit-section-at .result) (read .limit-section-at .ensures) (c .before .x2 .given .0 .0) (c .before .x2 .given .1)
+
+pub limits-part-spec : {M : Type 1} → statement M
+limits-part-spec =
+    tie.close
+    (tie.spec
+    (λ c κs. search needs)
+    (λ c κs. search needs)
+    (λ c. search needs)
+    (λ c. search needs)
+    (λ c. search needs)
+    returns
+    returns-2
+    returns-3)

@@ -1,0 +1,33 @@
+-- What the public functions answer, in document 01's words: its word, number and values for each case of the code's answers.
+use Prim.Native.Nat.{ℕ}
+use mathlib.Core.Bool.{Bool, cond}
+use lib.Dec.{ltb}
+use Rattle.journal_spec.specs.Scan.{ScanResult, whole, torn, damaged}
+use Rattle.journal_spec.specs.Read.{Mark, flat, few, normal, fewTimes, MarkResult, marked, unmarked}
+use Rattle.journal_spec.specs.Read as Read
+use Rattle.journal.specs.declared.Status.{Status}
+use Rattle.journal.specs.declared.Status.the-variants as S
+use Rattle.journal.specs.declared.Part.{Part}
+use Rattle.journal.specs.declared.Marked.{Marked}
+use Rattle.journal.specs.declared.Marked.the-variants as M
+
+-- document 01's answer of a survey for each case of scan's
+unfoldable pub meaning : Status → ScanResult
+meaning (S.Whole records committed) = whole records committed
+meaning (S.Torn records committed) = torn records committed
+meaning (S.Damaged f) = damaged (f .number) (f .place)
+
+-- a part of the slice
+unfoldable pub partMeaning : Part → Read.Part
+partMeaning p = record { start = p .start; size = p .size }
+
+-- document 01's mark, or the refusal's number, for each case of the mark's answer
+unfoldable pub markMeaning : Marked → MarkResult
+markMeaning M.Flat = marked flat
+markMeaning M.Few = marked few
+markMeaning M.Normal = marked normal
+markMeaning (M.Refused n) = unmarked n
+
+-- the mark of so many times, by whether they are all equal
+unfoldable pub markFrom : Bool → ℕ → Mark
+markFrom equal times = cond equal flat (cond (ltb times fewTimes) few normal)

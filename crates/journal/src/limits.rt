@@ -1,0 +1,82 @@
+// The limits of a record, as many as its chances: each is worked out once, from the sums of the times at its chance,
+// and the bits that stand have to be its own.
+ghost use mathlib.Core.Path.{_≡_};
+ghost use Prim.Native.Nat.{_+_, _*_, _≤_};
+ghost use lib.ListN.{length};
+ghost use Rattle.journal.specs.Found.{fieldBy, limitRefusalAt, limitsAt, limitSectionAt};
+use crate::Fault;
+use crate::field::FieldRead;
+use crate::field::field_at;
+use crate::number::number_at;
+use limit::Answer;
+use limit::FINITE_REFUSAL;
+use limit::sums::Sums;
+
+// Document 01's number for a count of limits or the bits of a limit that are not the record's own.
+pub(crate) const LIMIT_REFUSAL: u32 = 7;
+
+// The place after the limits; that the bytes run out in them; or their refusal.
+pub(crate) enum LimitsRead {
+    Next(usize),
+    Short,
+    Refused(Fault),
+}
+
+// The limits' section at a place, for n chances that stand from another place on and times with these sums.
+pub(crate) fn limit_section_at(
+    b: &[u8],
+    at: usize,
+    n: u64,
+    chances: usize,
+    sums: Sums,
+) -> LimitsRead
+    requires { ⌜ (at ≤ length (now b)) × (chances + n * 4 ≤ length (now b)) ⌝ }
+    ensures { λ r. ⌜ r ≡ limitSectionAt n chances sums at (now (b .entry)) ⌝ }
+{
+    let count = field_at(b, at, 2, n, n, LIMIT_REFUSAL);
+    match count {
+        FieldRead::Value(_) => limits_at(b, at + 2, n, chances, sums),
+        FieldRead::Short => LimitsRead::Short,
+        FieldRead::Refused(f) => LimitsRead::Refused(f),
+    }
+}
+
+// The n limits at a place.
+fn limits_at(b: &[u8], at: usize, n: u64, chances: usize, sums: Sums) -> LimitsRead
+    requires { ⌜ (at ≤ length (now b)) × (chances + n * 4 ≤ length (now b)) ⌝ }
+    ensures { λ r. ⌜ r ≡ limitsAt n chances sums at (now (b .entry)) ⌝ }
+{
+    let mut p = at;
+    let mut chance = chances;
+    let mut left = n;
+    while 0 < left {
+        let x = limit_at(b, p, chance, sums);
+        match x {
+            FieldRead::Value(_) => {
+                p += 8;
+                chance += 4;
+                left -= 1;
+            }
+            FieldRead::Short => return LimitsRead::Short,
+            FieldRead::Refused(f) => return LimitsRead::Refused(f),
+        }
+    }
+    LimitsRead::Next(p)
+}
+
+// The limit at a place, against the one worked out for the chance that stands at another. Where that one is not finite,
+// no bits are right.
+fn limit_at(b: &[u8], at: usize, chance: usize, sums: Sums) -> FieldRead
+    requires { ⌜ (at ≤ length (now b)) × (chance + 4 ≤ length (now b)) ⌝ }
+    ensures { λ r. ⌜ r ≡ fieldBy 8 (limitRefusalAt (now (b .entry)) sums chance) at (now (b .entry)) ⌝ }
+{
+    let c = number_at(b, chance, 4);
+    let worked = limit::limit_of_sums(sums, c as u32);
+    match worked {
+        Answer::Limit(x) => {
+            let bits = sqrt::bits::bits_of(x);
+            field_at(b, at, 8, bits, bits, LIMIT_REFUSAL)
+        }
+        Answer::Refused(_) => field_at(b, at, 8, 1, 0, FINITE_REFUSAL),
+    }
+}

@@ -1,0 +1,20 @@
+// A number in the bytes of a slice, the lowest byte first.
+// One function serves every width, so that the byte order is in one place.
+ghost use mathlib.Core.Path.{_≡_};
+ghost use Prim.Native.Nat.{_+_, _^_, _≤_, _<_};
+ghost use lib.ListN.{length};
+ghost use Rattle.journal_spec.specs.Bytes.{numberAt};
+
+// The number in the w bytes at a place.
+pub(crate) fn number_at(b: &[u8], at: usize, w: usize) -> u64
+    requires { ⌜ (at + w ≤ length (now b)) × (w ≤ 8) ⌝ }
+    ensures { λ r. ⌜ (r ≡ numberAt w at (now (b .entry))) × (r < 256 ^ w) ⌝ }
+{
+    let mut value: u64 = 0;
+    let mut j = w;
+    while 0 < j {
+        j -= 1;
+        value = value * 256 + b[at + j] as u64;
+    }
+    value
+}

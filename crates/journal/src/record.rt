@@ -1,0 +1,196 @@
+// A record, document 01's leaf, read at a place in one pass: form, day, name, chances, times and limits in byte order.
+// Each part is a function that reads its own fields and goes on to the next part.
+ghost use mathlib.Core.Path.{_≡_};
+ghost use mathlib.Core.Bool.{true};
+ghost use mathlib.Core.List.{List};
+ghost use Prim.Native.Nat.{ℕ, _+_, _*_, _≤_};
+ghost use lib.Dec.{eqb};
+ghost use lib.ListN.{length, drop};
+ghost use Rattle.limit.specs.Times.{timesInRange};
+ghost use Rattle.limit.specs.Sums.{sumsOf, isPlausible};
+ghost use Rattle.journal_spec.specs.Reader.{run};
+ghost use Rattle.journal_spec.specs.Stages.{dayStage, nameStage, chanceStage, timeStage, limitStage};
+ghost use Rattle.journal.specs.Records.{asLast, recordRead, recordAt, Stands};
+use crate::Fault;
+use crate::field::FieldRead;
+use crate::field::field_at;
+use crate::limits::LimitsRead;
+use crate::limits::limit_section_at;
+use crate::section::Rule;
+use crate::section::SectionRead;
+use crate::section::section_at;
+use limit::CHANCE_REFUSAL;
+use limit::MAX_CHANCE;
+use limit::MIN_CHANCE;
+use limit::TIMES_REFUSAL;
+use limit::sums::MAX_COUNT;
+use limit::sums::MAX_TICKS;
+use limit::sums::MIN_COUNT;
+use limit::sums::MIN_TICKS;
+use limit::sums::Sums;
+
+// The one form there is, and the greatest day.
+const FORM: u64 = 1;
+
+const MAX_DAY: u64 = 65_535;
+
+// Document 01's numbers for a form that is not 1 and for a day below that of the record before.
+const FORM_REFUSAL: u32 = 2;
+
+const DAY_REFUSAL: u32 = 3;
+
+// The name: 1 to 32 bytes, each 21 to 7e.
+const NAME: Rule = Rule {
+    width: 1,
+    least: 1,
+    most: 32,
+    low: 0x21,
+    high: 0x7e,
+    rising: false,
+    refusal: 4,
+};
+
+// The chances: 1 to 8, in range, rising strictly.
+const CHANCES: Rule = Rule {
+    width: 4,
+    least: 1,
+    most: 8,
+    low: MIN_CHANCE,
+    high: MAX_CHANCE,
+    rising: true,
+    refusal: CHANCE_REFUSAL,
+};
+
+// The times: 2 to 128, in range.
+const TIMES: Rule = Rule {
+    width: 4,
+    least: MIN_COUNT,
+    most: MAX_COUNT,
+    low: MIN_TICKS,
+    high: MAX_TICKS,
+    rising: false,
+    refusal: TIMES_REFUSAL,
+};
+
+// Form and day of a record: what the reader of the next record knows of it.
+pub(crate) struct Head {
+    pub form: u64,
+    pub day: u64,
+}
+
+// A record that was read: the place after it, its form and day, whether its times are all equal, and how many they are.
+pub(crate) struct Entry {
+    pub next: usize,
+    pub form: u64,
+    pub day: u64,
+    pub flat: bool,
+    pub times: u64,
+}
+
+// The record; that the bytes run out in it; or its first refusal.
+pub(crate) enum RecordRead {
+    Read(Entry),
+    Short,
+    Refused(Fault),
+}
+
+// The record at a place, after the record `last`.
+pub(crate) fn record_at(b: &[u8], at: usize, last: Head) -> RecordRead
+    requires { ⌜ at ≤ length (now b) ⌝ }
+    ensures { λ r. ⌜ r ≡ recordAt last at (now (b .entry)) ⌝ }
+{
+    let x = field_at(b, at, 2, FORM, FORM, FORM_REFUSAL);
+    match x {
+        FieldRead::Value(form) => day_part(b, at + 2, last, form),
+        FieldRead::Short => RecordRead::Short,
+        FieldRead::Refused(f) => RecordRead::Refused(f),
+    }
+}
+
+// The record from its day on.
+fn day_part(b: &[u8], at: usize, last: Head, form: u64) -> RecordRead
+    requires { ⌜ at ≤ length (now b) ⌝ }
+    ensures { λ r. ⌜ r ≡ recordRead (run (dayStage (asLast last) form) at (drop at (now (b .entry)))) ⌝ }
+{
+    let x = field_at(b, at, 2, last.day, MAX_DAY, DAY_REFUSAL);
+    match x {
+        FieldRead::Value(day) => name_part(b, at + 2, Head { form, day }),
+        FieldRead::Short => RecordRead::Short,
+        FieldRead::Refused(f) => RecordRead::Refused(f),
+    }
+}
+
+// The record from its name on.
+fn name_part(b: &[u8], at: usize, head: Head) -> RecordRead
+    requires { ⌜ at ≤ length (now b) ⌝ }
+    ensures { λ r. ⌜ r ≡ recordRead (run (nameStage (head .form) (head .day)) at (drop at (now (b .entry)))) ⌝ }
+{
+    let x = section_at(b, at, NAME);
+    match x {
+        SectionRead::Read { next, sums: _ } => chances_part(b, next, head),
+        SectionRead::Short => RecordRead::Short,
+        SectionRead::Refused(f) => RecordRead::Refused(f),
+    }
+}
+
+// The record from its chances on. Their place and number are handed on, since each limit is worked out at its chance.
+fn chances_part(b: &[u8], at: usize, head: Head) -> RecordRead
+    requires { ⌜ at ≤ length (now b) ⌝ }
+    ensures { λ r. ⌜ ((name : List ℕ) → r ≡ recordRead (run (chanceStage (head .form) (head .day) name) at (drop at (now (b .entry))))) ⌝ }
+{
+    let x = section_at(b, at, CHANCES);
+    match x {
+        SectionRead::Read { next, sums } => times_part(b, next, head, at + 2, sums.count),
+        SectionRead::Short => RecordRead::Short,
+        SectionRead::Refused(f) => RecordRead::Refused(f),
+    }
+}
+
+// The record from its times on, with n chances from a place on.
+fn times_part(b: &[u8], at: usize, head: Head, chances: usize, n: u64) -> RecordRead
+    requires { ⌜ (at ≤ length (now b)) × (chances + n * 4 ≤ length (now b)) ⌝ }
+    ensures { λ r. ⌜ ((name list : List ℕ) → Stands (now (b .entry)) chances n list
+        → r ≡ recordRead (run (timeStage (head .form) (head .day) name list) at (drop at (now (b .entry))))) ⌝ }
+{
+    let x = section_at(b, at, TIMES);
+    match x {
+        SectionRead::Read { next, sums } => limits_part(b, next, head, chances, n, sums),
+        SectionRead::Short => RecordRead::Short,
+        SectionRead::Refused(f) => RecordRead::Refused(f),
+    }
+}
+
+// The record from its limits on, with the sums of its times.
+fn limits_part(b: &[u8], at: usize, head: Head, chances: usize, n: u64, sums: Sums) -> RecordRead
+    requires { ⌜ (at ≤ length (now b)) × (chances + n * 4 ≤ length (now b)) × (isPlausible sums ≡ true) ⌝ }
+    ensures { λ r. ⌜ ((name list times : List ℕ) → Stands (now (b .entry)) chances n list → timesInRange times ≡ true → sums ≡ sumsOf times
+        → r ≡ recordRead (run (limitStage (head .form) (head .day) name list times) at (drop at (now (b .entry))))) ⌝ }
+{
+    let form = head.form;
+    let day = head.day;
+    let flat = all_equal(sums);
+    let times = sums.count;
+    let x = limit_section_at(b, at, n, chances, sums);
+    match x {
+        LimitsRead::Next(next) => RecordRead::Read(Entry {
+            next,
+            form,
+            day,
+            flat,
+            times,
+        }),
+        LimitsRead::Short => RecordRead::Short,
+        LimitsRead::Refused(f) => RecordRead::Refused(f),
+    }
+}
+
+// Whether times with these sums are all equal: exactly then document 01's D is 0.
+fn all_equal(s: Sums) -> bool
+    requires { ⌜ isPlausible s ≡ true ⌝ }
+    ensures { λ r. ⌜ r ≡ eqb (s .count * s .squares) (s .sum * s .sum) ⌝ }
+{
+    let n = s.count;
+    let sum = s.sum;
+    let squares = s.squares;
+    n * squares == sum * sum
+}
