@@ -1,9 +1,9 @@
 -- The public functions' answers by what the pass over the journal answered.
 -- Assumes nothing.
 use mathlib.Core.Path.{_≡_, refl, sym, ap, _∙_}
-use Prim.Native.Nat.{ℕ, zero, suc, _+_, _-_, _≤_, _<_, min}
+use Prim.Native.Nat.{ℕ, zero, suc, _-_, _≤_, _<_, min}
 use mathlib.Core.List.{List, [], _∷_}
-use mathlib.Core.Bool.{Bool, cond}
+use mathlib.Core.Bool.{cond}
 use native.Mathlib.Omega.{arith}
 use lib.ListN.{length, take}
 use lib.Dec.{eqb}
@@ -28,7 +28,8 @@ pub contents-beyond : (v : List ℕ) (len i : ℕ) → min (length v) maxLength 
 unfolding contentsRead
 contents-beyond v len i h = rw (contents-long v len h)
 
-pub contents-within : (v : List ℕ) (len i : ℕ) → len ≤ length v → len ≤ maxLength → recordsRead i (take len v) ≡ contentsRead i (contentsOf v len)
+pub contents-within : (v : List ℕ) (len i : ℕ) → len ≤ length v → len ≤ maxLength
+    → recordsRead i (take len v) ≡ contentsRead i (contentsOf v len)
 unfolding recordsRead
 contents-within v len i h k = ap (contentsRead i) (sym (contents-part v len h k))
 

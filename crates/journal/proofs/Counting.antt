@@ -9,8 +9,8 @@ use lib.ListN.{length, drop, length-append}
 use lib.Dec.{eqb}
 use borrow.Author.Tests.{eqb-true, eqb-false}
 use Rattle.journal_spec.specs.Reader.{Found, found, fault, short, run}
-use Rattle.journal_spec.specs.Record.{Record, Last, lastOf, recordReader}
-use Rattle.journal_spec.specs.Scan.{Placed, recordsOf, standing, faulty, contentsFrom}
+use Rattle.journal_spec.specs.Record.{Record, lastOf, recordReader}
+use Rattle.journal_spec.specs.Scan.{Placed, recordsOf}
 use Rattle.journal_spec.proofs.RecordsLoop.{Going, going-start, going-short, going-fault, going-found, last-placed}
 use Rattle.journal.specs.declared.Fault.{Fault}
 use Rattle.journal.specs.declared.record.Head.{Head}

@@ -8,7 +8,7 @@ use lib.ListN.{length, take, drop, length-drop}
 use lib.Seq.{drop-drop}
 use Rattle.journal_spec.specs.Bytes.{valueOf, numberAt}
 use Rattle.journal_spec.specs.Refusals.{outside}
-use Rattle.journal_spec.specs.Reader.{Reader, done, field, Found, found, fault, short, run}
+use Rattle.journal_spec.specs.Reader.{Reader, done, field, Found, fault, short, run}
 use Rattle.journal_spec.proofs.Judging.{outside-none}
 use Rattle.journal_spec.proofs.Reading.{field-short, field-good, field-fault, field-cases}
 use Rattle.journal_spec.proofs.FieldAt.{at-short, at-fault, at-good}
@@ -60,10 +60,11 @@ read-value w refusal at b x =
     let same : x ≡ valueOf (take w (drop at b)) = cc in
     record { there = rw length-drop at enough; value = same; good = rw same good })
 
-pub field-value : (w low high n at : ℕ) (b : List ℕ) (x : ℕ) → 0 < n → F.Value x ≡ fieldAt w low high n at b → FieldValue w low high at b x
-field-value w low high zero at b x pos e = absurd (omega arith)
-field-value w low high (suc n) at b x pos e =
-    let v = read-value w (outside low high (suc n)) at b x e in
+pub field-value : (w low high n at : ℕ) (b : List ℕ) → 0 < n → (f : FieldRead) → f ≡ fieldAt w low high n at b
+    → (x : ℕ) → f ≡ F.Value x → FieldValue w low high at b x
+field-value w low high zero at b pos f read x told = absurd (omega arith)
+field-value w low high (suc n) at b pos f read x told =
+    let v = read-value w (outside low high (suc n)) at b x (sym told ∙ read) in
     let range = outside-none low high n x (v .good) in
     record { there = v .there; value = v .value; least = range .0; most = range .1 }
 

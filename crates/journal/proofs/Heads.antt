@@ -1,12 +1,12 @@
 -- The first two fields of a record: the form's and the day's refusals as refusals of a range.
 -- A day is a number of two bytes, so that the greatest u16 bounds it. Assumes nothing.
-use mathlib.Core.Path.{_≡_, refl, _∙_}
-use Prim.Native.Nat.{ℕ, zero, suc, _^_, _≤_, _<_}
+use mathlib.Core.Path.{_≡_}
+use Prim.Native.Nat.{ℕ, suc, _^_, _≤_, _<_}
 use mathlib.Core.List.{List, [], _∷_}
 use native.Mathlib.Omega.{arith}
 use native.Mathlib.Nat.{pow-le-pow-right}
 use lib.ListN.{length, take, drop, getD, length-take}
-use Rattle.journal_spec.specs.Bytes.{AreBytes, valueOf, numberAt}
+use Rattle.journal_spec.specs.Bytes.{AreBytes, numberAt}
 use Rattle.journal_spec.specs.Refusals.{formRefusal, dayRefusal, outside}
 use Rattle.journal_spec.specs.Record.{theForm, judgeForm, judgeDay}
 use Rattle.journal_spec.proofs.Numbers.{bytes-take, bytes-drop, value-small}

@@ -1,7 +1,7 @@
 -- The part that reading answers lies inside the slice, for every slice, length and i.
 -- Each record ends where the next one starts, and the last before the length. Assumes nothing.
-use mathlib.Core.Path.{_≡_, refl, sym, ap, _∙_}
-use Prim.Native.Nat.{ℕ, zero, suc, _+_, _-_, _≤_, _<_, min}
+use mathlib.Core.Path.{_≡_, refl, ap, _∙_}
+use Prim.Native.Nat.{ℕ, zero, suc, _+_, _-_, _≤_, min}
 use mathlib.Core.List.{List, [], _∷_, _++_}
 use native.Mathlib.Omega.{arith}
 use native.Mathlib.Nat.{add-sub-cancel-left}
@@ -49,7 +49,8 @@ faulty-inside k n p end i e = rw e (omega arith)
 
 -- one turn: a record more, with what follows it inside, or the end
 turn-inside : (more : ℕ) (ps : List Placed) (at : ℕ) (bs : List ℕ) (end i : ℕ) → Inside ps at → at + length bs ≤ end
-    → ((qs : List Placed) (next : ℕ) (rest : List ℕ) → Inside qs next → next + length rest ≤ end → endOf (contentsFrom more qs next rest) i ≤ end)
+    → ((qs : List Placed) (next : ℕ) (rest : List ℕ) → Inside qs next → next + length rest ≤ end
+    → endOf (contentsFrom more qs next rest) i ≤ end)
     → (f : Found Record) → run (recordReader (lastOf (recordsOf ps))) at bs ≡ f → endOf (contentsFrom (suc more) ps at bs) i ≤ end
 turn-inside more ps at bs end i g h again (found r next rest) e =
     let l = run-left (recordReader (lastOf (recordsOf ps))) at bs r next rest e in

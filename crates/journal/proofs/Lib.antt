@@ -1,14 +1,19 @@
--- The laws behind the proofs of the code, one idea to a file.
+-- The laws behind the proofs of the code, one idea to a file, in the order in which they build on each other.
+-- `Inside` says that the part which reading answers lies inside the slice.
+
+-- fields and sections
 pub mod Ranges
 pub mod Fields
 pub mod Items
 pub mod NumbersLoop
 pub mod Sections
 pub mod LimitsLoop
+-- the record
 pub mod Flat
 pub mod Parts
 pub mod LimitsPart
 pub mod Heads
+-- the pass over the records, and the answers
 pub mod Counting
 pub mod Inside
 pub mod Answering

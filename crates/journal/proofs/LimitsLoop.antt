@@ -7,7 +7,6 @@ use native.Mathlib.Omega.{arith}
 use lib.ListN.{length, drop, length-append}
 use lib.Dec.{eqb}
 use lib.Ieee.{Float, binary64, toBits}
-use borrow.Author.Tests.{eq-eqb}
 use Rattle.limit.specs.declared.Answer.{Answer}
 use Rattle.limit.specs.declared.Answer.the-variants as A
 use Rattle.limit.specs.declared.sums.Sums.{Sums}
@@ -109,7 +108,7 @@ module _ (b : List ℕ) (at n chances : ℕ) (sums : Sums) (f : FieldRead) (read
   -- the count that stands is n
   pub count-there : (k : ℕ) → f ≡ F.Value k → (k ≡ n) × (2 ≤ length b - at)
   count-there k told =
-      let v = field-value 2 n n limitRefusal at b k (omega arith) (sym told ∙ read) in
+      let v = field-value 2 n n limitRefusal at b (omega arith) f read k told in
       (omega (arith, v .least, v .most), v .there)
 
   pub section-limits : (k : ℕ) → f ≡ F.Value k → limitsAt n chances sums (at + 2) b ≡ limitSectionAt n chances sums at b

@@ -1,7 +1,7 @@
 -- A record from its limits on: the section that the code reads, by the place of the chances and the sums of the times, finds what the
 -- record's own section of limits finds. Assumes nothing.
 use mathlib.Core.Path.{_≡_, refl, sym, ap, ap₂, _∙_}
-use Prim.Native.Nat.{ℕ, zero, suc, _+_, _*_, _-_, _≤_, _<_}
+use Prim.Native.Nat.{ℕ, _+_, _*_, _-_, _<_}
 use mathlib.Core.List.{List, []}
 use mathlib.Core.Bool.{true}
 use native.Mathlib.Omega.{arith}
@@ -9,16 +9,14 @@ use lib.ListN.{length, drop, getD}
 use lib.Dec.{eqb}
 use borrow.Author.Tests.{eqb-true}
 use Rattle.limit.specs.declared.sums.Sums.{Sums}
-use Rattle.limit.specs.Times.{timesInRange, sumOf, squaresOf}
+use Rattle.limit.specs.Times.{timesInRange}
 use Rattle.limit.specs.Sums.{sumsOf}
 use Rattle.limit.specs.Limit.{limitOf, limitOfSums}
 use Rattle.limit.proofs.Agreement.{limit-of-sums-agrees}
-use Rattle.journal_spec.specs.Bytes.{numberAt}
 use Rattle.journal_spec.specs.Refusals.{limitRefusal, unless}
 use Rattle.journal_spec.specs.Reader.{Reader, field, Found, found, fault, short, run}
 use Rattle.journal_spec.specs.Section.{items, section}
 use Rattle.journal_spec.specs.Record.{limitSection, judgeLimit}
-use Rattle.journal_spec.specs.Read.{areEqual}
 use Rattle.journal_spec.specs.Stages.{limitStage}
 use Rattle.journal_spec.proofs.Judging.{unless-none}
 use Rattle.journal_spec.proofs.Reading.{after, run-then}

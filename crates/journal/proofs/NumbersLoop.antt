@@ -1,7 +1,7 @@
 -- The loop over a rule's numbers: after some of them the least value of the next one and the sums are those of the numbers passed.
 -- The start, one more number, and the three ways to end. Assumes nothing.
 use mathlib.Core.Path.{_≡_, refl, sym, ap, _∙_}
-use Prim.Native.Nat.{ℕ, zero, suc, _+_, _-_, _≤_, _<_}
+use Prim.Native.Nat.{ℕ, _+_, _-_, _≤_, _<_}
 use mathlib.Core.List.{List, [], _∷_, _++_}
 use mathlib.Core.Bool.{Bool, true, false}
 use native.Mathlib.Omega.{arith}
@@ -16,6 +16,7 @@ use Rattle.journal_spec.specs.Reader.{run}
 use Rattle.journal_spec.specs.Section.{items}
 use Rattle.journal_spec.proofs.FieldAt.{Items, items-start, items-end}
 use Rattle.journal.specs.declared.Fault.{Fault}
+use Rattle.journal.specs.declared.field.FieldRead.{FieldRead}
 use Rattle.journal.specs.declared.field.FieldRead.the-variants as F
 use Rattle.journal.specs.declared.section.SectionRead.the-variants as S
 use Rattle.journal.specs.Rules.{leastNext, leastAfter, itemRefusal}
@@ -80,30 +81,29 @@ module _ (b : List ℕ) (at n w high : ℕ) (rising : Bool) (refusal first : ℕ
     unfolding itemRefusal
     same = rw (g .next)
 
-    pub numbering-short : 0 < left → F.Short ≡ fieldAt w low high refusal p b
-        → S.Short ≡ sectionRead (run (items w (itemRefusal rising first high refusal) n []) at (drop at b))
-    unfolding sectionRead afterField
-    numbering-short pos e =
-        rw (items-answer w (itemRefusal rising first high refusal) n at b left (g .before) p (g .passed) pos F.Short (e ∙ same))
+    module _ (f : FieldRead) (pos : 0 < left) (read : f ≡ fieldAt w low high refusal p b) where
+      pub numbering-short : f ≡ F.Short → S.Short ≡ sectionRead (run (items w (itemRefusal rising first high refusal) n []) at (drop at b))
+      unfolding sectionRead afterField
+      numbering-short told =
+          rw (items-answer w (itemRefusal rising first high refusal) n at b left (g .before) p (g .passed) pos F.Short (sym told ∙ read ∙ same))
 
-    pub numbering-refused : (f : Fault) → 0 < left → F.Refused f ≡ fieldAt w low high refusal p b
-        → S.Refused f ≡ sectionRead (run (items w (itemRefusal rising first high refusal) n []) at (drop at b))
-    unfolding sectionRead afterField
-    numbering-refused f pos e =
-        rw (items-answer w (itemRefusal rising first high refusal) n at b left (g .before) p (g .passed) pos (F.Refused f) (e ∙ same))
+      pub numbering-refused : (x : Fault) → f ≡ F.Refused x
+          → S.Refused x ≡ sectionRead (run (items w (itemRefusal rising first high refusal) n []) at (drop at b))
+      unfolding sectionRead afterField
+      numbering-refused x told =
+          rw (items-answer w (itemRefusal rising first high refusal) n at b left (g .before) p (g .passed) pos (F.Refused x) (sym told ∙ read ∙ same))
 
-    pub numbering-more : (x : ℕ) → 0 < left → 0 < refusal → high ≤ maxTicks → n ≤ maxCount → F.Value x ≡ fieldAt w low high refusal p b
-        → Numbering b at n w high rising refusal first (leastNext rising low x) (addTime sums x) (p + w) (left - 1)
-    numbering-more x pos some small few e =
-        let v = field-value w low high refusal p b x some e in
-        let good = time-between x (omega (arith, v .least, g .positive)) (omega (arith, v .most)) in
-        let room : length (g .before) < maxCount = omega (arith, g .passed .count) in
-        record {
-          before = g .before ++ x ∷ [];
-          passed =
-              items-more w (itemRefusal rising first high refusal) n at b left (g .before) p (g .passed) pos x (e ∙ same);
-          next = sym (least-append rising first (g .before) x ∙ ap (λ (l : ℕ). leastNext rising l x) (sym (g .next)));
-          positive = least-positive rising low x (g .positive);
-          total = rw (g .total) (add-one-time (g .before) x (g .each) room (omega (arith, v .most)));
-          each = all-append (g .before) x (g .each) good;
-        }
+      pub numbering-more : (x : ℕ) → 0 < refusal → high ≤ maxTicks → n ≤ maxCount → f ≡ F.Value x
+          → Numbering b at n w high rising refusal first (leastNext rising low x) (addTime sums x) (p + w) (left - 1)
+      numbering-more x some small few told =
+          let v = field-value w low high refusal p b some f read x told in
+          let good = time-between x (omega (arith, v .least, g .positive)) (omega (arith, v .most)) in
+          let room : length (g .before) < maxCount = omega (arith, g .passed .count) in
+          record {
+            before = g .before ++ x ∷ [];
+            passed = items-more w (itemRefusal rising first high refusal) n at b left (g .before) p (g .passed) pos x (sym told ∙ read ∙ same);
+            next = sym (least-append rising first (g .before) x ∙ ap (λ (l : ℕ). leastNext rising l x) (sym (g .next)));
+            positive = least-positive rising low x (g .positive);
+            total = rw (g .total) (add-one-time (g .before) x (g .each) room (omega (arith, v .most)));
+            each = all-append (g .before) x (g .each) good;
+          }

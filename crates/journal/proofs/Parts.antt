@@ -1,18 +1,17 @@
 -- A record from one of its sections on: what is found by the section's answer.
 -- The numbers that the section holds stand in the bytes, and the rest of the record is read after it. Assumes nothing.
 use mathlib.Core.Path.{_≡_, refl, sym, ap, _∙_}
-use Prim.Native.Nat.{ℕ, zero, suc, _+_, _*_, _-_, _≤_, _<_}
+use Prim.Native.Nat.{ℕ, zero, suc, _+_, _*_, _-_}
 use mathlib.Core.List.{List, [], _∷_, _++_}
 use mathlib.Core.Bool.{true}
 use native.Mathlib.Omega.{arith}
-use lib.ListN.{length, take, drop, getD}
-use lib.Seq.{drop-drop}
+use lib.ListN.{length, take, drop}
 use Rattle.limit.specs.declared.sums.Sums.{Sums}
 use Rattle.limit.specs.Times.{minTicks, maxTicks, minCount, maxCount, allInRange, timesInRange}
 use Rattle.limit.specs.Sums.{sumsOf}
 use Rattle.limit.specs.Answer.{timesRefusal}
 use Rattle.limit.proofs.InRange as I
-use Rattle.journal_spec.specs.Bytes.{valueOf, numberAt}
+use Rattle.journal_spec.specs.Bytes.{valueOf}
 use Rattle.journal_spec.specs.Refusals.{outside}
 use Rattle.journal_spec.specs.Reader.{Reader, Found, found, fault, short, run, then}
 use Rattle.journal_spec.specs.Section.{Section, items, section}

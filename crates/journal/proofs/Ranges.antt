@@ -1,16 +1,16 @@
 -- The code judges every field by one range. Each refusal of the record's definition is the refusal of a range, and of which.
 -- Assumes nothing.
-use mathlib.Core.Path.{_≡_, refl, sym, ap, _∙_}
+use mathlib.Core.Path.{_≡_, sym, _∙_}
 use Prim.Native.Nat.{ℕ, zero, suc, _≤_, _<_}
 use mathlib.Core.List.{List}
-use mathlib.Core.Bool.{Bool, true, false, _&&_}
+use mathlib.Core.Bool.{_&&_}
 use native.Mathlib.Omega.{arith}
 use lib.Dec.{leb, ltb, eqb}
-use borrow.Author.Tests.{le-leb, lt-leb, leb-true, leb-false, ltb-true, ltb-false, lt-ltb, le-ltb, eq-eqb, ne-eqb, eqb-true, eqb-false}
+use borrow.Author.Tests.{le-leb, lt-leb, lt-ltb, le-ltb, eq-eqb, ne-eqb}
 use Rattle.limit.specs.Times.{inRange}
 use Rattle.limit.specs.Limit.{maxChance, chanceInRange}
 use Rattle.limit.specs.Answer.{chanceRefusal}
-use Rattle.limit.proofs.InRange.{second-fails, both}
+use Rattle.limit.proofs.InRange.{second-fails}
 use Rattle.journal_spec.specs.Refusals.{unless, outside}
 use Rattle.journal_spec.specs.Record.{lastChance, judgeChance}
 use Rattle.journal_spec.proofs.Judging.{unless-true, unless-false, inside, below}

@@ -11,7 +11,7 @@ use Rattle.limit.specs.Answer.{chanceRefusal, timesRefusal}
 use Rattle.journal_spec.specs.Refusals.{outside, nameRefusal}
 use Rattle.journal_spec.specs.Reader.{run}
 use Rattle.journal_spec.specs.Section.{Section, section, items}
-use Rattle.journal_spec.specs.Record.{minName, maxName, minByte, maxByte, minChances, maxChances, lastChance, judgeChance}
+use Rattle.journal_spec.specs.Record.{minName, maxName, minByte, maxByte, minChances, maxChances, lastChance}
 use Rattle.journal_spec.specs.Record.{nameSection, chanceSection, timeSection}
 use Rattle.journal.specs.declared.Fault.{Fault}
 use Rattle.journal.specs.declared.field.FieldRead.{FieldRead}
@@ -25,28 +25,27 @@ use Rattle.journal.proofs.Fields.{afterField, by-field}
 
 -- ---- by the count
 
-module _ (r : Rule) (at : ℕ) (b : List ℕ) where
+module _ (r : Rule) (at : ℕ) (b : List ℕ) (f : FieldRead) (read : f ≡ fieldAt 2 (r .least) (r .most) (r .refusal) at b) where
   -- what the section's reader finds, by the answer of its count
-  by-count : (f : FieldRead) → f ≡ fieldAt 2 (r .least) (r .most) (r .refusal) at b
-      → run (section (ruled r)) at (drop at b)
+  by-count : run (section (ruled r)) at (drop at b)
       ≡ afterField (λ n. items (r .width) (itemRefusal (r .rising) (r .low) (r .high) (r .refusal)) n []) 2 at b f
   unfolding section ruled
-  by-count f e =
+  by-count =
       by-field 2 (outside (r .least) (r .most) (r .refusal))
       (λ n. items (r .width) (itemRefusal (r .rising) (r .low) (r .high) (r .refusal)) n []) at b
-      ∙ rw (← e) refl
+      ∙ rw (← read) refl
 
-  pub section-numbers : (n : ℕ) → F.Value n ≡ fieldAt 2 (r .least) (r .most) (r .refusal) at b → numbersAt r n (at + 2) b ≡ sectionAt r at b
+  pub section-numbers : (n : ℕ) → f ≡ F.Value n → numbersAt r n (at + 2) b ≡ sectionAt r at b
   unfolding numbersAt sectionAt afterField
-  section-numbers n e = rw (by-count (F.Value n) e) refl
+  section-numbers n told = rw by-count (rw told refl)
 
-  pub section-short : F.Short ≡ fieldAt 2 (r .least) (r .most) (r .refusal) at b → S.Short ≡ sectionAt r at b
+  pub section-short : f ≡ F.Short → S.Short ≡ sectionAt r at b
   unfolding sectionAt sectionRead afterField
-  section-short e = rw (by-count F.Short e) refl
+  section-short told = rw by-count (rw told refl)
 
-  pub section-refused : (f : Fault) → F.Refused f ≡ fieldAt 2 (r .least) (r .most) (r .refusal) at b → S.Refused f ≡ sectionAt r at b
+  pub section-refused : (x : Fault) → f ≡ F.Refused x → S.Refused x ≡ sectionAt r at b
   unfolding sectionAt sectionRead afterField
-  section-refused f e = rw (by-count (F.Refused f) e) refl
+  section-refused x told = rw by-count (rw told refl)
 
 -- ---- the rules
 

@@ -1,4 +1,5 @@
--- What the public functions answer, in document 01's words: its word, number and values for each case of the code's answers.
+-- What the public functions answer, in document 01's words: its word, number and values for each case.
+-- The contracts of scan, part_place and mark cite these.
 use Prim.Native.Nat.{ℕ}
 use mathlib.Core.Bool.{Bool, cond}
 use lib.Dec.{ltb}

@@ -1,6 +1,5 @@
 -- A section's rule as the code holds it, by value, and the section of the journal's format that it stands for.
 -- A number that has to rise is judged by its range alone: its least value is the one above the number before it.
-use mathlib.Core.Path.{_≡_}
 use Prim.Native.Nat.{ℕ, suc, _≤_, _<_}
 use mathlib.Core.List.{List, [], _∷_}
 use mathlib.Core.Bool.{Bool, true, false, cond}

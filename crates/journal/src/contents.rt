@@ -13,8 +13,11 @@ use crate::record::record_at;
 // The longest journal, in bytes.
 pub const MAX_LENGTH: usize = 65_536;
 
-// Document 01's number for a length beyond the slice or the longest journal.
-const LENGTH_REFUSAL: u32 = 1;
+// A length beyond the slice or the longest journal: document 01's number 1, at place 0.
+const LENGTH_FAULT: Fault = Fault {
+    number: 1,
+    place: 0,
+};
 
 // What is asked of record i: its first byte's place and its bytes' number, whether its times are all equal, and how many they are.
 // Where there is no such record all of it is 0.
@@ -42,16 +45,10 @@ pub(crate) fn contents_of(v: &[u8], len: usize, i: usize) -> Contents
     ensures { λ r. ⌜ r ≡ contentsRead i (contentsOf (now (v .entry)) len) ⌝ }
 {
     if v.len() < len {
-        return Contents::Damaged(Fault {
-            number: LENGTH_REFUSAL,
-            place: 0,
-        });
+        return Contents::Damaged(LENGTH_FAULT);
     }
     if MAX_LENGTH < len {
-        return Contents::Damaged(Fault {
-            number: LENGTH_REFUSAL,
-            place: 0,
-        });
+        return Contents::Damaged(LENGTH_FAULT);
     }
     records_of(&v[..len], i)
 }

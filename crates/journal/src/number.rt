@@ -13,8 +13,8 @@ pub(crate) fn number_at(b: &[u8], at: usize, w: usize) -> u64
     let mut value: u64 = 0;
     let mut j = w;
     while 0 < j {
+        value = value * 256 + b[at + j - 1] as u64;
         j -= 1;
-        value = value * 256 + b[at + j] as u64;
     }
     value
 }

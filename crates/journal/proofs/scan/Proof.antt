@@ -1,6 +1,5 @@
 -- `scan` is whole if the committed length is the length, else torn, and hands a fault on.
 -- Assumes nothing.
-use mathlib.Core.Path.{_≡_}
 use borrow.Author.Needs.{needs}
 use borrow.Author.Tests.{eq-eqb, ne-eqb}
 use denote.Ref.{now}

@@ -1,6 +1,5 @@
 -- `records_of` reads one record a turn: its loop keeps the count, the last record and what is asked of record i.
 -- The measure is what is left of the bytes, since a record takes some. Assumes nothing.
-use mathlib.Core.Path.{_≡_}
 use Prim.Native.Nat.{_-_}
 use native.Mathlib.Omega.{arith}
 use borrow.Author.Needs.{needs}

@@ -1,7 +1,6 @@
 -- `limit_at` judges the bits by a range: the bits of the limit worked out and no other, or none where that limit is refused.
 -- Assumes nothing.
 use mathlib.Core.Path.{_∙_}
-use native.Mathlib.Omega.{arith}
 use borrow.Author.Needs.{needs}
 use denote.Ref.{now}
 use Rattle.journal.proofs.LimitsLoop.{limit-finite, limit-refused}

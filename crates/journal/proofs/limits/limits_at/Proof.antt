@@ -1,6 +1,5 @@
 -- `limits_at` passes one limit a turn, and the place of its chance with it.
 -- The measure is how many limits are left. Assumes nothing.
-use mathlib.Core.Path.{_≡_}
 use native.Mathlib.Omega.{arith}
 use borrow.Author.Needs.{needs}
 use denote.Ref.{now}

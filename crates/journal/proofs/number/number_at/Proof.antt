@@ -1,7 +1,7 @@
 -- `number_at` takes the bytes in from the last down: its loop keeps the value of the bytes passed.
 -- The measure is the number of bytes left. Assumes nothing.
-use mathlib.Core.Path.{_≡_, refl}
-use Prim.Native.Nat.{_+_, _-_, _*_, _<_, _^_}
+use mathlib.Core.Path.{_≡_, ap}
+use Prim.Native.Nat.{ℕ, _+_, _-_, _*_, _<_, _^_}
 use native.Mathlib.Omega.{arith}
 use denote.Ref.{now}
 use lib.ListN.{getD}
@@ -23,29 +23,27 @@ mul-value c =
     let l = c .before .loop in
     omega (arith, gather-fits _ _ _ (l .value) (l .j) 0 (l .inv) (omega arith) (omega arith) (omega arith))
 
-cast-value : tie.Need-cast-value Inv-loop μ-loop
-cast-value c =
-    let at = c .before .before .before .args .at in
-    omega (arith, c .shared-slice-known .given (at + (c .before .before .loop .j - 1)))
+-- each element of the slice is a byte
+byte : (c : tie.After-shared-slice-known Inv-loop μ-loop) (i : ℕ) → getD (now (c .before .before .before .args .b)) i 0 < 256
+byte c i = omega (arith, c .shared-slice-known .given i)
 
--- with one more byte the value still fits
-fits : (c : tie.After-shared-slice-known Inv-loop μ-loop)
-    → c .before .before .loop .value * 256
-    + getD (now (c .before .before .before .args .b)) (c .before .before .before .args .at + (c .before .before .loop .j - 1)) 0
-    < 256 ^ 8
-fits c =
-    let l = c .before .before .loop in
-    let i = c .before .before .before .args .at + (l .j - 1) in
-    gather-fits _ _ _ (l .value) (l .j) _ (l .inv) (omega arith) (omega arith) (omega (arith, c .shared-slice-known .given i))
+wider : (x : ℕ) → x < 256 → x < 2 ^ 64
+wider x h = omega arith
+
+cast-value : tie.Need-cast-value Inv-loop μ-loop
+cast-value c = record { fits = wider _ (byte c _) }
 
 add-value-2 : tie.Need-add-value-2 Inv-loop μ-loop
-add-value-2 c = omega (arith, fits c)
+add-value-2 c =
+    let l = c .before .before .loop in
+    record { fits = gather-fits _ _ _ (l .value) (l .j) _ (l .inv) (omega arith) (omega arith) (byte c _) }
 
 loop-again : tie.Need-loop-again Inv-loop μ-loop
 loop-again c =
     let l = c .before .before .loop in
-    let i = c .before .before .before .args .at + (l .j - 1) in
-    gather-turn _ _ _ (l .value) (l .j) _ (l .inv) (omega arith) (omega arith) refl (omega (arith, c .shared-slice-known .given i))
+    let a = c .before .before .before .args in
+    let place : a .at + l .j - 1 ≡ a .at + (l .j - 1) = omega arith in
+    gather-turn _ _ _ (l .value) (l .j) _ (l .inv) (omega arith) (omega arith) (ap (λ (i : ℕ). getD (now (a .b)) i 0) place) (byte c _)
 
 returns : tie.Need-returns Inv-loop μ-loop
 returns c =
@@ -62,12 +60,13 @@ number-at-spec =
     Inv-loop
     μ-loop
     loop-holds
-    (λ c. omega arith)
     mul-value
+    (λ c. omega arith)
     (λ c. omega arith)
     (λ c. omega arith)
     cast-value
     add-value-2
+    (λ c. omega arith)
     (λ c. omega arith)
     loop-again
     returns)

@@ -1,6 +1,6 @@
 -- `day_part` judges the day by the range from the last record's day to the greatest u16, which no two bytes exceed.
 -- Assumes nothing.
-use mathlib.Core.Path.{_≡_, sym, ap, _∙_}
+use mathlib.Core.Path.{sym, ap, _∙_}
 use Prim.Native.Nat.{ℕ}
 use native.Mathlib.Omega.{arith}
 use borrow.Author.Needs.{needs}
@@ -20,8 +20,8 @@ name-part-requires c κs =
     let read = c .before .before .before in
     let start = read .before .before in
     let a = start .args in
-    let v = field-value 2 (a .last .day) 65_535 dayRefusal (a .at) (now (a .b)) (c .before .x .given .0 .0) (omega arith)
-    (sym (c .before .x .given .1) ∙ read .field-at .ensures) in
+    let v = field-value 2 (a .last .day) 65_535 dayRefusal (a .at) (now (a .b)) (omega arith)
+    (read .field-at .result) (read .field-at .ensures) (c .before .x .given .0 .0) (c .before .x .given .1) in
     omega (arith, v .there, start .pre)
 
 returns : tie.Need-returns

@@ -1,6 +1,5 @@
 -- `limits_part` reads the limits by the place of the chances and the sums of the times, and keeps what the answer needs.
 -- Assumes nothing.
-use mathlib.Core.Path.{_∙_}
 use borrow.Author.Needs.{needs}
 use denote.Ref.{now}
 use Rattle.journal.proofs.LimitsPart.{limits-part-short, limits-part-refused, limits-part-read}

@@ -9,7 +9,7 @@ use denote.Ref.{now}
 use lib.ListN.{drop}
 use Rattle.journal_spec.specs.Bytes.{numberAt}
 use Rattle.journal_spec.specs.Refusals.{formRefusal}
-use Rattle.journal_spec.specs.Reader.{Found, Reader, field, run}
+use Rattle.journal_spec.specs.Reader.{Found, field, run}
 use Rattle.journal_spec.specs.Record.{Record, theForm, judgeForm}
 use Rattle.journal_spec.specs.Stages.{dayStage}
 use Rattle.journal_spec.proofs.Records.{by-stages}
@@ -31,8 +31,8 @@ day-part-requires c κs =
     let read = c .before .before .before in
     let start = read .before .before in
     let a = start .args in
-    let v = field-value 2 theForm theForm formRefusal (a .at) (now (a .b)) (c .before .x .given .0 .0) (omega arith)
-    (sym (c .before .x .given .1) ∙ read .field-at .ensures) in
+    let v = field-value 2 theForm theForm formRefusal (a .at) (now (a .b)) (omega arith)
+    (read .field-at .result) (read .field-at .ensures) (c .before .x .given .0 .0) (c .before .x .given .1) in
     omega (arith, v .there, start .pre)
 
 returns : tie.Need-returns

@@ -1,6 +1,6 @@
 -- `times_part` reads the times and hands their sums on: times that were read are in range, so that their sums are plausible.
 -- Assumes nothing.
-use mathlib.Core.Path.{_≡_, sym, ap, _∙_}
+use mathlib.Core.Path.{ap, _∙_}
 use mathlib.Core.List.{List}
 use Prim.Native.Nat.{ℕ}
 use borrow.Author.Needs.{needs}

@@ -1,6 +1,5 @@
 -- `least_next` is its definition by the two ways of its test.
 -- Assumes nothing.
-use native.Mathlib.Omega.{arith}
 use native.Mathlib.Numerals.{add-one}
 use borrow.Author.Needs.{needs}
 use Rattle.journal.specs.Rules.{leastNext}

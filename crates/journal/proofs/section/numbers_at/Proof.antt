@@ -1,6 +1,6 @@
 -- `numbers_at` passes one number a turn: its loop keeps the least value of the next one and the sums of those passed.
 -- The measure is how many numbers are left. Assumes nothing.
-use mathlib.Core.Path.{_≡_, sym, ap, _∙_}
+use mathlib.Core.Path.{sym, _∙_}
 use Prim.Native.Nat.{_≤_}
 use native.Mathlib.Omega.{arith}
 use borrow.Author.Needs.{needs}
@@ -11,8 +11,6 @@ use Rattle.journal.proofs.Fields.{FieldValue, field-value}
 use Rattle.journal.proofs.NumbersLoop.{Numbering, numbering-start, numbering-end, numbering-short, numbering-refused, numbering-more}
 use Rattle.journal.proofs.section.numbers_at.Statement.{statement}
 use Rattle.journal.proofs.section.numbers_at.Tie as tie
-use Rattle.journal.proofs.section.numbers_at.Reads as reads
-use Rattle.journal.proofs.section.numbers_at.Lts as lts
 
 abbrev Inv-loop : tie.InvT-loop
 Inv-loop b at n width high rising refusal low₀ sums₀ p₀ left₀ low sums p left = Numbering b at n width high rising refusal low₀ low sums p left
@@ -46,8 +44,9 @@ number-read c =
     let a = start .args in
     let r = a .rule in
     let l = c .before .before .before .before .before .loop in
-    field-value (r .width) (l .low) (r .high) (r .refusal) (l .p) (now (a .b)) (c .before .x .given .0 .0) (start .pre .2 .refuses)
-    (sym (c .before .x .given .1) ∙ c .before .before .before .field-at .ensures)
+    let read = c .before .before .before .field-at in
+    field-value (r .width) (l .low) (r .high) (r .refusal) (l .p) (now (a .b)) (start .pre .2 .refuses)
+    (read .result) (read .ensures) (c .before .x .given .0 .0) (c .before .x .given .1)
 
 -- which is at most a time
 number-small : (c : tie.After-known-told Inv-loop μ-loop) → c .before .x .given .0 .0 ≤ maxTicks
@@ -72,8 +71,8 @@ loop-again c =
     let l = read .before .before .before .before .before .loop in
     rw (c .add .ensures, c .before .least-next .ensures)
     (numbering-more (now (a .b)) (a .at) (a .n) (r .width) (r .high) (r .rising) (r .refusal) (r .low) (l .low) (l .sums) (l .p) (l .left) (l .inv)
-    (read .before .x .given .0 .0) (omega arith) (start .pre .2 .refuses) (start .pre .2 .greatest) (start .pre .1)
-    (sym (read .before .x .given .1) ∙ read .before .before .before .field-at .ensures))
+    (read .before .before .before .field-at .result) (omega arith) (read .before .before .before .field-at .ensures)
+    (read .before .x .given .0 .0) (start .pre .2 .refuses) (start .pre .2 .greatest) (start .pre .1) (read .before .x .given .1))
 
 returns : tie.Need-returns Inv-loop μ-loop
 unfolding numbersAt
@@ -83,7 +82,7 @@ returns c =
     let a = read .before .before .before .before .before .args in
     let r = a .rule in
     numbering-short (now (a .b)) (a .at) (a .n) (r .width) (r .high) (r .rising) (r .refusal) (r .low) (l .low) (l .sums) (l .p) (l .left) (l .inv)
-    (omega arith) (sym (c .enum-told .given .1) ∙ read .field-at .ensures)
+    (read .field-at .result) (omega arith) (read .field-at .ensures) (c .enum-told .given .1)
 
 returns-2 : tie.Need-returns-2 Inv-loop μ-loop
 unfolding numbersAt
@@ -93,7 +92,7 @@ returns-2 c =
     let a = read .before .before .before .before .before .args in
     let r = a .rule in
     numbering-refused (now (a .b)) (a .at) (a .n) (r .width) (r .high) (r .rising) (r .refusal) (r .low) (l .low) (l .sums) (l .p) (l .left) (l .inv)
-    (c .before .x2 .given .0 .0) (omega arith) (sym (c .before .x2 .given .1) ∙ read .field-at .ensures)
+    (read .field-at .result) (omega arith) (read .field-at .ensures) (c .before .x2 .given .0 .0) (c .before .x2 .given .1)
 
 returns-3 : tie.Need-returns-3 Inv-loop μ-loop
 unfolding numbersAt

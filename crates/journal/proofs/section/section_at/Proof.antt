@@ -1,6 +1,6 @@
 -- `section_at` reads the count and then so many numbers: each return is what the section's reader finds by the count's answer.
 -- Assumes nothing.
-use mathlib.Core.Path.{_≡_, refl, sym, ap, _∙_}
+use mathlib.Core.Path.{sym, _∙_}
 use native.Mathlib.Omega.{arith}
 use borrow.Author.Needs.{needs}
 use denote.Ref.{now}
@@ -14,9 +14,9 @@ numbers-at-requires c κs =
     let start = c .before .before .before .before .before in
     let a = start .args in
     let r = a .rule in
-    let n = c .before .count .given .0 .0 in
-    let v = field-value 2 (r .least) (r .most) (r .refusal) (a .at) (now (a .b)) n (start .pre .1 .refuses)
-    (sym (c .before .count .given .1) ∙ c .before .before .before .field-at .ensures) in
+    let read = c .before .before .before .field-at in
+    let v = field-value 2 (r .least) (r .most) (r .refusal) (a .at) (now (a .b)) (start .pre .1 .refuses)
+    (read .result) (read .ensures) (c .before .count .given .0 .0) (c .before .count .given .1) in
     (omega (arith, v .there, start .pre .0), omega (arith, v .most, start .pre .1 .few), start .pre .1)
 
 returns : tie.Need-returns
@@ -24,20 +24,21 @@ returns c =
     let read = c .before .before .before .before in
     let a = read .before .before .args in
     c .numbers-at .ensures
-    ∙ section-numbers (a .rule) (a .at) (now (a .b)) (c .before .before .count .given .0 .0)
-    (sym (c .before .before .count .given .1) ∙ read .field-at .ensures)
+    ∙ section-numbers (a .rule) (a .at) (now (a .b)) (read .field-at .result) (read .field-at .ensures)
+    (c .before .before .count .given .0 .0) (c .before .before .count .given .1)
 
 returns-2 : tie.Need-returns-2
 returns-2 c =
     let read = c .before .before in
     let a = read .before .before .args in
-    section-short (a .rule) (a .at) (now (a .b)) (sym (c .enum-told .given .1) ∙ read .field-at .ensures)
+    section-short (a .rule) (a .at) (now (a .b)) (read .field-at .result) (read .field-at .ensures) (c .enum-told .given .1)
 
 returns-3 : tie.Need-returns-3
 returns-3 c =
     let read = c .before .before .before in
     let a = read .before .before .args in
-    section-refused (a .rule) (a .at) (now (a .b)) (c .before .count2 .given .0 .0) (sym (c .before .count2 .given .1) ∙ read .field-at .ensures)
+    section-refused (a .rule) (a .at) (now (a .b)) (read .field-at .result) (read .field-at .ensures)
+    (c .before .count2 .given .0 .0) (c .before .count2 .given .1)
 
 pub section-at-spec : {M : Type 1} → statement M
 section-at-spec =
