@@ -54,50 +54,22 @@ pub fn count(t: Tally, m: Measured) -> Tally
 fn count_at(t: Tally, letter: u8, x: u64, distance: u64) -> Tally
     ensures { λ r. ⌜ r ≡ countedAt t letter x distance ⌝ }
 {
-    let chances = t.chances;
-    let others = t.others;
-    let small = t.small;
-    let far = t.far;
-    let malformed = t.malformed;
+    let mut r = t;
     if letter == b'c' {
-        let chances = group_with(chances, x, distance);
-        return Tally {
-            chances,
-            others,
-            small,
-            far,
-            malformed,
-        };
+        r.chances = group_with(t.chances, x, distance);
+        return r;
     }
     if letter == b'o' {
-        let others = group_with(others, x, distance);
-        return Tally {
-            chances,
-            others,
-            small,
-            far,
-            malformed,
-        };
+        r.others = group_with(t.others, x, distance);
+        return r;
     }
     if letter == b's' {
-        let small = group_with(small, x, distance);
-        return Tally {
-            chances,
-            others,
-            small,
-            far,
-            malformed,
-        };
+        r.small = group_with(t.small, x, distance);
+        return r;
     }
     if letter == b'f' {
-        let far = group_with(far, x, distance);
-        return Tally {
-            chances,
-            others,
-            small,
-            far,
-            malformed,
-        };
+        r.far = group_with(t.far, x, distance);
+        return r;
     }
     one_malformed(t)
 }
@@ -106,18 +78,9 @@ fn count_at(t: Tally, letter: u8, x: u64, distance: u64) -> Tally
 fn one_malformed(t: Tally) -> Tally
     ensures { λ r. ⌜ r ≡ malformedOne t ⌝ }
 {
-    let chances = t.chances;
-    let others = t.others;
-    let small = t.small;
-    let far = t.far;
-    let malformed = one_more(t.malformed);
-    Tally {
-        chances,
-        others,
-        small,
-        far,
-        malformed,
-    }
+    let mut r = t;
+    r.malformed = one_more(t.malformed);
+    r
 }
 
 // Writes a malformed line's mark, and a line of the far group.
