@@ -17,7 +17,7 @@ expects-requires-2 c κs = search needs
 
 returns-2 : tie.Need-returns-2
 unfolding agrees
-returns-2 c = 
+returns-2 c =
     let first = c .before .before in
     rw (← first .before .expects .ensures, not-false (first .before .expects .result) (first .if1 .left))
     (rw (← c .before .expects2 .ensures, not-true (c .before .expects2 .result) (c .if2 .taken)))
@@ -27,7 +27,7 @@ expects-requires-3 c κs = search needs
 
 returns-3 : tie.Need-returns-3
 unfolding agrees
-returns-3 c = 
+returns-3 c =
     let second = c .before in
     let first = second .before .before in
     rw (← first .before .expects .ensures, not-false (first .before .expects .result) (first .if1 .left))

@@ -39,7 +39,7 @@ enum-told-3 : tie.Need-enum-told-3
 enum-told-3 c = search needs
 
 returns : tie.Need-returns
-returns c = 
+returns c =
     let a = c .before .before .before .before .before .before .before .before .before .before .before .before .before .before .args in
     let first : fieldOf (readHex (a .line .now) 2 5) ≡ F.Value (c .before .before .before .before .before .before .before .before .before .before .place .given .0 .0) = cc in
     let second : fieldOf (readHex (a .line .now) 8 16) ≡ F.Value (c .before .before .before .before .before .before .n .given .0 .0) = cc in
@@ -47,7 +47,7 @@ returns c =
     c .case-kind .ensures ∙ numbers-read (a .line .now) (a .letter) _ _ _ first second third
 
 returns-2 : tie.Need-returns-2
-returns-2 c = 
+returns-2 c =
     let a = c .before .before .before .before .before .before .before .before .before .before .before .before .args in
     let first : fieldOf (readHex (a .line .now) 2 5) ≡ F.Value (c .before .before .before .before .before .before .before .before .place .given .0 .0) = cc in
     let second : fieldOf (readHex (a .line .now) 8 16) ≡ F.Value (c .before .before .before .before .n .given .0 .0) = cc in
@@ -55,14 +55,14 @@ returns-2 c =
     third-missing (a .line .now) (a .letter) _ _ first second third
 
 returns-3 : tie.Need-returns-3
-returns-3 c = 
+returns-3 c =
     let a = c .before .before .before .before .before .before .before .before .args in
     let first : fieldOf (readHex (a .line .now) 2 5) ≡ F.Value (c .before .before .before .before .place .given .0 .0) = cc in
     let second : fieldOf (readHex (a .line .now) 8 16) ≡ F.Nothing = cc in
     second-missing (a .line .now) (a .letter) _ first second
 
 returns-4 : tie.Need-returns-4
-returns-4 c = 
+returns-4 c =
     let a = c .before .before .before .before .args in
     let first : fieldOf (readHex (a .line .now) 2 5) ≡ F.Nothing = cc in
     first-missing (a .line .now) (a .letter) first

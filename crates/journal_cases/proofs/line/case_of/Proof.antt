@@ -25,7 +25,7 @@ case-numbers-requires c κs = search needs
 
 returns-3 : tie.Need-returns-3
 unfolding caseOf
-returns-3 c = 
+returns-3 c =
     let second = c .before .before in
     c .case-numbers .ensures ∙ sym (rw (eq-eqb _ _ (second .before .before .if1 .left), eq-eqb _ _ (second .if2 .left)))
 

@@ -20,14 +20,14 @@ enum-told c = search needs
 
 returns : tie.Need-returns
 unfolding stands
-returns c = 
+returns c =
     let args = c .before .before .before .before .before .args in
     let read : fieldOf (readHex (args .line .now) (args .place) (args .width)) ≡ F.Value (c .before .x .given .0 .0) = cc in
     holds-number _ _ (args .n) read
 
 returns-2 : tie.Need-returns-2
 unfolding stands
-returns-2 c = 
+returns-2 c =
     let args = c .before .before .before .before .args in
     let read : fieldOf (readHex (args .line .now) (args .place) (args .width)) ≡ F.Nothing = cc in
     holds-none _ (args .n) read
