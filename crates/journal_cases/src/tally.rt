@@ -6,6 +6,7 @@ use crate::compare::Compared;
 use crate::compare::compare;
 use crate::line::case_of;
 use crate::report::print;
+use crate::report::print_number;
 use crate::store::store;
 use lines::line_end;
 use lines::one_more;
@@ -30,7 +31,7 @@ pub fn tally_chunk(chunk: &[u8], v: &mut [u8], t: Tally) -> Tally
         let compared = compare(line, a, v);
         store(a, v);
         tally = count(tally, compared);
-        show(line, compared);
+        show(tally, line, compared);
         at = end;
     }
     tally
@@ -61,7 +62,7 @@ pub fn count(t: Tally, c: Compared) -> Tally
 }
 
 // Writes the line out unless it is as expected.
-fn show(line: &[u8], c: Compared) {
+fn show(t: Tally, line: &[u8], c: Compared) {
     match c {
         Compared::Stored => {}
         Compared::Same => {}
@@ -70,8 +71,9 @@ fn show(line: &[u8], c: Compared) {
             print(line);
         }
         Compared::Malformed => {
-            print(b"malformed: ");
-            print(line);
+            print(b"malformed line after ");
+            print_number(t.compared);
+            print(b" compared\n");
         }
     }
 }

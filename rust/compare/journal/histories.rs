@@ -5,7 +5,7 @@ use super::alter::{byte_altered, field_altered};
 use super::words::{mark_word, part_words, scan_words, Kinds};
 use crate::options::Options;
 use crate::tally::{Tally, Totals};
-use inputs::journal::{record, record_of_size, LARGEST, SMALLEST};
+use inputs::journal::{record, record_of_size, Fields, LARGEST, SMALLEST};
 use inputs::journal::{CHANCES, NAME_BYTES, TIMES};
 use inputs::random::Random;
 use reference::model::{append_upto, Answer, Model, Offer};
@@ -195,11 +195,15 @@ fn small_history(random: &mut Random, run: &mut Run) {
     }
 }
 
-/// Records until no more has room, in a slice around the longest journal.
+/// Records until no more has room, in a slice around the longest journal: large ones that finish, and any calls between them.
 fn full_history(random: &mut Random, run: &mut Run) {
     let size = *random.pick(&[MAX_LENGTH - 1, MAX_LENGTH, MAX_LENGTH + 1, MAX_LENGTH + 700]);
     let mut history = History::new(random, size);
     for _ in 0..300 {
+        if history.room() > 2 * LARGEST {
+            let large = offer_of_size(random, history.last_day(), LARGEST);
+            history.call(random, run, &large, usize::MAX);
+        }
         let offer = any_offer(random, history.last_day(), history.room());
         let budget = any_budget(random, &offer);
         history.call(random, run, &offer, budget);
@@ -279,15 +283,22 @@ fn any_budget(random: &mut Random, offer: &Offer) -> usize {
     }
 }
 
-fn right_offer(random: &mut Random, last_day: u16) -> Offer {
-    let day = last_day.saturating_add(random.below(3) as u16);
-    let fields = record(random, day);
+fn offer_of(fields: Fields) -> Offer {
     Offer {
-        day,
+        day: fields.day,
         name: fields.name,
         chances: fields.chances,
         times: fields.times,
     }
+}
+
+fn right_offer(random: &mut Random, last_day: u16) -> Offer {
+    let day = last_day.saturating_add(random.below(3) as u16);
+    offer_of(record(random, day))
+}
+
+fn offer_of_size(random: &mut Random, day: u16, size: usize) -> Offer {
+    offer_of(record_of_size(random, day, size))
 }
 
 /// An offer that is right, that takes exactly the room or one byte more or less, or that breaks a rule or several.
@@ -295,13 +306,7 @@ fn any_offer(random: &mut Random, last_day: u16, room: usize) -> Offer {
     let mut offer = right_offer(random, last_day);
     let size = (room + 1).saturating_sub(random.below(3) as usize);
     if random.below(4) == 0 && (SMALLEST..=LARGEST).contains(&size) {
-        let fields = record_of_size(random, last_day, size);
-        offer = Offer {
-            day: last_day,
-            name: fields.name,
-            chances: fields.chances,
-            times: fields.times,
-        };
+        offer = offer_of_size(random, last_day, size);
     }
     let broken = if random.below(4) == 0 {
         random.whole(1, 3)
