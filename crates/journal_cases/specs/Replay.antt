@@ -1,11 +1,8 @@
 -- The replay of many lines: the tally, and the buffer that they leave.
 -- Assumes nothing.
-use Prim.Native.Nat.{ℕ, zero, suc}
-use mathlib.Core.Bool.{cond}
+use Prim.Native.Nat.{ℕ}
 use mathlib.Core.List.{List}
-use lib.Dec.{eqb}
-use lib.ListN.{length, take, drop}
-use Rattle.lines.specs.Lines.{oneMore}
+use Rattle.lines.specs.Lines.{oneMore, replayOf}
 use Rattle.journal_cases.specs.Line.{caseOf}
 use Rattle.journal_cases.specs.Compare.{comparedWith}
 use Rattle.journal_cases.specs.Store.{storedBy}
@@ -29,11 +26,6 @@ pub record State : Type 0 where
 unfoldable pub stepped : List ℕ → State → State
 stepped s x = record { tally = counted (x .tally) (comparedWith s (caseOf s) (x .bytes)); bytes = storedBy (caseOf s) (x .bytes) }
 
--- both after the lines of some bytes, at most so many; a last line may be cut short
-unfoldable pub replayedIn : ℕ → List ℕ → State → State
-replayedIn zero s x = x
-replayedIn (suc most) s x = cond (eqb (length s) 0) x (replayedIn most (drop 56 s) (stepped (take 56 s) x))
-
 -- both after all lines of some bytes
 unfoldable pub replayed : List ℕ → List ℕ → Tally → State
-replayed s v t = replayedIn (length s) s (record { tally = t; bytes = v })
+replayed s v t = replayOf 56 stepped s (record { tally = t; bytes = v })

@@ -4,20 +4,23 @@ use Prim.Native.Nat.{_-_, _≤_}
 use mathlib.Core.Path.{_≡_, refl, ap}
 use native.Mathlib.Omega.{arith}
 use lib.ListN.{length}
-use Rattle.journal_cases.specs.Replay.{State}
-use Rattle.journal_cases.proofs.Chunk.{Replayed, replay-starts, line-replayed, replay-ends}
+use Rattle.lines.proofs.Replay.{Replayed, replay-starts, replay-ends}
+use Rattle.journal_cases.specs.Replay.{State, stepped, replayed}
+use Rattle.journal_cases.proofs.Chunk.{line-replayed}
 use Rattle.journal_cases.proofs.tally.tally_chunk.Statement.{statement}
 use Rattle.journal_cases.proofs.tally.tally_chunk.Tie as tie
 
 abbrev Inv-loop : tie.InvT-loop
 Inv-loop chunk v₀ tally₀ at₀ v tally at =
-    (at ≤ length chunk) × (length v ≡ length v₀) × Replayed chunk v₀ tally₀ at (record { tally = tally; bytes = v })
+    (at ≤ length chunk)
+    × (length v ≡ length v₀)
+    × Replayed 56 stepped chunk (record { tally = tally₀; bytes = v₀ }) at (record { tally = tally; bytes = v })
 
 abbrev μ-loop : tie.MeasureT-loop
 μ-loop chunk v₀ tally₀ at₀ v tally at = length chunk - at
 
 loop-holds : tie.Need-loop-holds Inv-loop μ-loop
-loop-holds c = (omega arith, refl, replay-starts _ _ _)
+loop-holds c = (omega arith, refl, replay-starts 56 stepped _ _)
 
 line-end-requires : tie.Need-line-end-requires Inv-loop μ-loop
 line-end-requires c κs = tt
@@ -57,7 +60,8 @@ loop-again c =
     let ended = asked .before .before in
     let head = ended .before .before in
     let args = head .before .before .before .args in
-    let turn = line-replayed (args .chunk .now) (args .v .now) (args .t) (head .loop .at) (ended .line-end .result) (head .loop .tally)
+    let start : State = record { tally = args .t; bytes = args .v .now } in
+    let turn = line-replayed (args .chunk .now) start (head .loop .at) (ended .line-end .result) (head .loop .tally)
     (c .before .count .result) (head .loop .v) _ (asked .case-of .result) (compared .compare .result) (omega arith)
     (ended .line-end .ensures) (head .loop .inv .2) (asked .case-of .ensures) (compared .compare .ensures) (stored .store .ensures)
     (c .before .count .ensures)
@@ -68,8 +72,9 @@ same-length : tie.Need-same-length Inv-loop μ-loop
 same-length c = omega arith
 
 returns : tie.Need-returns Inv-loop μ-loop
+unfolding replayed
 returns c =
-    let ended = replay-ends _ _ _ _ _ (c .loop-test .left) (c .before .loop .inv .2) in
+    let ended = replay-ends 56 stepped _ _ _ _ (c .loop-test .left) (c .before .loop .inv .2) in
     (ap (λ (x : State). x .tally) ended, ap (λ (x : State). x .bytes) ended)
 
 pub tally-chunk-spec : {M : Type 1} → statement M
