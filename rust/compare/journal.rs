@@ -5,6 +5,7 @@ mod alter;
 #[cfg(append)]
 mod histories;
 mod reading;
+mod run;
 mod words;
 
 use crate::options::Options;

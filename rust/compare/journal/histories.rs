@@ -2,9 +2,9 @@
 // slice, scan and both reading calls. Then single appends on any bytes, damaged journals among them.
 
 use super::alter::{byte_altered, field_altered};
-use super::words::{mark_word, part_words, scan_words, Kinds};
+use super::run::{compare_groups, Group, Run};
 use crate::options::Options;
-use crate::tally::{Tally, Totals};
+use crate::tally::Totals;
 use inputs::journal::{record, record_of_size, Fields, LARGEST, SMALLEST};
 use inputs::journal::{CHANCES, NAME_BYTES, TIMES};
 use inputs::random::Random;
@@ -12,32 +12,16 @@ use reference::model::{append_upto, Answer, Model, Offer};
 use reference::samples::{filling, joined, records};
 use reference::scan::MAX_LENGTH;
 
-pub fn compare(options: &Options, totals: &mut Totals) {
-    let mut kinds = Kinds::default();
-    let mut group = |name: &str, count: u64, each: &dyn Fn(&mut Random, &mut Run)| {
-        let mut run = Run {
-            tally: Tally::new(format!("append, {name}")),
-            kinds: &mut kinds,
-        };
-        let mut random = options.random(name);
-        (0..count).for_each(|_| each(&mut random, &mut run));
-        run.tally.close(totals);
-    };
-    group(
-        "histories in small slices",
-        options.times(60_000),
-        &small_history,
-    );
-    group("histories in full slices", options.times(4), &full_history);
-    group("cut at every budget", options.times(200), &every_budget);
-    group("any journal", options.times(150_000), &any_journal);
-    group("almost full journals", options.times(300), &almost_full);
-    kinds.print();
-}
+const GROUPS: [Group; 5] = [
+    ("append, histories in small slices", 60_000, small_history),
+    ("append, histories in full slices", 4, full_history),
+    ("append, cut at every budget", 200, every_budget),
+    ("append, any journal", 150_000, any_journal),
+    ("append, almost full journals", 300, almost_full),
+];
 
-struct Run<'a> {
-    tally: Tally,
-    kinds: &'a mut Kinds,
+pub fn compare(options: &Options, totals: &mut Totals) {
+    compare_groups(&GROUPS, options, totals);
 }
 
 fn answer_words(answer: Answer) -> [u64; 3] {
@@ -93,32 +77,16 @@ impl Run<'_> {
     /// What scan and reading say of the journal after a call, against the model.
     fn take_shown(&mut self, random: &mut Random, v: &[u8], len: usize, model: &Model) {
         let (status, count) = (model.status(), model.entries.len());
-        self.tally
-            .take([ours::journal_scan(v, len), scan_words(status)], || {
-                format!("scan, {model:?}")
-            });
-        let beyond = random.bits() as usize;
-        let some = [
-            0,
-            random.below(count as u64 + 1) as usize,
-            count.saturating_sub(1),
-            count,
-            beyond,
-        ];
-        let every: Vec<usize> = if count < 8 {
-            (0..count + 2).chain([beyond]).collect()
-        } else {
-            some.to_vec()
+        let input = || format!("{model:?}");
+        self.take_scan(v, len, status, input);
+        let near = random.below(count as u64 + 1) as usize;
+        let huge = random.bits() as usize;
+        let every: Vec<usize> = match count {
+            0..8 => (0..count + 2).chain([huge]).collect(),
+            _ => vec![0, near, count - 1, count, huge],
         };
         for i in every {
-            let part = [ours::journal_part(v, len, i), part_words(&model.entries, i)];
-            self.tally.take(part, || format!("part {i}, {model:?}"));
-            let mark = [
-                ours::journal_mark(v, len, i),
-                mark_word(status, &model.entries, i),
-            ];
-            self.tally
-                .take(mark.map(|word| [word]), || format!("mark {i}, {model:?}"));
+            self.take_reading((v, len, i), (status, &model.entries), input);
         }
     }
 }

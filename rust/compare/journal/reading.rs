@@ -2,77 +2,38 @@
 // The bytes behind the length are random where they stand.
 
 use super::alter::{byte_altered, field_altered};
-use super::words::{mark_word, part_words, scan_words, Kinds};
+use super::run::{compare_groups, Group, Run};
 use crate::options::Options;
-use crate::tally::{Tally, Totals};
+use crate::tally::Totals;
 use inputs::journal::{LARGEST, SMALLEST};
 use inputs::random::Random;
 use reference::samples::{filling, full, joined, records};
 use reference::scan::{scan_all, MAX_LENGTH};
 
+const GROUPS: [Group; 7] = [
+    ("journal, random bytes", 300_000, random_bytes),
+    ("journal, whole records", 200_000, whole_records),
+    ("journal, one field altered", 600_000, one_field_altered),
+    ("journal, one byte altered", 400_000, one_byte_altered),
+    ("journal, cut at every length", 1_000, every_cut),
+    ("journal, lengths beyond", 50_000, lengths_beyond),
+    ("journal, full journals", 20, full_journals),
+];
+
 pub fn compare(options: &Options, totals: &mut Totals) {
-    let mut kinds = Kinds::default();
-    let mut group = |name: &str, count: u64, each: &dyn Fn(&mut Random, &mut Run)| {
-        let mut run = Run {
-            tally: Tally::new(format!("journal, {name}")),
-            kinds: &mut kinds,
-        };
-        let mut random = options.random(name);
-        (0..count).for_each(|_| each(&mut random, &mut run));
-        run.tally.close(totals);
-    };
-    group("random bytes", options.times(300_000), &random_bytes);
-    group("whole records", options.times(200_000), &whole_records);
-    group(
-        "one field altered",
-        options.times(600_000),
-        &one_field_altered,
-    );
-    group(
-        "one byte altered",
-        options.times(400_000),
-        &one_byte_altered,
-    );
-    group("cut at every length", options.times(1_000), &every_cut);
-    group("lengths beyond", options.times(50_000), &lengths_beyond);
-    group("full journals", options.times(20), &full_journals);
-    kinds.print();
+    compare_groups(&GROUPS, options, totals);
 }
 
-/// A group's tally, and the kinds of answers of all groups.
-pub struct Run<'a> {
-    pub tally: Tally,
-    pub kinds: &'a mut Kinds,
-}
-
-impl Run<'_> {
-    /// Compares all three calls on the first `len` bytes of a slice, reading at the edges of the records' number and at random.
-    pub fn compare_at(&mut self, random: &mut Random, v: &[u8], len: usize) {
-        let (status, entries) = scan_all(v, len);
-        let words = scan_words(status);
-        self.kinds.add_scan(words);
-        let input = |call: &str| format!("{call} of length {len} in {}", hex(v));
-        self.tally
-            .take([ours::journal_scan(v, len), words], || input("scan"));
-        let near = random.below(entries.len() as u64 + 3) as usize;
-        let huge = random.bits() as usize;
-        for i in [
-            0,
-            entries.len().saturating_sub(1),
-            entries.len(),
-            near,
-            huge,
-        ] {
-            let part = [ours::journal_part(v, len, i), part_words(&entries, i)];
-            self.tally.take(part, || input(&format!("part {i}")));
-            let mark = [
-                ours::journal_mark(v, len, i),
-                mark_word(status, &entries, i),
-            ];
-            self.kinds.add_mark(mark[1]);
-            self.tally
-                .take(mark.map(|word| [word]), || input(&format!("mark {i}")));
-        }
+/// Compares all three calls on the first `len` bytes of a slice, reading at the edges of the records' number and at random.
+fn compare_at(random: &mut Random, run: &mut Run, v: &[u8], len: usize) {
+    let (status, entries) = scan_all(v, len);
+    let input = || format!("length {len} in {}", hex(v));
+    run.take_scan(v, len, status, input);
+    let count = entries.len();
+    let near = random.below(count as u64 + 3) as usize;
+    let huge = random.bits() as usize;
+    for i in [0, count.saturating_sub(1), count, near, huge] {
+        run.take_reading((v, len, i), (status, &entries), input);
     }
 }
 
@@ -88,7 +49,7 @@ fn random_bytes(random: &mut Random, run: &mut Run) {
     let right = (random.below(7) as usize).min(size);
     v[..right].copy_from_slice(&start[..right]);
     let len = random.below(size as u64 + 1) as usize;
-    run.compare_at(random, &v, len);
+    compare_at(random, run, &v, len);
 }
 
 /// Whole records, whose length is the slice's or ends before bytes that do not count.
@@ -99,7 +60,7 @@ fn whole_records(random: &mut Random, run: &mut Run) {
     for _ in 0..random.below(3) * 20 {
         v.push(random.bits() as u8);
     }
-    run.compare_at(random, &v, len);
+    compare_at(random, run, &v, len);
 }
 
 /// A field altered; now and then the bytes end inside the journal.
@@ -111,14 +72,14 @@ fn one_field_altered(random: &mut Random, run: &mut Run) {
         0 => random.below(v.len() as u64 + 1) as usize,
         _ => v.len(),
     };
-    run.compare_at(random, &v, len);
+    compare_at(random, run, &v, len);
 }
 
 fn one_byte_altered(random: &mut Random, run: &mut Run) {
     let count = random.whole(1, 3);
     let some = joined(&records(random, count));
     let v = byte_altered(random, some);
-    run.compare_at(random, &v, v.len());
+    compare_at(random, run, &v, v.len());
 }
 
 /// Every length of a journal, in the whole slice and in one that ends there; the journal is right or has a field altered.
@@ -130,8 +91,8 @@ fn every_cut(random: &mut Random, run: &mut Run) {
         _ => field_altered(random, some),
     };
     for len in 0..=v.len() {
-        run.compare_at(random, &v, len);
-        run.compare_at(random, &v[..len], len);
+        compare_at(random, run, &v, len);
+        compare_at(random, run, &v[..len], len);
     }
 }
 
@@ -147,7 +108,7 @@ fn lengths_beyond(random: &mut Random, run: &mut Run) {
         random.bits() as usize,
     ];
     let len = *random.pick(&beyond);
-    run.compare_at(random, &v, len);
+    compare_at(random, run, &v, len);
 }
 
 /// A journal of 65,536 bytes, and one of some more: every length next to the longest.
@@ -169,7 +130,7 @@ fn full_journals(random: &mut Random, run: &mut Run) {
             v.len(),
             v.len() + 1,
         ] {
-            run.compare_at(random, v, len);
+            compare_at(random, run, v, len);
         }
     }
 }
