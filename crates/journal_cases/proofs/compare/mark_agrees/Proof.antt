@@ -5,15 +5,9 @@ use borrow.Author.Needs.{needs}
 use Rattle.journal_cases.proofs.compare.mark_agrees.Statement.{statement}
 use Rattle.journal_cases.proofs.compare.mark_agrees.Tie as tie
 
-journal-mark-requires : tie.Need-journal-mark-requires
-journal-mark-requires c κs = search needs
-
-agree-requires : tie.Need-agree-requires
-agree-requires c κs = search needs
-
 returns : tie.Need-returns
 unfolding markAgrees
 returns c = rw (← c .before .journal-mark .ensures) (c .agree .ensures)
 
 pub mark-agrees-spec : {M : Type 1} → statement M
-mark-agrees-spec = tie.close (tie.spec journal-mark-requires agree-requires returns)
+mark-agrees-spec = tie.close (tie.spec (λ c κs. search needs) (λ c κs. search needs) returns)

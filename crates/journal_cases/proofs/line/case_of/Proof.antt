@@ -10,18 +10,9 @@ returns : tie.Need-returns
 unfolding caseOf
 returns c = rw (ne-eqb _ _ (c .if1 .taken))
 
-shared-slice-read-if2 : tie.Need-shared-slice-read-if2
-shared-slice-read-if2 c = search needs
-
 returns-2 : tie.Need-returns-2
 unfolding caseOf
 returns-2 c = rw (eq-eqb _ _ (c .before .before .if1 .left), ne-eqb _ _ (c .if2 .taken))
-
-shared-slice-read-case-numbers : tie.Need-shared-slice-read-case-numbers
-shared-slice-read-case-numbers c = search needs
-
-case-numbers-requires : tie.Need-case-numbers-requires
-case-numbers-requires c κs = search needs
 
 returns-3 : tie.Need-returns-3
 unfolding caseOf
@@ -34,8 +25,8 @@ case-of-spec =
     tie.close
     (tie.spec
     returns
-    shared-slice-read-if2
+    (λ c. search needs)
     returns-2
-    shared-slice-read-case-numbers
-    case-numbers-requires
+    (λ c. search needs)
+    (λ c κs. search needs)
     returns-3)
