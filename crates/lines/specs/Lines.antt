@@ -1,8 +1,10 @@
--- Lines of fixed length: where one ends, a number in it, and a count of them.
+-- Lines of fixed length: where one ends, a number in it, a count of them, and what they make of a state one after another.
 -- Assumes nothing.
-use Prim.Native.Nat.{ℕ, _+_, _-_, _^_, min}
+use Prim.Native.Nat.{ℕ, zero, suc, _+_, _-_, _^_, min}
 use mathlib.Core.Bool.{cond}
-use lib.Dec.{ltb}
+use mathlib.Core.List.{List}
+use lib.Dec.{ltb, eqb}
+use lib.ListN.{length, take, drop}
 use Rattle.hex.specs.declared.read.Number.{Number}
 use Rattle.hex.specs.declared.read.Number.the-variants as N
 use Rattle.lines.specs.declared.field.Field.{Field}
@@ -22,3 +24,12 @@ lineEnd at width len = at + min width (len - at)
 -- one more, of a count that stays at the largest u64
 unfoldable pub oneMore : ℕ → ℕ
 oneMore n = cond (ltb n (2 ^ 64 - 1)) (n + 1) n
+
+-- a state after the lines of some bytes, at most so many; a last line may be cut short
+unfoldable pub replayIn : {A : Type 0} → ℕ → (List ℕ → A → A) → ℕ → List ℕ → A → A
+replayIn width step zero s x = x
+replayIn width step (suc most) s x = cond (eqb (length s) 0) x (replayIn width step most (drop width s) (step (take width s) x))
+
+-- the same after all lines of some bytes
+unfoldable pub replayOf : {A : Type 0} → ℕ → (List ℕ → A → A) → List ℕ → A → A
+replayOf width step s x = replayIn width step (length s) s x

@@ -1,0 +1,15 @@
+-- `part_agrees` hands the two words of the export on. Assumes nothing.
+use mathlib.Core.Path.{_∙_}
+use Rattle.journal_cases.specs.Compare.{partAgrees}
+use borrow.Author.Needs.{needs}
+use Rattle.journal_cases.proofs.compare.part_agrees.Statement.{statement}
+use Rattle.journal_cases.proofs.compare.part_agrees.Tie as tie
+
+returns : tie.Need-returns
+unfolding partAgrees
+returns c = rw (← c .before .journal-part .ensures) (c .agree .ensures)
+
+pub part-agrees-spec : {M : Type 1} → statement M
+part-agrees-spec =
+    tie.close
+    (tie.spec (λ c κs. search needs) (λ c. search needs) (λ c. search needs) (λ c κs. search needs) returns)

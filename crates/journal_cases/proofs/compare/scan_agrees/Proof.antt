@@ -1,0 +1,21 @@
+-- `scan_agrees` hands the three words of the export on. Assumes nothing.
+use mathlib.Core.Path.{_∙_}
+use Rattle.journal_cases.specs.Compare.{scanAgrees}
+use borrow.Author.Needs.{needs}
+use Rattle.journal_cases.proofs.compare.scan_agrees.Statement.{statement}
+use Rattle.journal_cases.proofs.compare.scan_agrees.Tie as tie
+
+returns : tie.Need-returns
+unfolding scanAgrees
+returns c = rw (← c .before .journal-scan .ensures) (c .agree .ensures)
+
+pub scan-agrees-spec : {M : Type 1} → statement M
+scan-agrees-spec =
+    tie.close
+    (tie.spec
+    (λ c κs. search needs)
+    (λ c. search needs)
+    (λ c. search needs)
+    (λ c. search needs)
+    (λ c κs. search needs)
+    returns)
