@@ -17,3 +17,5 @@ pub mod Heads
 pub mod Counting
 pub mod Inside
 pub mod Answering
+-- writing
+pub mod Putting

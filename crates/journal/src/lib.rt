@@ -13,6 +13,7 @@ mod limits;
 mod number;
 mod record;
 mod section;
+mod write;
 
 // Document 01's number for an i that is not below the number of records.
 pub const ABSENT_REFUSAL: u32 = 10;

@@ -30,7 +30,7 @@ use limit::sums::MIN_TICKS;
 use limit::sums::Sums;
 
 // The one form there is, and the greatest day.
-const FORM: u64 = 1;
+pub(crate) const FORM: u64 = 1;
 
 const MAX_DAY: u64 = 65_535;
 
