@@ -19,3 +19,8 @@ pub mod Inside
 pub mod Answering
 -- writing
 pub mod Putting
+-- the check of an offer
+pub mod Checking
+pub mod WorkedOut
+pub mod Offered
+pub mod Extending
