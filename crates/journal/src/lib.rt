@@ -14,6 +14,8 @@ mod number;
 mod record;
 mod section;
 
+pub use number::number_in;
+
 // Document 01's number for an i that is not below the number of records.
 pub const ABSENT_REFUSAL: u32 = 10;
 
