@@ -76,7 +76,8 @@ pub fn next_line(v: &[u8], cursor: Cursor, out: &mut [u8]) -> Line
         };
     }
     if cursor.left == 0 {
-        let size = put_state(cursor.status, out);
+        let status = cursor.status;
+        let size = put_state(status, out);
         return Line {
             size,
             cursor: at_end(cursor),
@@ -112,11 +113,12 @@ fn past_record(cursor: Cursor, next: usize) -> Cursor
     requires { ⌜ 0 < cursor .left ⌝ }
     ensures { λ r. ⌜ r ≡ record { at = next; left = cursor .left - 1; ended = false; status = cursor .status } ⌝ }
 {
+    let status = cursor.status;
     Cursor {
         at: next,
         left: cursor.left - 1,
         ended: false,
-        status: cursor.status,
+        status,
     }
 }
 
@@ -124,10 +126,11 @@ fn past_record(cursor: Cursor, next: usize) -> Cursor
 fn at_end(cursor: Cursor) -> Cursor
     ensures { λ r. ⌜ positionOf r ≡ endOf (positionOf cursor) ⌝ }
 {
+    let status = cursor.status;
     Cursor {
         at: cursor.at,
         left: 0,
         ended: true,
-        status: cursor.status,
+        status,
     }
 }
