@@ -9,4 +9,5 @@ pub mod Texts
 pub mod Pairs
 pub mod Equal
 pub mod Steps
+pub mod LinesJoined
 pub mod Examples

@@ -2,7 +2,7 @@
 -- Defined for every position, also for those that no listing comes to.
 use mathlib.Core.Path.{_≡_}
 use Prim.Native.Nat.{ℕ, zero, suc}
-use mathlib.Core.List.{List, [], _++_}
+use mathlib.Core.List.{List, [], _∷_, _++_}
 use mathlib.Core.Bool.{Bool, true, false, cond}
 use lib.ListN.{length}
 use Rattle.hex.specs.Text.{Put}
@@ -69,10 +69,15 @@ stepBy (suc left) p b = recordStep p left (recordAt (p .at) b)
 unfoldable pub step : Position → List ℕ → Step
 step p b = cond (p .ended) (noLine p) (stepBy (p .left) p b)
 
--- the text of so many lines from a position on
+-- a line and what follows it; nothing follows where there is no line
+unfoldable pub onward : List ℕ → List ℕ → List ℕ
+onward [] rest = []
+onward (x ∷ xs) rest = (x ∷ xs) ++ rest
+
+-- the lines of at most so many calls from a position on, up to the first call that has none
 unfoldable pub linesFrom : ℕ → Position → List ℕ → List ℕ
 linesFrom zero p b = []
-linesFrom (suc more) p b = step p b .text ++ linesFrom more (step p b .position) b
+linesFrom (suc more) p b = onward (step p b .text) (linesFrom more (step p b .position) b)
 
 -- What a call does that writes a line into a lent buffer: the line stands from its start on, as much of it as there is room for, and no other
 -- byte is changed; answered are the number of bytes written and the position behind the line.
