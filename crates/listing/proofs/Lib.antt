@@ -10,4 +10,5 @@ pub mod Pairs
 pub mod Equal
 pub mod Steps
 pub mod LinesJoined
+pub mod Falling
 pub mod Examples
