@@ -1,11 +1,12 @@
 -- For programs that print a listing: each call leaves fewer records while some are left, and never writes beyond the buffer.
 -- Assumes nothing.
-use mathlib.Core.Path.{_≡_, refl, sym, ap, _∙_}
-use Prim.Native.Nat.{ℕ, zero, suc, _≤_, _<_}
+use mathlib.Core.Path.{_≡_, ap, _∙_}
+use Prim.Native.Nat.{ℕ, zero, suc, _-_, _≤_, _<_, min}
 use mathlib.Core.List.{List}
 use mathlib.Core.Bool.{Bool, true, false, cond}
 use native.Mathlib.Omega.{arith}
 use lib.ListN.{length}
+use lib.Seq.{length-paste}
 use Rattle.hex.specs.Text.{roomFor}
 use Rattle.journal_spec.specs.Reader.{Found, found, fault, short}
 use Rattle.journal_spec.specs.Record.{Record}
@@ -28,6 +29,9 @@ step-falls p b pos = go (p .ended) (p .left) pos
     go true (suc k) pos = omega arith
     go false (suc k) pos = record-falls p k (recordAt (p .at) b)
 
-pub line-inside : (s : Step) (out : List ℕ) (line : Line) (after : List ℕ) → Writes s out line after → line .size ≤ length out
+pub line-inside : (s : Step) (out : List ℕ) (line : Line) (after : List ℕ) → Writes s out line after → line .size ≤ length after
 unfolding roomFor
-line-inside s out line after w = omega (arith, w .bytes .end)
+line-inside s out line after w =
+    let n : ℕ = min (length (s .text)) (length out - 0) in
+    let size : length after ≡ length out = ap length (w .bytes .bytes) ∙ length-paste out 0 (s .text) n (omega arith) (omega arith) in
+    omega (arith, w .bytes .end)
