@@ -3,7 +3,7 @@
 ghost use mathlib.Core.Path.{_≡_};
 ghost use mathlib.Core.Bool.{false};
 ghost use Prim.Native.Nat.{_-_, _<_};
-ghost use Rattle.listing.specs.Lines.{positionOf, startOf, before, step, recordStep, endOf, Writes};
+ghost use Rattle.listing.specs.Lines.{positionOf, listedOf, startOf, step, recordStep, endOf, Writes};
 ghost use Rattle.journal.specs.Answers.{meaning};
 ghost use Rattle.listing.specs.Plain.{recordAt};
 use crate::spans::spans_at;
@@ -50,7 +50,7 @@ pub fn start(v: &[u8]) -> Cursor
 
 // How many records are listed: none where the journal is damaged.
 fn listed(status: Status) -> usize
-    ensures { λ r. ⌜ r ≡ before (meaning status) .left ⌝ }
+    ensures { λ r. ⌜ r ≡ listedOf (meaning status) ⌝ }
 {
     match status {
         Status::Whole {
