@@ -10,5 +10,6 @@ pub mod Pairs
 pub mod Equal
 pub mod Steps
 pub mod LinesJoined
+pub mod Longest
 pub mod Falling
 pub mod Examples

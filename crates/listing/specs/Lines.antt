@@ -79,6 +79,10 @@ unfoldable pub linesFrom : ℕ → Position → List ℕ → List ℕ
 linesFrom zero p b = []
 linesFrom (suc more) p b = onward (step p b .text) (linesFrom more (step p b .position) b)
 
+-- the longest line: a name of 32 bytes, a day of 5 digits, the mark, 8 pairs of a chance of 6 digits and a limit of 16, and what separates them
+abbrev pub maxLine : ℕ
+maxLine = 233
+
 -- What a call does that writes a line into a lent buffer: the line stands from its start on, as much of it as there is room for, and no other
 -- byte is changed; answered are the number of bytes written and the position behind the line.
 pub record Writes (s : Step) (out : List ℕ) (line : Line) (after : List ℕ) : Type 0 where
