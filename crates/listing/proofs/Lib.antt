@@ -11,5 +11,6 @@ pub mod Equal
 pub mod Steps
 pub mod LinesJoined
 pub mod Longest
+pub mod Faults
 pub mod Falling
 pub mod Examples
