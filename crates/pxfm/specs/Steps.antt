@@ -56,20 +56,19 @@ results x0 x1 x2 x3 x4 x5 =
     checkedErfCore a ∷
     []
 
--- The result of the function with a number; a pair of NaN where no function has it.
-unfoldable pub resultOf : ℕ → Float → Float → Float → Float → Float → Float → DoubleDouble
-resultOf which x0 x1 x2 x3 x4 x5 = getD (results x0 x1 x2 x3 x4 x5) which nanPair
-
 -- The bit patterns of a pair. `toBits` gives 7ff8000000000000 for a NaN.
 abbrev pub patternsOf : DoubleDouble → BitPair
 patternsOf r = bitPair (toBits binary64 (r .lo)) (toBits binary64 (r .hi))
+
+-- The patterns of the result of the function with a number; of a pair of NaN where no function has it.
+unfoldable pub resultOf : ℕ → Float → Float → Float → Float → Float → Float → BitPair
+resultOf which x0 x1 x2 x3 x4 x5 = patternsOf (getD (results x0 x1 x2 x3 x4 x5) which nanPair)
 
 -- The double whose pattern stands at a place.
 abbrev pub doubleAt : List ℕ → ℕ → Float
 doubleAt inp i = ofBits binary64 (getD inp i 0)
 
--- The patterns of the result at the doubles with six patterns.
+-- The same at the doubles with six patterns.
 unfoldable pub stepOf : ℕ → List ℕ → BitPair
 stepOf which inp =
-    patternsOf
-    (resultOf which (doubleAt inp 0) (doubleAt inp 1) (doubleAt inp 2) (doubleAt inp 3) (doubleAt inp 4) (doubleAt inp 5))
+    resultOf which (doubleAt inp 0) (doubleAt inp 1) (doubleAt inp 2) (doubleAt inp 3) (doubleAt inp 4) (doubleAt inp 5)

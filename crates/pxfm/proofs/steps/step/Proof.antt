@@ -7,17 +7,14 @@ use Rattle.pxfm.proofs.steps.step.Tie as tie
 returns : tie.Need-returns
 unfolding stepOf
 returns c =
-    let r = c .before .before in
-    let c6 = r .before in
+    let c6 = c .before in
     let c5 = c6 .before .before in
     let c4 = c5 .before .before in
     let c3 = c4 .before .before in
     let c2 = c3 .before .before in
     let c1 = c2 .before .before in
     rw (
-      c .bits-of2 .ensures,
-      c .before .bits-of .ensures,
-      r .result .ensures,
+      c .result .ensures,
       c6 .of-bits6 .ensures,
       c5 .of-bits5 .ensures,
       c4 .of-bits4 .ensures,
@@ -31,5 +28,5 @@ step-spec =
     tie.close
     (tie.spec
     (λ c. search needs) ok (λ c. search needs) ok (λ c. search needs) ok (λ c. search needs) ok
-    (λ c. search needs) ok (λ c. search needs) ok ok ok ok
+    (λ c. search needs) ok (λ c. search needs) ok ok
     returns)
