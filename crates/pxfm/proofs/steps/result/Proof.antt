@@ -6,14 +6,7 @@ use Rattle.pxfm.proofs.Tables.{missed-le, past-end}
 use Rattle.pxfm.proofs.steps.result.Statement.{statement}
 use Rattle.pxfm.proofs.steps.result.Tie as tie
 
--- A number that no function has is past the list's end.
-rest : tie.Need-returns-29
-unfolding results resultOf
-rest c =
-    rw (c .patterns29 .ensures, c .before .nan-pair .ensures)
-    (ap patternsOf (past-end nanPair (results _ _ _ _ _ _) _ (missed-le 28 _ (c .before .before .match .rest))))
-
--- An arm with number k: the list has its function's result at k.
+-- An arm with number k: the list has its function's result at k. A number that no arm has is past the list's end.
 pub result-spec : {M : Type 1} → statement M
 unfolding results resultOf
 result-spec =
@@ -50,4 +43,6 @@ result-spec =
     (λ c. rw (c .patterns26 .ensures, c .before .inverf-asympt-small .ensures, c .before .before .match .keys26))
     (λ c. rw (c .patterns27 .ensures, c .before .inverf-asympt-long .ensures, c .before .before .match .keys27))
     (λ c. rw (c .patterns28 .ensures, c .before .core .ensures, c .before .before .match .keys28))
-    rest)
+    (λ c.
+    rw (c .patterns29 .ensures, c .before .nan-pair .ensures)
+    (ap patternsOf (past-end nanPair (results _ _ _ _ _ _) _ (missed-le 28 _ (c .before .before .match .rest))))))
