@@ -193,10 +193,11 @@ impl DoubleDouble {
         ensures { λ r. ⌜ r ≡ quickMult a b ⌝ }
     {
         let c = DoubleDouble::from_exact_mult(a.hi, b.hi);
+        let cl1 = c.lo;
         let tl1 = a.hi * b.lo;
         let tl2 = a.lo * b.hi;
         let cl2 = tl1 + tl2;
-        let cl3 = c.lo + cl2;
+        let cl3 = cl1 + cl2;
         DoubleDouble::new(cl3, c.hi)
     }
 
@@ -205,8 +206,9 @@ impl DoubleDouble {
         ensures { λ r. ⌜ r ≡ quickMultF64 a b ⌝ }
     {
         let c = DoubleDouble::from_exact_mult(a.hi, b);
+        let cl1 = c.lo;
         let cl2 = a.lo * b;
-        let cl3 = c.lo + cl2;
+        let cl3 = cl1 + cl2;
         DoubleDouble::new(cl3, c.hi)
     }
 
