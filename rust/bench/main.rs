@@ -6,7 +6,7 @@ use inputs::journal::{LARGEST, SMALLEST};
 use inputs::quantile::{chance, BELOW_ONE, CHANCES, ONE_TO_TWO};
 use inputs::random::Random;
 use original::steps;
-use ours::Step;
+use ours::{number, Step};
 use reference::samples::full;
 use reference::scan::{scan, Status};
 use std::hint::black_box;
@@ -96,9 +96,10 @@ fn pair_rows(random: &mut Random) {
         let low = high.map(|x| low_part(x, random));
         [low[0], high[0], low[1], high[1], low[2], high[2]].map(f64::to_bits)
     });
+    let sides = [ours::px_step as Step, steps::px_step];
     macro_rules! rows {
         ($($name:ident)*) => {
-            $(print_row(stringify!($name), race([ours::$name as Step, steps::$name], &inputs, call_step));)*
+            $(print_row(stringify!($name), race(sides, &inputs, |side, input| call_step(side, number::$name, input)));)*
         };
     }
     rows!(dd_quick_mult dd_mul_add dd_div dd_recip dd_fast_sqrt);
@@ -128,10 +129,9 @@ fn call_bits(function: OnBits, input: &u64) -> u64 {
     function(*input)
 }
 
-fn call_step(function: Step, input: &[u64; 6]) -> u64 {
+fn call_step(side: Step, number: u32, input: &[u64; 6]) -> u64 {
     let mut out = [0; 2];
-    // No listed function takes more than six places, and each writes two.
-    unsafe { function(input.as_ptr(), &mut out) };
+    side(number, input, &mut out);
     out[0] ^ out[1]
 }
 

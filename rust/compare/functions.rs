@@ -6,7 +6,6 @@ use crate::tally::{hex, Tally, Totals};
 use inputs::doubles;
 use inputs::random::Random;
 use original::steps;
-use ours::Step;
 use std::ops::Range;
 
 #[macro_use]
@@ -20,10 +19,9 @@ struct Argument {
 }
 
 struct Function {
+    number: u32,
     name: &'static str,
     arguments: Vec<Argument>,
-    ours: Step,
-    rust: Step,
 }
 
 macro_rules! places {
@@ -44,13 +42,12 @@ macro_rules! ranges {
     };
 }
 
-macro_rules! pair_up {
-    ($($name:ident ($($arg:ident: $kind:ident $(in $ranges:expr)?),*) $(if $holds:expr)? => $call:expr;)*) => {
+macro_rules! describe {
+    ($($number:literal $name:ident ($($arg:ident: $kind:ident $(in $ranges:expr)?),*) $(if $holds:expr)? => $call:expr;)*) => {
         vec![$(Function {
+            number: $number,
             name: stringify!($name),
             arguments: vec![$(Argument { places: places!($kind), ranges: ranges!($($ranges)?) }),*],
-            ours: ours::$name,
-            rust: steps::$name,
         }),*]
     };
 }
@@ -65,7 +62,7 @@ const EDGE_INPUTS: u64 = 200_000;
 
 pub fn compare(options: &Options, totals: &mut Totals) {
     let edges = doubles::edges();
-    for function in with_functions!(pair_up) {
+    for function in with_functions!(describe) {
         let mut tally = Tally::new(function.name);
         let mut random = options.random(function.name);
         function.compare_edges(&edges, &mut random, &mut tally);
@@ -85,8 +82,7 @@ impl Function {
     }
 
     fn compare_at(&self, input: &Input, tally: &mut Tally) {
-        let sides = [self.ours, self.rust].map(|step| answer(step, input));
-        tally.take(sides, || hex(&input[..self.places()]));
+        tally.take(answers(self.number, input), || hex(&input[..self.places()]));
     }
 
     /// Every choice of edge doubles for the places, or random choices where there are too many.
@@ -164,9 +160,10 @@ fn random_bits(random: &mut Random) -> Input {
     std::array::from_fn(|_| random.bits())
 }
 
-pub fn answer(step: Step, input: &Input) -> [u64; 2] {
-    let mut out = [0; 2];
-    // No listed function takes more places than an Input has, and each writes two.
-    unsafe { step(input.as_ptr(), &mut out) };
-    out
+/// Our result of the function with this number, and the Rust's.
+pub fn answers(number: u32, input: &Input) -> [[u64; 2]; 2] {
+    let mut sides = [[0; 2]; 2];
+    ours::px_step(number, input, &mut sides[0]);
+    steps::px_step(number, input, &mut sides[1]);
+    sides
 }

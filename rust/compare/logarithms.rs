@@ -1,12 +1,12 @@
 // Both logarithms where every digit of their tables shows: next to the inverse of an entry's reciprocal
 // their polynomial is almost 0 and hides nothing of the entry's low part.
 
-use crate::functions::{answer, Input};
+use crate::functions::{answers, Input};
 use crate::tally::{hex, Tally, Totals};
 use inputs::doubles::around;
 use inputs::quantile::BINS;
-use original::{reciprocal, steps};
-use ours::Step;
+use original::reciprocal;
+use ours::number;
 
 /// Doubles to each side of an inverse.
 const REACH: u64 = 20;
@@ -15,31 +15,24 @@ const REACH: u64 = 20;
 const EXPONENTS: [i64; 6] = [0, -1, 1, -4, -30, -1000];
 
 pub fn compare(totals: &mut Totals) {
-    let pair = [ours::px_fast_log_dd as Step, steps::px_fast_log_dd];
-    compare_sides(
+    compare_function(
         "px_fast_log_dd, tables",
-        pair,
+        number::px_fast_log_dd,
         |bits| [0, bits, 0, 0, 0, 0],
         totals,
     );
-    let single = [
-        ours::px_fast_log_d_to_dd as Step,
-        steps::px_fast_log_d_to_dd,
-    ];
-    compare_sides(
+    compare_function(
         "px_fast_log_d_to_dd, tables",
-        single,
+        number::px_fast_log_d_to_dd,
         |bits| [bits, 0, 0, 0, 0, 0],
         totals,
     );
 }
 
-fn compare_sides(name: &str, sides: [Step; 2], input: fn(u64) -> Input, totals: &mut Totals) {
+fn compare_function(name: &str, number: u32, input: fn(u64) -> Input, totals: &mut Totals) {
     let mut tally = Tally::new(name);
     for bits in arguments() {
-        tally.take(sides.map(|step| answer(step, &input(bits))), || {
-            hex(&[bits])
-        });
+        tally.take(answers(number, &input(bits)), || hex(&[bits]));
     }
     tally.close(totals);
 }

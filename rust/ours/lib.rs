@@ -5,23 +5,26 @@
 #[path = "../functions.rs"]
 mod functions;
 
-/// A listed function: `input` points to the arguments' bit patterns, `out` to two places.
-pub type Step = unsafe extern "C" fn(input: *const u64, out: *mut [u64; 2]);
+/// A side's listed functions by number: `input` holds the arguments' bit patterns from the front, `out` takes the result's.
+pub type Step = extern "C" fn(number: u32, input: &[u64; 6], out: &mut [u64; 2]);
 
 unsafe extern "C" {
     pub safe fn sqrt_bits(x: u64) -> u64;
     pub safe fn f_erfcinv_bits(x: u64) -> u64;
+    pub safe fn px_step(number: u32, input: &[u64; 6], out: &mut [u64; 2]);
 }
 
-macro_rules! declare {
-    ($($name:ident ($($arg:ident: $kind:ident $(in $ranges:expr)?),*) $(if $holds:expr)? => $call:expr;)*) => {
-        unsafe extern "C" {
-            $(pub fn $name(input: *const u64, out: *mut [u64; 2]);)*
+macro_rules! name_numbers {
+    ($($number:literal $name:ident ($($arg:ident: $kind:ident $(in $ranges:expr)?),*) $(if $holds:expr)? => $call:expr;)*) => {
+        /// The numbers of the listed functions, under the functions' names.
+        #[allow(non_upper_case_globals)]
+        pub mod number {
+            $(pub const $name: u32 = $number;)*
         }
     };
 }
 
-with_functions!(declare);
+with_functions!(name_numbers);
 
 /// The limit of some times at a chance: {0, its bits} or {1, refusal}.
 pub fn limit_bits(times: &[u32], chance: u32) -> [u64; 2] {

@@ -1,5 +1,5 @@
 -- A test that antt computes at each entry of a table, and what it shows of the entry at a place; and what the last arm of a `match`
--- over a table knows.
+-- over a table or a list knows.
 -- Assumes nothing.
 use mathlib.Core.Path.{_≡_, refl}
 use mathlib.Core.Bool.{Bool, true, false, not, _&&_}
@@ -56,8 +56,8 @@ pub missed-le : (n i : ℕ) → Missed n i → n ≤ i
 missed-le zero i m = omega arith
 missed-le (suc n) i m = above-each n i (missed-le n i (m .0)) (m .1)
 
--- and past the end of a table of n entries.
-pub past-end : (xs : List ℕ) (i : ℕ) → length xs ≤ i → 0 ≡ getD xs i 0
-past-end [] i h = refl
-past-end (x ∷ xs) zero h = absurd (omega arith)
-past-end (x ∷ xs) (suc i) h = past-end xs i (le-of-suc-le-suc h)
+-- and past the end of a list of n entries, where the look-up answers d.
+pub past-end : {A : Type 0} (d : A) (xs : List A) (i : ℕ) → length xs ≤ i → d ≡ getD xs i d
+past-end d [] i h = refl
+past-end d (x ∷ xs) zero h = absurd (omega arith)
+past-end d (x ∷ xs) (suc i) h = past-end d xs i (le-of-suc-le-suc h)

@@ -1,4 +1,4 @@
--- The definitions of the port, a file for each file of the Rust; Argument, Bins and Checked state what the laws speak of.
+-- The definitions of the port, a file for each file of the Rust; Argument, Bins, Checked and Steps are of our own.
 -- In the order in which they build on each other.
 pub mod DoubleDouble
 pub mod Common
@@ -12,3 +12,4 @@ pub mod Rationals
 pub mod Argument
 pub mod Inverfc
 pub mod Checked
+pub mod Steps

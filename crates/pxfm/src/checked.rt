@@ -19,13 +19,13 @@ fn positive_finite(x: f64) -> bool
     b < 0x7ff0000000000000
 }
 
-fn nan_pair() -> DoubleDouble
+pub(crate) fn nan_pair() -> DoubleDouble
     ensures { λ r. ⌜ r ≡ nanPair ⌝ }
 {
     DoubleDouble::new(0.0 / 0.0, 0.0 / 0.0)
 }
 
-pub fn log_dd(x: DoubleDouble) -> DoubleDouble
+pub(crate) fn log_dd(x: DoubleDouble) -> DoubleDouble
     ensures { λ r. ⌜ r ≡ checkedLogDd x ⌝ }
 {
     if positive_finite(x.hi) {
@@ -34,7 +34,7 @@ pub fn log_dd(x: DoubleDouble) -> DoubleDouble
     nan_pair()
 }
 
-pub fn log_d_to_dd(x: f64) -> DoubleDouble
+pub(crate) fn log_d_to_dd(x: f64) -> DoubleDouble
     ensures { λ r. ⌜ r ≡ checkedLogDToDd x ⌝ }
 {
     if positive_finite(x) {
@@ -43,7 +43,7 @@ pub fn log_d_to_dd(x: f64) -> DoubleDouble
     nan_pair()
 }
 
-pub fn core(x: DoubleDouble) -> DoubleDouble
+pub(crate) fn core(x: DoubleDouble) -> DoubleDouble
     ensures { λ r. ⌜ r ≡ checkedErfCore x ⌝ }
 {
     if x.hi < 1.0 {

@@ -21,13 +21,13 @@ pub struct BitPair {
 
 impl DoubleDouble {
     // The logarithm of 2.
-    pub const LOG2_DD: DoubleDouble = DoubleDouble {
+    pub(crate) const LOG2_DD: DoubleDouble = DoubleDouble {
         lo: f64::from_bits(0x3c7abc9e3b39803f),
         hi: f64::from_bits(0x3fe62e42fefa39ef),
     };
 
     // The Rust's operator -.
-    pub fn neg(self) -> Self
+    pub(crate) fn neg(self) -> Self
         ensures { λ r. ⌜ r ≡ negOf self ⌝ }
     {
         DoubleDouble {
@@ -47,14 +47,14 @@ impl DoubleDouble {
         }
     }
 
-    pub fn new(lo: f64, hi: f64) -> Self
+    pub(crate) fn new(lo: f64, hi: f64) -> Self
         ensures { λ r. ⌜ r ≡ newOf lo hi ⌝ }
     {
         DoubleDouble { lo, hi }
     }
 
     // Veltkamp's splitting: 134217729 is 2^27 + 1.
-    pub fn split(a: f64) -> Self
+    pub(crate) fn split(a: f64) -> Self
         ensures { λ r. ⌜ r ≡ splitOf a ⌝ }
     {
         let t1 = 134217729.0 * a;
@@ -64,7 +64,7 @@ impl DoubleDouble {
         DoubleDouble::new(r_lo, r_hi)
     }
 
-    pub fn from_exact_add(a: f64, b: f64) -> Self
+    pub(crate) fn from_exact_add(a: f64, b: f64) -> Self
         ensures { λ r. ⌜ r ≡ fromExactAdd a b ⌝ }
     {
         let r_hi = a + b;
@@ -73,7 +73,7 @@ impl DoubleDouble {
         DoubleDouble::new(r_lo, r_hi)
     }
 
-    pub fn from_full_exact_add(a: f64, b: f64) -> Self
+    pub(crate) fn from_full_exact_add(a: f64, b: f64) -> Self
         ensures { λ r. ⌜ r ≡ fromFullExactAdd a b ⌝ }
     {
         let r_hi = a + b;
@@ -85,7 +85,7 @@ impl DoubleDouble {
         DoubleDouble::new(r_lo, r_hi)
     }
 
-    pub fn dd_f64_mul_add(a: f64, b: f64, c: f64) -> f64
+    pub(crate) fn dd_f64_mul_add(a: f64, b: f64, c: f64) -> f64
         ensures { λ r. ⌜ r ≡ ddF64MulAdd a b c ⌝ }
     {
         let ddx2 = DoubleDouble::from_exact_mult(a, b);
@@ -93,7 +93,7 @@ impl DoubleDouble {
         zv.to_f64()
     }
 
-    pub fn from_full_exact_sub(a: f64, b: f64) -> Self
+    pub(crate) fn from_full_exact_sub(a: f64, b: f64) -> Self
         ensures { λ r. ⌜ r ≡ fromFullExactSub a b ⌝ }
     {
         let r_hi = a - b;
@@ -105,7 +105,7 @@ impl DoubleDouble {
         DoubleDouble::new(r_lo, r_hi)
     }
 
-    pub fn fast_sqrt(self) -> Self
+    pub(crate) fn fast_sqrt(self) -> Self
         ensures { λ r. ⌜ r ≡ fastSqrt self ⌝ }
     {
         let a = self.hi + self.lo;
@@ -121,7 +121,7 @@ impl DoubleDouble {
     }
 
     // a × b + c
-    pub fn mul_add_f64(a: DoubleDouble, b: DoubleDouble, c: f64) -> Self
+    pub(crate) fn mul_add_f64(a: DoubleDouble, b: DoubleDouble, c: f64) -> Self
         ensures { λ r. ⌜ r ≡ mulAddF64 a b c ⌝ }
     {
         let m = DoubleDouble::quick_mult(a, b);
@@ -130,7 +130,7 @@ impl DoubleDouble {
     }
 
     // 1 / self
-    pub fn recip(self) -> Self
+    pub(crate) fn recip(self) -> Self
         ensures { λ r. ⌜ r ≡ recipOf self ⌝ }
     {
         let y = 1.0 / self.hi;
@@ -143,7 +143,7 @@ impl DoubleDouble {
     }
 
     // a / b
-    pub fn div(a: DoubleDouble, b: DoubleDouble) -> Self
+    pub(crate) fn div(a: DoubleDouble, b: DoubleDouble) -> Self
         ensures { λ r. ⌜ r ≡ divOf a b ⌝ }
     {
         let q = 1.0 / b.hi;
@@ -157,7 +157,7 @@ impl DoubleDouble {
     }
 
     // Dekker's product.
-    pub fn from_exact_mult(a: f64, b: f64) -> Self
+    pub(crate) fn from_exact_mult(a: f64, b: f64) -> Self
         ensures { λ r. ⌜ r ≡ fromExactMult a b ⌝ }
     {
         let asz = DoubleDouble::split(a);
@@ -171,7 +171,7 @@ impl DoubleDouble {
     }
 
     // a × b + c
-    pub fn mul_f64_add(a: DoubleDouble, b: f64, c: DoubleDouble) -> Self
+    pub(crate) fn mul_f64_add(a: DoubleDouble, b: f64, c: DoubleDouble) -> Self
         ensures { λ r. ⌜ r ≡ mulF64Add a b c ⌝ }
     {
         let m = DoubleDouble::quick_mult_f64(a, b);
@@ -180,7 +180,7 @@ impl DoubleDouble {
     }
 
     // a × b + c
-    pub fn mul_add(a: DoubleDouble, b: DoubleDouble, c: DoubleDouble) -> Self
+    pub(crate) fn mul_add(a: DoubleDouble, b: DoubleDouble, c: DoubleDouble) -> Self
         ensures { λ r. ⌜ r ≡ mulAdd a b c ⌝ }
     {
         let m = DoubleDouble::quick_mult(a, b);
@@ -189,29 +189,31 @@ impl DoubleDouble {
     }
 
     // a × b; the two cross products are summed before they join the low part.
-    pub fn quick_mult(a: DoubleDouble, b: DoubleDouble) -> Self
+    pub(crate) fn quick_mult(a: DoubleDouble, b: DoubleDouble) -> Self
         ensures { λ r. ⌜ r ≡ quickMult a b ⌝ }
     {
         let c = DoubleDouble::from_exact_mult(a.hi, b.hi);
+        let cl1 = c.lo;
         let tl1 = a.hi * b.lo;
         let tl2 = a.lo * b.hi;
         let cl2 = tl1 + tl2;
-        let cl3 = c.lo + cl2;
+        let cl3 = cl1 + cl2;
         DoubleDouble::new(cl3, c.hi)
     }
 
     // a × b
-    pub fn quick_mult_f64(a: DoubleDouble, b: f64) -> Self
+    pub(crate) fn quick_mult_f64(a: DoubleDouble, b: f64) -> Self
         ensures { λ r. ⌜ r ≡ quickMultF64 a b ⌝ }
     {
         let c = DoubleDouble::from_exact_mult(a.hi, b);
+        let cl1 = c.lo;
         let cl2 = a.lo * b;
-        let cl3 = c.lo + cl2;
+        let cl3 = cl1 + cl2;
         DoubleDouble::new(cl3, c.hi)
     }
 
     // a + b, whichever is larger
-    pub fn full_add_f64(a: DoubleDouble, b: f64) -> Self
+    pub(crate) fn full_add_f64(a: DoubleDouble, b: f64) -> Self
         ensures { λ r. ⌜ r ≡ fullAddF64 a b ⌝ }
     {
         let t = DoubleDouble::from_full_exact_add(a.hi, b);
@@ -220,7 +222,7 @@ impl DoubleDouble {
     }
 
     // b + a, for a b that is larger
-    pub fn f64_add(b: f64, a: DoubleDouble) -> Self
+    pub(crate) fn f64_add(b: f64, a: DoubleDouble) -> Self
         ensures { λ r. ⌜ r ≡ f64Add b a ⌝ }
     {
         let t = DoubleDouble::from_exact_add(b, a.hi);
@@ -228,14 +230,14 @@ impl DoubleDouble {
         DoubleDouble { lo: l, hi: t.hi }
     }
 
-    pub fn to_f64(self) -> f64
+    pub(crate) fn to_f64(self) -> f64
         ensures { λ r. ⌜ r ≡ toF64 self ⌝ }
     {
         self.lo + self.hi
     }
 
     // The Rust's operator *.
-    pub fn mul(self, rhs: DoubleDouble) -> Self
+    pub(crate) fn mul(self, rhs: DoubleDouble) -> Self
         ensures { λ r. ⌜ r ≡ quickMult self rhs ⌝ }
     {
         DoubleDouble::quick_mult(self, rhs)

@@ -11,7 +11,7 @@ fn polyeval_mla(a: f64, b: f64, c: f64) -> f64
     common::f_fmla(a, b, c)
 }
 
-pub fn f_polyeval4(x: f64, a0: f64, a1: f64, a2: f64, a3: f64) -> f64
+pub(crate) fn f_polyeval4(x: f64, a0: f64, a1: f64, a2: f64, a3: f64) -> f64
     ensures { λ r. ⌜ r ≡ fPolyeval4 x a0 a1 a2 a3 ⌝ }
 {
     let t2 = polyeval_mla(x, a3, a2);
@@ -19,7 +19,7 @@ pub fn f_polyeval4(x: f64, a0: f64, a1: f64, a2: f64, a3: f64) -> f64
     polyeval_mla(x, t5, a0)
 }
 
-pub fn f_polyeval5(x: f64, a0: f64, a1: f64, a2: f64, a3: f64, a4: f64) -> f64
+pub(crate) fn f_polyeval5(x: f64, a0: f64, a1: f64, a2: f64, a3: f64, a4: f64) -> f64
     ensures { λ r. ⌜ r ≡ fPolyeval5 x a0 a1 a2 a3 a4 ⌝ }
 {
     let mut acc = a4;

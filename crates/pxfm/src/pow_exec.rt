@@ -15,7 +15,7 @@ const P_1: [u64; 6] = [
 ];
 
 // log(1 + z) - z, for a small z.
-pub fn log_poly_1(z: f64) -> DoubleDouble
+pub(crate) fn log_poly_1(z: f64) -> DoubleDouble
     ensures { λ r. ⌜ r ≡ logPoly1 z ⌝ }
 {
     let w = DoubleDouble::from_exact_mult(z, z);

@@ -1,4 +1,4 @@
-// The Rust side of the listed functions, each on bit patterns and with the C signature that ours has.
+// The Rust side of the listed functions, by number and on bit patterns, with the C signature that ours has.
 // A NaN in an answer is written as NAN_BITS.
 
 use super::{erf_core, inverf_0p06_to_0p75, inverf_asympt_long, inverf_asympt_small};
@@ -12,32 +12,28 @@ use crate::NAN_BITS;
 
 type Pair = DoubleDouble;
 
-/// Reads arguments one after the other from a caller's array.
-struct Arguments(*const u64);
+/// The six doubles of a call, taken one after the other from the front.
+struct Arguments(std::array::IntoIter<f64, 6>);
 
 impl Arguments {
-    /// Safety: the caller's array has a further element.
-    unsafe fn next(&mut self) -> f64 {
-        let x = of_bits(self.0.read());
-        self.0 = self.0.add(1);
-        x
+    fn next(&mut self) -> f64 {
+        self.0.next().expect("a listed function takes six doubles at the most")
     }
 }
 
 /// A kind of argument: a double, or a pair as low part and high part.
 trait Argument {
-    /// Safety: the caller's array has as many further elements as the kind takes.
-    unsafe fn take(from: &mut Arguments) -> Self;
+    fn take(from: &mut Arguments) -> Self;
 }
 
 impl Argument for f64 {
-    unsafe fn take(from: &mut Arguments) -> f64 {
+    fn take(from: &mut Arguments) -> f64 {
         from.next()
     }
 }
 
 impl Argument for Pair {
-    unsafe fn take(from: &mut Arguments) -> Pair {
+    fn take(from: &mut Arguments) -> Pair {
         let lo = from.next();
         let hi = from.next();
         Pair::new(lo, hi)
@@ -67,17 +63,20 @@ fn is_positive_finite(x: f64) -> bool {
 }
 
 macro_rules! define {
-    ($($name:ident ($($arg:ident: $kind:ident $(in $ranges:expr)?),*) $(if $holds:expr)? => $call:expr;)*) => {
-        $(
-            /// # Safety
-            /// `input` points to the arguments' bit patterns, `out` to two places.
-            #[inline(never)]
-            pub unsafe extern "C" fn $name(input: *const u64, out: *mut [u64; 2]) {
-                let mut from = Arguments(input);
-                $(let $arg = <$kind as Argument>::take(&mut from);)*
-                *out = if true $(&& $holds)? { Answer::to_parts($call) } else { [NAN_BITS; 2] };
-            }
-        )*
+    ($($number:literal $name:ident ($($arg:ident: $kind:ident $(in $ranges:expr)?),*) $(if $holds:expr)? => $call:expr;)*) => {
+        /// The listed function with this number, called as ours is: never inlined, by the C convention, through one choice by
+        /// number, and with all six patterns read as doubles first. A pair of NaN where no function has the number.
+        #[inline(never)]
+        pub extern "C" fn px_step(number: u32, input: &[u64; 6], out: &mut [u64; 2]) {
+            let mut from = Arguments(input.map(of_bits).into_iter());
+            *out = match number {
+                $($number => {
+                    $(let $arg = <$kind as Argument>::take(&mut from);)*
+                    if true $(&& $holds)? { Answer::to_parts($call) } else { [NAN_BITS; 2] }
+                })*
+                _ => [NAN_BITS; 2],
+            };
+        }
     };
 }
 

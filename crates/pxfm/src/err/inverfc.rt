@@ -465,7 +465,7 @@ fn centred(x: DoubleDouble) -> DoubleDouble
     DoubleDouble::full_add_f64(x2, -0.5625)
 }
 
-pub fn inverf_0p06_to_0p75(x: DoubleDouble) -> DoubleDouble
+pub(crate) fn inverf_0p06_to_0p75(x: DoubleDouble) -> DoubleDouble
     ensures { λ r. ⌜ r ≡ inverf0p06To0p75 x ⌝ }
 {
     let vz = centred(x);
@@ -478,7 +478,7 @@ pub fn inverf_0p06_to_0p75(x: DoubleDouble) -> DoubleDouble
     DoubleDouble::quick_mult(r, x)
 }
 
-pub fn inverf_asympt_small(z: DoubleDouble, zeta_sqrt: DoubleDouble) -> DoubleDouble
+pub(crate) fn inverf_asympt_small(z: DoubleDouble, zeta_sqrt: DoubleDouble) -> DoubleDouble
     ensures { λ r. ⌜ r ≡ inverfAsymptSmall z «zeta_sqrt» ⌝ }
 {
     let z2 = DoubleDouble::quick_mult(z, z);
@@ -490,7 +490,7 @@ pub fn inverf_asympt_small(z: DoubleDouble, zeta_sqrt: DoubleDouble) -> DoubleDo
     DoubleDouble::quick_mult(r, zeta_sqrt)
 }
 
-pub fn inverf_asympt_long(z: DoubleDouble, zeta_sqrt: DoubleDouble) -> DoubleDouble
+pub(crate) fn inverf_asympt_long(z: DoubleDouble, zeta_sqrt: DoubleDouble) -> DoubleDouble
     ensures { λ r. ⌜ r ≡ inverfAsymptLong z «zeta_sqrt» ⌝ }
 {
     let z2 = z.mul(z);

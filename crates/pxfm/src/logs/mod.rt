@@ -1,3 +1,3 @@
 // The logarithms that the quantile uses.
 // One file here for one file of the Rust.
-pub mod fast_log_dd;
+pub(crate) mod fast_log_dd;

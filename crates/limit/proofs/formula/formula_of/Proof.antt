@@ -8,6 +8,14 @@ use Rattle.limit.proofs.Scatter.{sum-square-small, squares-product-smal
 use Rattle.limit.proofs.formula.formula_of.Statement.{statement}
 use Rattle.limit.proofs.formula.formula_of.Tie as tie
 
+-- The value is the formula's, by the four calls.
+returns : tie.Need-returns
+unfolding formulaOf spreadOf
+returns c =
+    let p = c .before .before in
+    rw (c .limit-from .ensures, c .before .quantile .ensures, p .spread-by .ensures, p .before .mean .ensures)
+
+-- What the products, the difference and the calls ask, from the sums' bounds.
 known : (c : tie.Start) → Plausible (c .args .s)
 known c = plausible-facts (c .args .s) (c .pre)
 
@@ -40,10 +48,6 @@ spread-by-requires c κs =
       count-square-small _ _ _ (p .countHigh) (p .sumHigh) (p .squaresHigh),
       scatter-at-most _ _ _ (p .countHigh) (p .sumHigh) (p .squaresHigh),
     )
-
-returns : tie.Need-returns
-unfolding formulaOf spreadOf
-returns c = cc
 
 pub formula-of-spec : {M : Type 1} → statement M
 formula-of-spec =

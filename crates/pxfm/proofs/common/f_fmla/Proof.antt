@@ -1,7 +1,8 @@
+use mathlib.Core.Path.{refl}
 use Rattle.pxfm.specs.Common.{fFmla}
 use Rattle.pxfm.proofs.common.f_fmla.Statement.{statement}
 use Rattle.pxfm.proofs.common.f_fmla.Tie as tie
 
 pub f-fmla-spec : {M : Type 1} → statement M
 unfolding fFmla
-f-fmla-spec = tie.close (tie.spec (λ c. cc))
+f-fmla-spec = tie.close (tie.spec (λ c. refl))

@@ -10,7 +10,7 @@ rest : tie.Need-returns-183
 unfolding powInverse fastLogDdInvLo fastLogDdInvHi
 rest c =
     let h = missed-le 182 _ (c .match .rest) in
-    record { inverse = past-end powInverse _ h; low = past-end fastLogDdInvLo _ h; high = past-end fastLogDdInvHi _ h }
+    record { inverse = past-end 0 powInverse _ h; low = past-end 0 fastLogDdInvLo _ h; high = past-end 0 fastLogDdInvHi _ h }
 
 -- An arm with number k: both tables have its constants at k.
 pub row-at-spec : {M : Type 1} → statement M

@@ -5,4 +5,7 @@ use Rattle.pxfm.proofs.double_double.DoubleDouble.dd_f64_mul_add.Tie as
 
 pub dd-f64-mul-add-spec : {M : Type 1} → statement M
 unfolding ddF64MulAdd
-dd-f64-mul-add-spec = tie.close (tie.spec ok ok ok (λ c. cc))
+dd-f64-mul-add-spec =
+    tie.close
+    (tie.spec ok ok ok
+    (λ c. rw (c .to-f64 .ensures, c .before .full-add-f64 .ensures, c .before .before .from-exact-mult .ensures)))

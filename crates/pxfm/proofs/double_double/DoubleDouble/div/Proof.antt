@@ -5,4 +5,9 @@ use Rattle.pxfm.proofs.double_double.DoubleDouble.div.Tie as tie
 
 pub div-spec : {M : Type 1} → statement M
 unfolding divOf
-div-spec = tie.close (tie.spec ok ok ok (λ c. cc))
+div-spec =
+    tie.close
+    (tie.spec ok ok ok
+    (λ c.
+    let p = c .before .before .before .before .before .before .before in
+    rw (c .new .ensures, p .from-exact-mult2 .ensures, p .before .from-exact-mult .ensures)))

@@ -5,4 +5,9 @@ use Rattle.pxfm.proofs.double_double.DoubleDouble.f64_add.Tie as tie
 
 pub f64-add-spec : {M : Type 1} → statement M
 unfolding f64Add
-f64-add-spec = tie.close (tie.spec ok (λ c. cc))
+f64-add-spec =
+    tie.close
+    (tie.spec ok
+    (λ c.
+    let p = c .before .before in
+    rw (p .from-exact-add .ensures)))

@@ -5,4 +5,9 @@ use Rattle.pxfm.proofs.double_double.DoubleDouble.fast_sqrt.Tie as tie
 
 pub fast-sqrt-spec : {M : Type 1} → statement M
 unfolding fastSqrt
-fast-sqrt-spec = tie.close (tie.spec ok ok (λ c. cc))
+fast-sqrt-spec =
+    tie.close
+    (tie.spec ok ok
+    (λ c.
+    let p = c .before .before .before .before in
+    rw (p .from-exact-mult .ensures, p .before .sqrt .ensures)))

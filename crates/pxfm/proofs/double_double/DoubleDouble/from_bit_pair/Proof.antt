@@ -1,3 +1,4 @@
+use mathlib.Core.Path.{refl}
 use borrow.Author.Needs.{needs}
 use Rattle.pxfm.specs.DoubleDouble.{fromBitPair}
 use Rattle.pxfm.proofs.double_double.DoubleDouble.from_bit_pair.Statement.{statement}
@@ -5,4 +6,4 @@ use Rattle.pxfm.proofs.double_double.DoubleDouble.from_bit_pair.Tie as 
 
 pub from-bit-pair-spec : {M : Type 1} → statement M
 unfolding fromBitPair
-from-bit-pair-spec = tie.close (tie.spec (λ c. search needs) (λ c. search needs) (λ c. cc))
+from-bit-pair-spec = tie.close (tie.spec (λ c. search needs) (λ c. search needs) (λ c. refl))

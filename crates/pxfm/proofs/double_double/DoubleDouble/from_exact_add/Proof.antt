@@ -5,4 +5,4 @@ use Rattle.pxfm.proofs.double_double.DoubleDouble.from_exact_add.Tie as
 
 pub from-exact-add-spec : {M : Type 1} → statement M
 unfolding fromExactAdd
-from-exact-add-spec = tie.close (tie.spec ok (λ c. cc))
+from-exact-add-spec = tie.close (tie.spec ok (λ c. rw (c .new .ensures)))

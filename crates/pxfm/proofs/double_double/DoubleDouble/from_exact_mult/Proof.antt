@@ -5,4 +5,9 @@ use Rattle.pxfm.proofs.double_double.DoubleDouble.from_exact_mult.Tie a
 
 pub from-exact-mult-spec : {M : Type 1} → statement M
 unfolding fromExactMult
-from-exact-mult-spec = tie.close (tie.spec ok ok ok (λ c. cc))
+from-exact-mult-spec =
+    tie.close
+    (tie.spec ok ok ok
+    (λ c.
+    let p = c .before .before .before .before .before .before .before .before .before in
+    rw (c .new .ensures, p .split2 .ensures, p .before .split .ensures)))

@@ -5,4 +5,4 @@ use Rattle.pxfm.proofs.double_double.DoubleDouble.from_full_exact_add.T
 
 pub from-full-exact-add-spec : {M : Type 1} → statement M
 unfolding fromFullExactAdd
-from-full-exact-add-spec = tie.close (tie.spec ok (λ c. cc))
+from-full-exact-add-spec = tie.close (tie.spec ok (λ c. rw (c .new .ensures)))

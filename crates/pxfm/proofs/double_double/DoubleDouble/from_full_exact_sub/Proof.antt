@@ -5,4 +5,4 @@ use Rattle.pxfm.proofs.double_double.DoubleDouble.from_full_exact_sub.T
 
 pub from-full-exact-sub-spec : {M : Type 1} → statement M
 unfolding fromFullExactSub
-from-full-exact-sub-spec = tie.close (tie.spec ok (λ c. cc))
+from-full-exact-sub-spec = tie.close (tie.spec ok (λ c. rw (c .new .ensures)))

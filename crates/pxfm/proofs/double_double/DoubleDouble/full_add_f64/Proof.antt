@@ -5,4 +5,9 @@ use Rattle.pxfm.proofs.double_double.DoubleDouble.full_add_f64.Tie as t
 
 pub full-add-f64-spec : {M : Type 1} → statement M
 unfolding fullAddF64
-full-add-f64-spec = tie.close (tie.spec ok (λ c. cc))
+full-add-f64-spec =
+    tie.close
+    (tie.spec ok
+    (λ c.
+    let p = c .before .before in
+    rw (p .from-full-exact-add .ensures)))

@@ -5,4 +5,9 @@ use Rattle.pxfm.proofs.double_double.DoubleDouble.mul_add.Tie as tie
 
 pub mul-add-spec : {M : Type 1} → statement M
 unfolding mulAdd
-mul-add-spec = tie.close (tie.spec ok ok ok (λ c. cc))
+mul-add-spec =
+    tie.close
+    (tie.spec ok ok ok
+    (λ c.
+    let p = c .before .before .before in
+    rw (c .new .ensures, p .full-add-f64 .ensures, p .before .quick-mult .ensures)))

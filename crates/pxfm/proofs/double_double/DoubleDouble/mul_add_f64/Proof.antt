@@ -5,4 +5,9 @@ use Rattle.pxfm.proofs.double_double.DoubleDouble.mul_add_f64.Tie as ti
 
 pub mul-add-f64-spec : {M : Type 1} → statement M
 unfolding mulAddF64
-mul-add-f64-spec = tie.close (tie.spec ok ok ok (λ c. cc))
+mul-add-f64-spec =
+    tie.close
+    (tie.spec ok ok ok
+    (λ c.
+    let p = c .before .before .before in
+    rw (c .new .ensures, p .from-full-exact-add .ensures, p .before .quick-mult .ensures)))

@@ -5,4 +5,9 @@ use Rattle.pxfm.proofs.double_double.DoubleDouble.mul_f64_add.Tie as ti
 
 pub mul-f64-add-spec : {M : Type 1} → statement M
 unfolding mulF64Add
-mul-f64-add-spec = tie.close (tie.spec ok ok ok (λ c. cc))
+mul-f64-add-spec =
+    tie.close
+    (tie.spec ok ok ok
+    (λ c.
+    let p = c .before .before .before in
+    rw (c .new .ensures, p .full-add-f64 .ensures, p .before .quick-mult-f64 .ensures)))

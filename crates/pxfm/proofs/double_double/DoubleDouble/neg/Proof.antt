@@ -1,7 +1,8 @@
+use mathlib.Core.Path.{refl}
 use Rattle.pxfm.specs.DoubleDouble.{negOf}
 use Rattle.pxfm.proofs.double_double.DoubleDouble.neg.Statement.{statement}
 use Rattle.pxfm.proofs.double_double.DoubleDouble.neg.Tie as tie
 
 pub neg-spec : {M : Type 1} → statement M
 unfolding negOf
-neg-spec = tie.close (tie.spec (λ c. cc))
+neg-spec = tie.close (tie.spec (λ c. refl))

@@ -5,4 +5,9 @@ use Rattle.pxfm.proofs.double_double.DoubleDouble.quick_mult.Tie as tie
 
 pub quick-mult-spec : {M : Type 1} → statement M
 unfolding quickMult
-quick-mult-spec = tie.close (tie.spec ok ok (λ c. cc))
+quick-mult-spec =
+    tie.close
+    (tie.spec ok ok
+    (λ c.
+    let p = c .before .before .before .before .before in
+    rw (c .new .ensures, p .from-exact-mult .ensures)))

@@ -5,4 +5,9 @@ use Rattle.pxfm.proofs.double_double.DoubleDouble.quick_mult_f64.Tie as
 
 pub quick-mult-f64-spec : {M : Type 1} → statement M
 unfolding quickMultF64
-quick-mult-f64-spec = tie.close (tie.spec ok ok (λ c. cc))
+quick-mult-f64-spec =
+    tie.close
+    (tie.spec ok ok
+    (λ c.
+    let p = c .before .before in
+    rw (c .new .ensures, p .from-exact-mult .ensures)))

@@ -5,4 +5,9 @@ use Rattle.pxfm.proofs.double_double.DoubleDouble.recip.Tie as tie
 
 pub recip-spec : {M : Type 1} → statement M
 unfolding recipOf
-recip-spec = tie.close (tie.spec ok ok ok (λ c. cc))
+recip-spec =
+    tie.close
+    (tie.spec ok ok ok
+    (λ c.
+    let p = c .before .before .before in
+    rw (c .new .ensures, p .from-exact-mult2 .ensures, p .before .before .before .from-exact-mult .ensures)))

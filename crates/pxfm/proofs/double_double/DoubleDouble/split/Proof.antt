@@ -5,4 +5,4 @@ use Rattle.pxfm.proofs.double_double.DoubleDouble.split.Tie as tie
 
 pub split-spec : {M : Type 1} → statement M
 unfolding splitOf
-split-spec = tie.close (tie.spec ok (λ c. cc))
+split-spec = tie.close (tie.spec ok (λ c. rw (c .new .ensures)))

@@ -1,7 +1,8 @@
+use mathlib.Core.Path.{refl}
 use Rattle.pxfm.specs.DoubleDouble.{toF64}
 use Rattle.pxfm.proofs.double_double.DoubleDouble.to_f64.Statement.{statement}
 use Rattle.pxfm.proofs.double_double.DoubleDouble.to_f64.Tie as tie
 
 pub to-f64-spec : {M : Type 1} → statement M
 unfolding toF64
-to-f64-spec = tie.close (tie.spec (λ c. cc))
+to-f64-spec = tie.close (tie.spec (λ c. refl))

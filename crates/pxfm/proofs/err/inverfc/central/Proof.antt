@@ -12,4 +12,7 @@ erf-core-requires c κs =
 
 pub central-spec : {M : Type 1} → statement M
 unfolding central
-central-spec = tie.close (tie.spec ok erf-core-requires ok ok (λ c. cc))
+central-spec = tie.close (tie.spec ok erf-core-requires ok ok
+    (λ c.
+    let p = c .before .before in
+    rw (c .sign .ensures, c .before .to-f64 .ensures, p .erf-core .ensures, p .before .core-argument .ensures)))

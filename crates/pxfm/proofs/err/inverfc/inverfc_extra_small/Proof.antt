@@ -6,4 +6,5 @@ use Rattle.pxfm.proofs.err.inverfc.inverfc_extra_small.Tie as tie
 
 pub inverfc-extra-small-spec : {M : Type 1} → statement M
 unfolding inverfcExtraSmall
-inverfc-extra-small-spec = tie.close (tie.spec (λ c κs. search needs) ok (λ c. cc))
+inverfc-extra-small-spec = tie.close (tie.spec (λ c κs. search needs) ok
+    (λ c. rw (c .asymptotic .ensures, c .before .fast-log-d-to-dd .ensures)))

@@ -5,4 +5,16 @@ use Rattle.pxfm.proofs.err.inverfc.quick_rational.Tie as tie
 
 pub quick-rational-spec : {M : Type 1} → statement M
 unfolding quickRational
-quick-rational-spec = tie.close (tie.spec ok ok ok ok ok (λ c. cc))
+quick-rational-spec = tie.close (tie.spec ok ok ok ok ok
+    (λ c.
+    let c1 = c .before in
+    let c2 = c1 .before in
+    let c3 = c2 .before in
+    let c4 = c3 .before in
+    rw (
+      c .quick-mult .ensures,
+      c1 .div .ensures,
+      c2 .quick-den .ensures,
+      c3 .quick-num .ensures,
+      c4 .centred .ensures,
+    )))

@@ -12,4 +12,7 @@ fast-log-dd-requires c κs =
 
 pub tail-spec : {M : Type 1} → statement M
 unfolding tail
-tail-spec = tie.close (tie.spec ok ok fast-log-dd-requires ok (λ c. cc))
+tail-spec = tie.close (tie.spec ok ok fast-log-dd-requires ok
+    (λ c.
+    let p = c .before .before in
+    rw (c .asymptotic .ensures, p .fast-log-dd .ensures, p .before .full-add-f64 .ensures, p .before .before .neg .ensures)))

@@ -1,7 +1,9 @@
+use mathlib.Core.Path.{ap}
+use Prim.Native.Nat.{ℕ, _-_}
 use native.Mathlib.Omega.{arith}
 use borrow.Author.Needs.{needs}
 use borrow.Author.Tests.{eq-eqb, ne-eqb}
-use Rattle.pxfm.specs.FastLogDd.{scaledOf}
+use Rattle.pxfm.specs.FastLogDd.{scaled, shiftOf, scaledOf}
 use Rattle.pxfm.proofs.Shift.{Shifted, shifted}
 use Rattle.pxfm.proofs.logs.fast_log_dd.scale.Statement.{statement}
 use Rattle.pxfm.proofs.logs.fast_log_dd.scale.Tie as tie
@@ -19,8 +21,10 @@ scale-spec =
     (λ c. let h = subnormal c in omega arith)
     (λ c. let h = subnormal c in omega arith)
     (λ c.
-    let h = subnormal c in
-    (rw (h .kept, eq-eqb _ _ (c .if1 .taken)), rw (h .kept) (record { low = h .low; high = h .high; top = omega arith })))
+    let h = subnormal c in (
+      rw (eq-eqb _ _ (c .if1 .taken)) (ap (λ (m : ℕ). scaled m (52 - shiftOf (c .before .args .b))) (h .kept)),
+      rw (h .kept) (record { low = h .low; high = h .high; top = omega arith }),
+    ))
     (λ c. search needs)
     (λ c. search needs)
     (λ c. search needs)
