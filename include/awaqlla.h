@@ -17,4 +17,16 @@ uint64_t f_erfcinv_bits(uint64_t x);
    times points to n numbers, also where n is 0; out to two places. */
 void limit_bits(const uint32_t *times, size_t n, uint32_t chance, uint64_t out[2]);
 
+/* The journal that fills the first len bytes of the size bytes at v. v points to size bytes, also where size is 0. A len beyond size or 65,536
+   is refused by 1, at place 0. i counts the records from 0. The refusals' numbers are document 01's. */
+
+/* Scan: {0 whole or 1 torn, records, committed length}, or {2, refusal, place of the refused field}. out points to three places. */
+void journal_scan(const uint8_t *v, size_t size, size_t len, uint64_t out[3]);
+
+/* Where record i stands: {place of its first byte, number of its bytes}; both are 0 where it cannot be read. out points to two places. */
+void journal_part(const uint8_t *v, size_t size, size_t len, size_t i, uint64_t out[2]);
+
+/* The mark of record i: 'F' all times equal, 'S' fewer than 8, 'N' others; or the refusal: scan's, or 10, i not below the number of records. */
+uint64_t journal_mark(const uint8_t *v, size_t size, size_t len, size_t i);
+
 #endif

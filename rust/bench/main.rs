@@ -2,14 +2,18 @@
 // Both sides are called through one driver, on bit patterns, by the C convention, and take turns.
 
 use inputs::doubles::{low_part, moderate};
+use inputs::journal::{LARGEST, SMALLEST};
 use inputs::quantile::{chance, BELOW_ONE, CHANCES, ONE_TO_TWO};
 use inputs::random::Random;
 use original::steps;
 use ours::Step;
+use reference::samples::full;
+use reference::scan::{scan, Status};
 use std::hint::black_box;
 use std::time::{Duration, Instant};
 
 type OnBits = extern "C" fn(u64) -> u64;
+type OnJournal = fn(&[u8]) -> u64;
 
 /// Calls in a turn, and turns of each side; the least time of a turn counts.
 const CALLS: usize = 2_000;
@@ -30,6 +34,41 @@ fn main() {
             call_bits,
         ),
     );
+    scan_rows(&mut random);
+}
+
+/// The scan of full journals beside rust/reference's, in bytes a second.
+fn scan_rows(random: &mut Random) {
+    println!();
+    println!("| scan of 65,536 bytes | ours, MB/s | Rust, MB/s | ours / Rust, time |");
+    println!("|---|---|---|---|");
+    for (name, size) in [("smallest", SMALLEST), ("largest", LARGEST)] {
+        let journals: Vec<Vec<u8>> = (0..4).map(|_| full(random, |_| size)).collect();
+        let bytes: usize = journals.iter().map(Vec::len).sum();
+        let times = race(
+            [scan_ours as OnJournal, scan_reference],
+            &journals,
+            |scan, v| scan(v),
+        );
+        let [ours, rust] = times.map(|time| time.as_secs_f64());
+        let [ours_rate, rust_rate] = [ours, rust].map(|time| bytes as f64 / time / 1e6);
+        println!(
+            "| {name} records | {ours_rate:.1} | {rust_rate:.1} | {:.2} |",
+            ours / rust
+        );
+    }
+}
+
+/// The number of records that stand, where the journal is whole.
+fn scan_ours(v: &[u8]) -> u64 {
+    ours::journal_scan(v, v.len())[1]
+}
+
+fn scan_reference(v: &[u8]) -> u64 {
+    match scan(v, v.len()) {
+        Status::Whole { records, .. } => records as u64,
+        other => panic!("a full journal scans as {other:?}"),
+    }
 }
 
 fn quantile_rows(random: &mut Random) {

@@ -1,10 +1,10 @@
-// The limit against document 01's formula, worked here with the Rust's quantile and the hardware's root,
+// The limit against document 01's formula, worked in rust/reference with the Rust's quantile and the hardware's root,
 // over random and edge sets of times and chances, those that are refused included.
 
 use crate::options::Options;
 use crate::tally::{Tally, Totals};
-use inputs::quantile::chance as quantile_argument;
 use inputs::random::Random;
+use reference::limit::{limit, LAST_TIME};
 
 const CHANCES: [u32; 9] = [
     0,
@@ -19,7 +19,6 @@ const CHANCES: [u32; 9] = [
 ];
 const TIMES: [u32; 8] = [0, 1, 2, 100, 1_048_574, 1_048_575, 1_048_576, u32::MAX];
 const COUNTS: [usize; 8] = [0, 1, 2, 3, 127, 128, 129, 1000];
-const LAST_TIME: u64 = 1_048_575;
 
 pub fn compare(options: &Options, totals: &mut Totals) {
     compare_edges(options, totals);
@@ -82,30 +81,5 @@ fn answer(limit: Result<f64, u64>) -> [u64; 2] {
     match limit {
         Ok(limit) => [0, original::bits_of(limit)],
         Err(refusal) => [1, refusal],
-    }
-}
-
-/// Document 01, Limit: mean + (spread × 1.4142135623730951) × e, or the first refusal that holds.
-#[allow(clippy::approx_constant)] // the digits are the paper's
-fn limit(times: &[u32], chance: u32) -> Result<f64, u64> {
-    let time_fits = |time: &u32| (1..=LAST_TIME).contains(&u64::from(*time));
-    if !(1..=999_999).contains(&chance) {
-        return Err(5);
-    }
-    if !(2..=128).contains(&times.len()) || !times.iter().all(time_fits) {
-        return Err(6);
-    }
-    let n = times.len() as u64;
-    let sum: u64 = times.iter().map(|time| u64::from(*time)).sum();
-    let squares: u64 = times.iter().map(|time| u64::from(*time).pow(2)).sum();
-    let d = n * squares - sum * sum;
-    let mean = sum as f64 / n as f64;
-    let spread = (d as f64 / (n * n) as f64).sqrt();
-    let e = f64::from_bits(original::f_erfcinv_bits(quantile_argument(chance.into())));
-    let limit = mean + (spread * 1.4142135623730951) * e;
-    if limit.is_finite() {
-        Ok(limit)
-    } else {
-        Err(8)
     }
 }

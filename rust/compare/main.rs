@@ -1,7 +1,8 @@
-// Compares our functions with the Rust's, all bits of every result; exit status 1 if any result differs.
+// Compares our functions with the Rust's, and our journal with rust/reference's, all bits; exit status 1 if any result differs.
 // Scale N multiplies the numbers of random inputs; 1, the default, is the gate's size.
 
 mod functions;
+mod journal;
 mod limit;
 mod logarithms;
 mod options;
@@ -28,11 +29,16 @@ fn main() -> ExitCode {
     };
     println!("compare: scale {}, seed {}", options.scale, options.seed);
     let mut totals = Totals::default();
-    functions::compare(&options, &mut totals);
-    logarithms::compare(&mut totals);
-    root::compare(&options, &mut totals);
-    quantile::compare(&options, &mut totals);
-    limit::compare(&options, &mut totals);
+    if options.runs("numbers") {
+        functions::compare(&options, &mut totals);
+        logarithms::compare(&mut totals);
+        root::compare(&options, &mut totals);
+        quantile::compare(&options, &mut totals);
+        limit::compare(&options, &mut totals);
+    }
+    if options.runs("journal") {
+        journal::compare(&options, &mut totals);
+    }
     println!(
         "compare: {} results compared, {} differ",
         totals.results, totals.differ

@@ -1,28 +1,40 @@
-// The command line: how many random inputs there are, and from which seed they are drawn.
+// The command line: how many random inputs there are, from which seed they are drawn, and which half runs alone.
 // A count is given for scale 1, the gate's size; scale 0 leaves the edges alone.
 
 use inputs::random::Random;
 
-pub const USAGE: &str = "usage: compare [--scale N] [--seed S]";
+pub const USAGE: &str = "usage: compare [--scale N] [--seed S] [--only numbers|journal]";
+
+const HALVES: [&str; 2] = ["numbers", "journal"];
 
 pub struct Options {
     pub scale: u64,
     pub seed: u64,
+    pub only: Option<String>,
 }
 
 impl Options {
     pub fn read(mut words: impl Iterator<Item = String>) -> Result<Options, String> {
-        let mut options = Options { scale: 1, seed: 1 };
+        let mut options = Options {
+            scale: 1,
+            seed: 1,
+            only: None,
+        };
         while let Some(word) = words.next() {
-            let place = match word.as_str() {
-                "--scale" => &mut options.scale,
-                "--seed" => &mut options.seed,
-                _ => return Err(format!("{USAGE}, not {word}")),
+            let value = words.next().ok_or(USAGE)?;
+            match word.as_str() {
+                "--scale" => options.scale = number(&value)?,
+                "--seed" => options.seed = number(&value)?,
+                "--only" if HALVES.contains(&value.as_str()) => options.only = Some(value),
+                _ => return Err(format!("{USAGE}, not {word} {value}")),
             };
-            let value = words.next().and_then(|text| text.parse().ok());
-            *place = value.ok_or(format!("{USAGE}, N and S whole numbers"))?;
         }
         Ok(options)
+    }
+
+    /// Whether this half runs.
+    pub fn runs(&self, half: &str) -> bool {
+        self.only.as_ref().is_none_or(|only| only == half)
     }
 
     /// So many random inputs at scale 1.
@@ -37,4 +49,9 @@ impl Options {
         });
         Random::new(mixed)
     }
+}
+
+fn number(text: &str) -> Result<u64, String> {
+    text.parse()
+        .map_err(|_| format!("{USAGE}, N and S whole numbers"))
 }

@@ -1,6 +1,7 @@
-// The inputs that the programs share: random numbers, edge doubles, and the doubles that matter to the quantile.
+// The inputs that the programs share: random numbers, edge doubles, the doubles that matter to the quantile, and records of a journal.
 // Everything is the same on every run: a generator starts from a seed that its caller gives.
 
 pub mod doubles;
+pub mod journal;
 pub mod quantile;
 pub mod random;

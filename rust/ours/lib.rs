@@ -33,3 +33,89 @@ pub fn limit_bits(times: &[u32], chance: u32) -> [u64; 2] {
     unsafe { limit_bits(times.as_ptr(), times.len(), chance, &mut out) };
     out
 }
+
+/// The scan of the first `len` bytes of a slice: {0 whole or 1 torn, records, committed} or {2, number, place}.
+pub fn journal_scan(v: &[u8], len: usize) -> [u64; 3] {
+    unsafe extern "C" {
+        fn journal_scan(v: *const u8, size: usize, len: usize, out: *mut [u64; 3]);
+    }
+    let mut out = [u64::MAX; 3];
+    // The pointer and the size are those of a slice, and out has its three places.
+    unsafe { journal_scan(v.as_ptr(), v.len(), len, &mut out) };
+    out
+}
+
+/// The part of record i: {start, length}.
+pub fn journal_part(v: &[u8], len: usize, i: usize) -> [u64; 2] {
+    unsafe extern "C" {
+        fn journal_part(v: *const u8, size: usize, len: usize, i: usize, out: *mut [u64; 2]);
+    }
+    let mut out = [u64::MAX; 2];
+    // The pointer and the size are those of a slice, and out has its two places.
+    unsafe { journal_part(v.as_ptr(), v.len(), len, i, &mut out) };
+    out
+}
+
+/// The letter of record i's mark, or the refusal's number.
+pub fn journal_mark(v: &[u8], len: usize, i: usize) -> u64 {
+    unsafe extern "C" {
+        fn journal_mark(v: *const u8, size: usize, len: usize, i: usize) -> u64;
+    }
+    // The pointer and the size are those of a slice.
+    unsafe { journal_mark(v.as_ptr(), v.len(), len, i) }
+}
+
+/// What an append offers.
+#[cfg(append)]
+pub struct Offer<'a> {
+    pub day: u16,
+    pub name: &'a [u8],
+    pub chances: &'a [u32],
+    pub times: &'a [u32],
+}
+
+/// The append of an offer up to a budget: {0, length, 0}, {1, declined by, 0} or {2, number, place}.
+#[cfg(append)]
+pub fn journal_append_upto(v: &mut [u8], len: usize, offer: Offer, budget: usize) -> [u64; 3] {
+    unsafe extern "C" {
+        fn journal_append_upto(
+            v: *mut u8,
+            size: usize,
+            len: usize,
+            day: u16,
+            name: *const u8,
+            name_len: usize,
+            chances: *const u32,
+            chances_len: usize,
+            times: *const u32,
+            times_len: usize,
+            budget: usize,
+            out: *mut [u64; 3],
+        );
+    }
+    let Offer {
+        day,
+        name,
+        chances,
+        times,
+    } = offer;
+    let mut out = [u64::MAX; 3];
+    // Each pointer and the length behind it are those of a slice, and out has its three places.
+    unsafe {
+        journal_append_upto(
+            v.as_mut_ptr(),
+            v.len(),
+            len,
+            day,
+            name.as_ptr(),
+            name.len(),
+            chances.as_ptr(),
+            chances.len(),
+            times.as_ptr(),
+            times.len(),
+            budget,
+            &mut out,
+        )
+    };
+    out
+}

@@ -1,5 +1,6 @@
 // Prints the stored list of the quantile: lines of an input's bits and the Rust's answer's bits, sorted by branch.
 // It has every branch and its edges, and reads every entry of the logarithms' tables through both logarithms.
+// Given chances, it prints those instead, each with the bits of its quantile: tools/journal_quantiles.
 
 use inputs::doubles::{around, edges};
 use inputs::quantile::{
@@ -11,6 +12,17 @@ use original::{f_erfcinv_bits, Branch};
 use std::ops::Range;
 
 fn main() {
+    let words: Vec<String> = std::env::args().skip(1).collect();
+    if words.is_empty() {
+        print_list();
+    }
+    for word in words {
+        let c = word.parse().expect("a chance in a million");
+        println!("{c} {:016x}", f_erfcinv_bits(chance(c)));
+    }
+}
+
+fn print_list() {
     let mut list = chosen();
     list.extend(drawn(&mut Random::new(1)));
     list.sort_unstable();

@@ -1,3 +1,4 @@
 -- The definitions that the contracts of the C interface cite.
 -- Those of the functions behind it are in their own crates.
+pub mod Journal
 pub mod Limit

@@ -1,0 +1,90 @@
+// The answers that a line asks for, by the functions of the C interface, against those that it expects.
+// The journal stands in a buffer, and a line says how much of the buffer the slice is.
+ghost use mathlib.Core.Path.{_≡_};
+ghost use lib.ListN.{take};
+ghost use Rattle.journal_cases.specs.Compare.{comparedWith, roomFor, verdictOf, scanAgrees, partAgrees, markAgrees};
+use crate::line::Case;
+use crate::line::agree;
+use capi::journals::journal_mark;
+use capi::journals::journal_part;
+use capi::journals::journal_scan;
+
+// What a line tells: its bytes go into the buffer, or the answer is as expected or not, or it is no such line.
+pub enum Compared {
+    Stored,
+    Same,
+    Differs,
+    Malformed,
+}
+
+// The line against the journal in the buffer.
+pub fn compare(line: &[u8], a: Case, v: &[u8]) -> Compared
+    ensures { λ r. ⌜ r ≡ comparedWith (now (line .entry)) a (now (v .entry)) ⌝ }
+{
+    match a {
+        Case::Bytes { place, n: _ } => room_for(place, v.len()),
+        Case::Scan { size, len } => verdict(scan_agrees(line, front(v, size), len)),
+        Case::Part { size, len, i } => verdict(part_agrees(line, front(v, size), len, i)),
+        Case::Mark { size, len, i } => verdict(mark_agrees(line, front(v, size), len, i)),
+        Case::Malformed => Compared::Malformed,
+    }
+}
+
+// Whether eight bytes have room in a buffer of a size from a place on.
+fn room_for(place: usize, size: usize) -> Compared
+    ensures { λ r. ⌜ r ≡ roomFor place size ⌝ }
+{
+    if size < 8 {
+        return Compared::Malformed;
+    }
+    if size - 8 < place {
+        return Compared::Malformed;
+    }
+    Compared::Stored
+}
+
+// Whether the answer is as expected.
+fn verdict(same: bool) -> Compared
+    ensures { λ r. ⌜ r ≡ verdictOf same ⌝ }
+{
+    if same {
+        return Compared::Same;
+    }
+    Compared::Differs
+}
+
+// The first bytes of a buffer, or all where it has no more.
+fn front<'a>(v: &'a [u8], size: usize) -> &'a [u8]
+    ensures { λ r. ⌜ now r ≡ take size (now (v .entry)) ⌝ }
+{
+    if v.len() < size {
+        return v;
+    }
+    &v[..size]
+}
+
+// Scan's three words against the line's.
+fn scan_agrees(line: &[u8], v: &[u8], len: usize) -> bool
+    ensures { λ r. ⌜ r ≡ scanAgrees (now (line .entry)) (now (v .entry)) len ⌝ }
+{
+    let mut out = [0u64; 3];
+    journal_scan(v, len, &mut out);
+    agree(line, out[0], out[1], out[2])
+}
+
+// The part's two words against the line's last two.
+fn part_agrees(line: &[u8], v: &[u8], len: usize, i: usize) -> bool
+    ensures { λ r. ⌜ r ≡ partAgrees (now (line .entry)) (now (v .entry)) len i ⌝ }
+{
+    let mut out = [0u64; 2];
+    journal_part(v, len, i, &mut out);
+    agree(line, 0, out[0], out[1])
+}
+
+// The mark's word against the line's middle one.
+fn mark_agrees(line: &[u8], v: &[u8], len: usize, i: usize) -> bool
+    ensures { λ r. ⌜ r ≡ markAgrees (now (line .entry)) (now (v .entry)) len i ⌝ }
+{
+    let word = journal_mark(v, len, i);
+    agree(line, 0, word, 0)
+}

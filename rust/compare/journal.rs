@@ -1,0 +1,17 @@
+// The journal against rust/reference: scan and reading's two calls over random and altered bytes, and histories of appends.
+// The lines at the end say how often each kind of answer came.
+
+mod alter;
+#[cfg(append)]
+mod histories;
+mod reading;
+mod words;
+
+use crate::options::Options;
+use crate::tally::Totals;
+
+pub fn compare(options: &Options, totals: &mut Totals) {
+    reading::compare(options, totals);
+    #[cfg(append)]
+    histories::compare(options, totals);
+}

@@ -1,0 +1,69 @@
+// Journals with a byte or a field altered.
+// A field is set to a value at the edge of its range or beyond it; a count may lie about its section.
+
+use inputs::journal::{CHANCES, CHANCE_COUNTS, FORMS, NAME_BYTES, NAME_COUNTS, TIMES, TIME_COUNTS};
+use inputs::random::Random;
+use reference::record::Record;
+
+/// The journal of some records, one of them with a field altered.
+pub fn field_altered(random: &mut Random, mut records: Vec<Record>) -> Vec<u8> {
+    let at = random.below(records.len() as u64) as usize;
+    let day_before = if at == 0 { 0 } else { records[at - 1].day };
+    let altered = one_field(random, &mut records[at], day_before);
+    records
+        .iter()
+        .enumerate()
+        .flat_map(|(i, record)| {
+            if i == at {
+                altered.clone()
+            } else {
+                record.bytes()
+            }
+        })
+        .collect()
+}
+
+fn one_field(random: &mut Random, record: &mut Record, day_before: u16) -> Vec<u8> {
+    let mut counts = record.counts();
+    match random.below(12) {
+        0 => record.form = *random.pick(&FORMS),
+        1 => record.day = day_before.wrapping_sub(1),
+        2 => counts[0] = *random.pick(&NAME_COUNTS),
+        3 => *any(random, &mut record.name) = *random.pick(&NAME_BYTES),
+        4 => counts[1] = *random.pick(&CHANCE_COUNTS),
+        5 => *any(random, &mut record.chances) = *random.pick(&CHANCES),
+        6 => {
+            let chance = *random.pick(&record.chances);
+            *any(random, &mut record.chances) = chance;
+        }
+        7 => counts[2] = *random.pick(&TIME_COUNTS),
+        8 => *any(random, &mut record.times) = *random.pick(&TIMES),
+        9 => counts[3] = counts[3].wrapping_add_signed(*random.pick(&[-1, 1, 0x100])),
+        10 => {
+            let change = *random.pick(&[1, u64::MAX, 1 << 32, 1 << 52, 1 << 63]);
+            let bits = any(random, &mut record.limits);
+            *bits = bits.wrapping_add(change);
+        }
+        _ => {
+            let bits = any(random, &mut record.limits);
+            *bits = *random.pick(&[bits.swap_bytes(), 0, 0x7ff0000000000000, 0x7ff8000000000000]);
+        }
+    }
+    record.bytes_counted(counts)
+}
+
+/// A journal with one byte changed by one, by a bit, or for any other.
+pub fn byte_altered(random: &mut Random, mut bytes: Vec<u8>) -> Vec<u8> {
+    let byte = any(random, &mut bytes);
+    *byte = match random.below(3) {
+        0 => byte.wrapping_add_signed(*random.pick(&[-1, 1])),
+        1 => *byte ^ 1 << random.below(8),
+        _ => random.bits() as u8,
+    };
+    bytes
+}
+
+fn any<'a, T>(random: &mut Random, items: &'a mut [T]) -> &'a mut T {
+    let at = random.below(items.len() as u64) as usize;
+    &mut items[at]
+}

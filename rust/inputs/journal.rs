@@ -1,0 +1,96 @@
+// Random records, and records with one field at the edge of its range or beyond it.
+// A record here is plain numbers: the caller encodes it.
+
+use crate::random::Random;
+
+/// What a record holds besides its limits.
+#[derive(Clone, Debug)]
+pub struct Fields {
+    pub day: u16,
+    pub name: Vec<u8>,
+    pub chances: Vec<u32>,
+    pub times: Vec<u32>,
+}
+
+/// The sizes of the smallest and of the largest record.
+pub const SMALLEST: usize = 33;
+pub const LARGEST: usize = 652;
+
+/// Values at both sides of each range, and far beyond.
+pub const FORMS: [u16; 5] = [0, 2, 3, 0x100, u16::MAX];
+pub const NAME_COUNTS: [u16; 6] = [0, 1, 32, 33, 0x100, u16::MAX];
+pub const NAME_BYTES: [u8; 6] = [0x00, 0x20, 0x21, 0x7e, 0x7f, 0xff];
+pub const CHANCE_COUNTS: [u16; 6] = [0, 1, 8, 9, 0x100, u16::MAX];
+pub const CHANCES: [u32; 6] = [0, 1, 999_999, 1_000_000, 0x1_000_000, u32::MAX];
+pub const TIME_COUNTS: [u16; 7] = [0, 1, 2, 128, 129, 0x200, u16::MAX];
+pub const TIMES: [u32; 6] = [0, 1, 1_048_575, 1_048_576, 0x1_000_000, u32::MAX];
+
+/// A record in range, mostly a small one.
+pub fn record(random: &mut Random, day: u16) -> Fields {
+    let (name, chances, times) = match random.below(8) {
+        0 => (
+            random.whole(1, 32),
+            random.whole(1, 8),
+            random.whole(2, 128),
+        ),
+        1 => (
+            *random.pick(&[1, 32]),
+            *random.pick(&[1, 8]),
+            *random.pick(&[2, 7, 8, 128]),
+        ),
+        _ => (random.whole(1, 4), random.whole(1, 3), random.whole(2, 10)),
+    };
+    sized(random, day, [name, chances, times].map(|n| n as usize))
+}
+
+/// A record in range of a given size, SMALLEST to LARGEST.
+pub fn record_of_size(random: &mut Random, day: u16, size: usize) -> Fields {
+    let chances = random
+        .whole(1, 8)
+        .min((size as u64 - SMALLEST as u64) / 12 + 1) as usize;
+    let chances = chances.max(size.saturating_sub(12 + 32 + 512).div_ceil(12));
+    let rest = size - 12 - 12 * chances;
+    // The times take four bytes each, and the name what is left: 1 to 32.
+    let most = ((rest - 1) / 4).min(128);
+    let least = rest.saturating_sub(32).div_ceil(4).max(2);
+    let times = random.whole(least as u64, most as u64) as usize;
+    sized(random, day, [rest - 4 * times, chances, times])
+}
+
+fn sized(random: &mut Random, day: u16, [name, chances, times]: [usize; 3]) -> Fields {
+    Fields {
+        day,
+        name: (0..name).map(|_| random.whole(0x21, 0x7e) as u8).collect(),
+        chances: rising_chances(random, chances),
+        times: drawn_times(random, times),
+    }
+}
+
+fn rising_chances(random: &mut Random, n: usize) -> Vec<u32> {
+    let mut chances: Vec<u32> = Vec::new();
+    while chances.len() < n {
+        let drawn = match random.below(4) {
+            0 => *random.pick(&[1, 2, 500_000, 999_998, 999_999]),
+            _ => random.whole(1, 999_999),
+        };
+        chances.push(drawn as u32);
+        chances.sort_unstable();
+        chances.dedup();
+    }
+    chances
+}
+
+/// Equal times now and then, or times within a random spread.
+fn drawn_times(random: &mut Random, n: usize) -> Vec<u32> {
+    let last = 1_048_575;
+    let low = match random.below(4) {
+        0 => *random.pick(&[1, last]),
+        _ => random.whole(1, last),
+    };
+    let spread = match random.below(3) {
+        0 => 0,
+        _ => random.whole(0, last) >> random.below(20),
+    };
+    let high = last.min(low + spread);
+    (0..n).map(|_| random.whole(low, high) as u32).collect()
+}

@@ -1,0 +1,67 @@
+// Document 01, Limit: the formula in f64, one rounding an operation.
+// The quantile comes from pxfm itself, the root from the processor.
+
+use inputs::quantile::chance as quantile_argument;
+
+pub const LAST_TIME: u64 = 1_048_575;
+pub const LAST_CHANCE: u32 = 999_999;
+
+/// n, S and the sum of squares of a set of times.
+#[derive(Clone, Copy, Default)]
+pub struct Sums {
+    pub n: u64,
+    pub sum: u64,
+    pub squares: u64,
+}
+
+impl Sums {
+    pub fn of(times: &[u32]) -> Sums {
+        let mut sums = Sums::default();
+        times.iter().for_each(|time| sums.add(u64::from(*time)));
+        sums
+    }
+
+    pub fn add(&mut self, time: u64) {
+        self.n += 1;
+        self.sum += time;
+        self.squares += time * time;
+    }
+
+    /// The limit at a chance that is in range, of times that are; it may be infinite or a NaN.
+    #[allow(clippy::approx_constant)] // the digits are the paper's
+    pub fn limit_at(&self, chance: u32) -> f64 {
+        let d = self.n * self.squares - self.sum * self.sum;
+        let mean = self.sum as f64 / self.n as f64;
+        let spread = (d as f64 / (self.n * self.n) as f64).sqrt();
+        let e = f64::from_bits(original::f_erfcinv_bits(quantile_argument(chance.into())));
+        mean + (spread * 1.4142135623730951) * e
+    }
+}
+
+pub fn chance_fits(chance: u32) -> bool {
+    (1..=LAST_CHANCE).contains(&chance)
+}
+
+pub fn count_fits(n: usize) -> bool {
+    (2..=128).contains(&n)
+}
+
+pub fn time_fits(time: u32) -> bool {
+    (1..=LAST_TIME).contains(&u64::from(time))
+}
+
+/// The limit itself, or the first refusal that holds.
+pub fn limit(times: &[u32], chance: u32) -> Result<f64, u64> {
+    if !chance_fits(chance) {
+        return Err(5);
+    }
+    if !count_fits(times.len()) || !times.iter().all(|time| time_fits(*time)) {
+        return Err(6);
+    }
+    let limit = Sums::of(times).limit_at(chance);
+    if limit.is_finite() {
+        Ok(limit)
+    } else {
+        Err(8)
+    }
+}

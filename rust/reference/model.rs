@@ -1,0 +1,145 @@
+// Document 01, Book of demand 3: what a list of calls should have made, fed the calls' arguments and the slice's length alone;
+// and append on any slice, which surveys it first.
+
+use crate::limit::{chance_fits, count_fits, time_fits};
+use crate::record::Record;
+use crate::scan::{scan_all, Entry, Status, MAX_LENGTH};
+
+/// What a call offers.
+#[derive(Clone, Debug, Default)]
+pub struct Offer {
+    pub day: u16,
+    pub name: Vec<u8>,
+    pub chances: Vec<u32>,
+    pub times: Vec<u32>,
+}
+
+#[derive(Clone, Copy, Debug, PartialEq, Eq)]
+pub enum Answer {
+    Length(usize),
+    Declined(u64),
+    Damaged { number: u64, place: usize },
+}
+
+/// The records that were written to their last byte, and the torn tail.
+#[derive(Clone, Debug, Default)]
+pub struct Model {
+    pub records: Vec<Vec<u8>>,
+    pub entries: Vec<Entry>,
+    pub tail: Vec<u8>,
+}
+
+impl Model {
+    /// The sum of the records' lengths.
+    pub fn committed(&self) -> usize {
+        self.records.iter().map(Vec::len).sum()
+    }
+
+    /// The journal's length.
+    pub fn len(&self) -> usize {
+        self.committed() + self.tail.len()
+    }
+
+    pub fn is_empty(&self) -> bool {
+        self.len() == 0
+    }
+
+    /// The call with k, its answer, and the model after it.
+    pub fn call(&mut self, slice_len: usize, offer: &Offer, k: usize) -> Answer {
+        let (committed, last_day) = (self.committed(), self.entries.last().map(|e| e.day));
+        let record = match offered(offer, last_day, committed, slice_len) {
+            Ok(record) => record,
+            Err(number) => return Answer::Declined(number),
+        };
+        let bytes = record.bytes();
+        if k < bytes.len() {
+            self.tail = bytes[..k].to_vec();
+        } else {
+            self.entries.push(Entry {
+                start: committed,
+                size: bytes.len(),
+                day: record.day,
+                mark: record.mark(),
+            });
+            self.records.push(bytes);
+            self.tail.clear();
+        }
+        Answer::Length(self.len())
+    }
+
+    /// What survey answers.
+    pub fn status(&self) -> Status {
+        let (records, committed) = (self.records.len(), self.committed());
+        if self.tail.is_empty() {
+            Status::Whole { records, committed }
+        } else {
+            Status::Torn { records, committed }
+        }
+    }
+
+    /// The journal's bytes.
+    pub fn bytes(&self) -> Vec<u8> {
+        [self.records.concat(), self.tail.clone()].concat()
+    }
+}
+
+/// The record that an offer makes, or the first refusal that holds.
+pub fn offered(
+    offer: &Offer,
+    last_day: Option<u16>,
+    committed: usize,
+    slice_len: usize,
+) -> Result<Record, u64> {
+    if last_day.is_some_and(|day| offer.day < day) {
+        return Err(3);
+    }
+    if !name_fits(&offer.name) {
+        return Err(4);
+    }
+    if !chances_fit(&offer.chances) {
+        return Err(5);
+    }
+    if !count_fits(offer.times.len()) || !offer.times.iter().all(|time| time_fits(*time)) {
+        return Err(6);
+    }
+    let record = Record::new(offer.day, &offer.name, &offer.chances, &offer.times);
+    if !record
+        .limits
+        .iter()
+        .all(|bits| f64::from_bits(*bits).is_finite())
+    {
+        return Err(8);
+    }
+    if committed + record.bytes().len() > slice_len.min(MAX_LENGTH) {
+        return Err(9);
+    }
+    Ok(record)
+}
+
+fn name_fits(name: &[u8]) -> bool {
+    (1..=32).contains(&name.len()) && name.iter().all(|byte| (0x21..=0x7e).contains(byte))
+}
+
+fn chances_fit(chances: &[u32]) -> bool {
+    let rising = chances.windows(2).all(|pair| pair[0] < pair[1]);
+    (1..=8).contains(&chances.len()) && chances.iter().all(|chance| chance_fits(*chance)) && rising
+}
+
+/// The call with k on the first `len` bytes of any slice: its answer, and the slice's bytes after it.
+pub fn append_upto(slice: &mut [u8], len: usize, offer: &Offer, k: usize) -> Answer {
+    let (status, entries) = scan_all(slice, len);
+    let committed = match status {
+        Status::Damaged { number, place } => return Answer::Damaged { number, place },
+        Status::Whole { committed, .. } | Status::Torn { committed, .. } => committed,
+    };
+    let last_day = entries.last().map(|entry| entry.day);
+    match offered(offer, last_day, committed, slice.len()) {
+        Err(number) => Answer::Declined(number),
+        Ok(record) => {
+            let bytes = record.bytes();
+            let written = k.min(bytes.len());
+            slice[committed..committed + written].copy_from_slice(&bytes[..written]);
+            Answer::Length(committed + written)
+        }
+    }
+}

@@ -1,0 +1,85 @@
+// Document 01, Leaf: a record's fields and their bytes.
+// A record here may break every rule: the encoding takes it as it is, so that wrong ones can be made too.
+
+use crate::limit::Sums;
+
+#[derive(Clone, Debug, Default, PartialEq, Eq)]
+pub struct Record {
+    pub form: u16,
+    pub day: u16,
+    pub name: Vec<u8>,
+    pub chances: Vec<u32>,
+    pub times: Vec<u32>,
+    pub limits: Vec<u64>,
+}
+
+/// The marks' letters, and from how many times on a set is not few.
+pub const FLAT: u8 = b'F';
+pub const FEW: u8 = b'S';
+pub const NORMAL: u8 = b'N';
+pub const NOT_FEW: usize = 8;
+
+impl Record {
+    /// The record of these arguments in form 1, with its limits by the formula. Times and chances are in range.
+    pub fn new(day: u16, name: &[u8], chances: &[u32], times: &[u32]) -> Record {
+        let sums = Sums::of(times);
+        Record {
+            form: 1,
+            day,
+            name: name.to_vec(),
+            chances: chances.to_vec(),
+            times: times.to_vec(),
+            limits: chances
+                .iter()
+                .map(|c| sums.limit_at(*c).to_bits())
+                .collect(),
+        }
+    }
+
+    /// Its bytes, with each section's count as it is.
+    pub fn bytes(&self) -> Vec<u8> {
+        self.bytes_counted(self.counts())
+    }
+
+    /// The counts of its four sections.
+    pub fn counts(&self) -> [u16; 4] {
+        [
+            self.name.len(),
+            self.chances.len(),
+            self.times.len(),
+            self.limits.len(),
+        ]
+        .map(|n| n as u16)
+    }
+
+    /// Its bytes with other counts before the sections.
+    pub fn bytes_counted(&self, [name, chances, times, limits]: [u16; 4]) -> Vec<u8> {
+        let mut bytes = [self.form, self.day, name].map(u16::to_le_bytes).concat();
+        bytes.extend_from_slice(&self.name);
+        bytes.extend(chances.to_le_bytes());
+        bytes.extend(self.chances.iter().flat_map(|x| x.to_le_bytes()));
+        bytes.extend(times.to_le_bytes());
+        bytes.extend(self.times.iter().flat_map(|x| x.to_le_bytes()));
+        bytes.extend(limits.to_le_bytes());
+        bytes.extend(self.limits.iter().flat_map(|x| x.to_le_bytes()));
+        bytes
+    }
+
+    /// The letter of its mark.
+    pub fn mark(&self) -> u8 {
+        let first = self.times.first();
+        let equal = self.times.iter().all(|time| Some(time) == first);
+        mark(equal, self.times.len())
+    }
+}
+
+/// The letter of the mark of so many times, by whether they are all equal.
+pub fn mark(equal: bool, times: usize) -> u8 {
+    if equal {
+        FLAT
+    } else if times < NOT_FEW {
+        FEW
+    } else {
+        NORMAL
+    }
+}

@@ -1,0 +1,170 @@
+// Document 01's survey and reading, over any bytes: the fields in byte order, each judged when its last byte stands.
+// One pass keeps every record's part and mark; it allocates only where a caller asks for them.
+
+use crate::limit::{chance_fits, Sums, LAST_TIME};
+use crate::record::mark;
+
+pub const MAX_LENGTH: usize = 65_536;
+
+/// i is not below the number of records.
+pub const ABSENT: u64 = 10;
+
+#[derive(Clone, Copy, Debug, PartialEq, Eq)]
+pub enum Status {
+    Whole { records: usize, committed: usize },
+    Torn { records: usize, committed: usize },
+    Damaged { number: u64, place: usize },
+}
+
+/// A record's part of the journal, and what else is told of it.
+#[derive(Clone, Copy, Debug, PartialEq, Eq)]
+pub struct Entry {
+    pub start: usize,
+    pub size: usize,
+    pub day: u16,
+    pub mark: u8,
+}
+
+/// Why a record is not read to its end.
+enum Stop {
+    Short,
+    Fault { number: u64, place: usize },
+}
+
+/// The survey of the first `len` bytes of a slice.
+pub fn scan(slice: &[u8], len: usize) -> Status {
+    scan_each(slice, len, |_| ())
+}
+
+/// The survey, and every record that stands; none where the journal is damaged.
+pub fn scan_all(slice: &[u8], len: usize) -> (Status, Vec<Entry>) {
+    let mut entries = Vec::new();
+    let status = scan_each(slice, len, |entry| entries.push(entry));
+    if let Status::Damaged { .. } = status {
+        entries.clear();
+    }
+    (status, entries)
+}
+
+fn scan_each(slice: &[u8], len: usize, mut tell: impl FnMut(Entry)) -> Status {
+    if len > slice.len() || len > MAX_LENGTH {
+        return Status::Damaged {
+            number: 1,
+            place: 0,
+        };
+    }
+    let mut cursor = Cursor {
+        bytes: &slice[..len],
+        at: 0,
+    };
+    let (mut records, mut committed, mut day) = (0, 0, 0);
+    loop {
+        match cursor.record(day) {
+            Ok(entry) => {
+                tell(entry);
+                records += 1;
+                committed = cursor.at;
+                day = entry.day;
+            }
+            Err(Stop::Fault { number, place }) => return Status::Damaged { number, place },
+            Err(Stop::Short) if committed == len => return Status::Whole { records, committed },
+            Err(Stop::Short) => return Status::Torn { records, committed },
+        }
+    }
+}
+
+struct Cursor<'a> {
+    bytes: &'a [u8],
+    at: usize,
+}
+
+impl Cursor<'_> {
+    /// The next W bytes, or that they do not all stand.
+    fn bytes<const W: usize>(&mut self) -> Result<[u8; W], Stop> {
+        let field = self.bytes.get(self.at..self.at + W).ok_or(Stop::Short)?;
+        self.at += W;
+        Ok(field.try_into().expect("W bytes"))
+    }
+
+    /// Refuses the field of `width` bytes that was just read, unless it holds.
+    fn judge(&self, width: usize, number: u64, holds: bool) -> Result<(), Stop> {
+        if holds {
+            return Ok(());
+        }
+        let place = self.at - width;
+        Err(Stop::Fault { number, place })
+    }
+
+    /// A count from low to high.
+    fn count(&mut self, number: u64, low: u16, high: u16) -> Result<u16, Stop> {
+        let n = u16::from_le_bytes(self.bytes()?);
+        self.judge(2, number, (low..=high).contains(&n))?;
+        Ok(n)
+    }
+
+    /// A record whose day is not below that of the one before it.
+    fn record(&mut self, day_before: u16) -> Result<Entry, Stop> {
+        let start = self.at;
+        self.count(2, 1, 1)?;
+        let day = u16::from_le_bytes(self.bytes()?);
+        self.judge(2, 3, day >= day_before)?;
+        self.name()?;
+        let mut room = [0; 8];
+        let chances = self.chances(&mut room)?;
+        let (sums, equal) = self.times()?;
+        self.limits(chances, &sums)?;
+        Ok(Entry {
+            start,
+            size: self.at - start,
+            day,
+            mark: mark(equal, sums.n as usize),
+        })
+    }
+
+    fn name(&mut self) -> Result<(), Stop> {
+        for _ in 0..self.count(4, 1, 32)? {
+            let [byte] = self.bytes()?;
+            self.judge(1, 4, (0x21..=0x7e).contains(&byte))?;
+        }
+        Ok(())
+    }
+
+    fn chances<'r>(&mut self, room: &'r mut [u32; 8]) -> Result<&'r [u32], Stop> {
+        let n = usize::from(self.count(5, 1, 8)?);
+        let mut before = 0;
+        for place in &mut room[..n] {
+            let chance = u32::from_le_bytes(self.bytes()?);
+            self.judge(4, 5, chance_fits(chance) && chance > before)?;
+            before = chance;
+            *place = chance;
+        }
+        Ok(&room[..n])
+    }
+
+    /// The times' sums, and whether they are all equal.
+    fn times(&mut self) -> Result<(Sums, bool), Stop> {
+        let n = self.count(6, 2, 128)?;
+        let mut sums = Sums::default();
+        let (mut least, mut most) = (u64::MAX, 0);
+        for _ in 0..n {
+            let time = u64::from(u32::from_le_bytes(self.bytes()?));
+            self.judge(4, 6, (1..=LAST_TIME).contains(&time))?;
+            sums.add(time);
+            least = least.min(time);
+            most = most.max(time);
+        }
+        Ok((sums, least == most))
+    }
+
+    fn limits(&mut self, chances: &[u32], sums: &Sums) -> Result<(), Stop> {
+        let n = u16::from_le_bytes(self.bytes()?);
+        self.judge(2, 7, usize::from(n) == chances.len())?;
+        for chance in chances {
+            let bits = u64::from_le_bytes(self.bytes()?);
+            let limit = sums.limit_at(*chance);
+            self.judge(8, 8, limit.is_finite())?;
+            self.judge(8, 7, limit.to_bits() == bits)?;
+        }
+        Ok(())
+    }
+}
