@@ -29,4 +29,11 @@ void journal_part(const uint8_t *v, size_t size, size_t len, size_t i, uint64_t 
 /* The mark of record i: 'F' all times equal, 'S' fewer than 8, 'N' others; or the refusal: scan's, or 10, i not below the number of records. */
 uint64_t journal_mark(const uint8_t *v, size_t size, size_t len, size_t i);
 
+/* The call with a budget on the journal that fills the first len bytes of the size bytes at v: the record of what is offered is written from the
+   committed length on, over a torn tail, as far as budget bytes of it; SIZE_MAX is append, all of it. Its limits are worked out from the times.
+   {0, length after the call, 0}; {1, refusal, 0}: 3 day, 4 name, 5 chances, 6 times, 8 limit not finite, 9 no room; or {2, refusal, place} as
+   scan's. Only where the first is 0 is a byte changed. Each pointer points to so many items, also where that is 0; out to three places. */
+void journal_append_upto(uint8_t *v, size_t size, size_t len, uint16_t day, const uint8_t *name, size_t name_len,
+    const uint32_t *chances, size_t chances_len, const uint32_t *times, size_t times_len, size_t budget, uint64_t out[3]);
+
 #endif

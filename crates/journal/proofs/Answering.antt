@@ -8,9 +8,11 @@ use native.Mathlib.Omega.{arith}
 use lib.ListN.{length, take}
 use lib.Dec.{eqb}
 use Rattle.journal_spec.specs.Refusals.{lengthRefusal, absentRefusal}
-use Rattle.journal_spec.specs.Scan.{maxLength, Placed, standing, faulty, contentsOf, whole, torn, damaged, statusOf, scanOf}
+use Rattle.journal_spec.specs.Record.{Last, lastOf, recordBytes}
+use Rattle.journal_spec.specs.Scan.{maxLength, Placed, recordsOf, standing, faulty, contentsOf, whole, torn, damaged, statusOf, scanOf}
 use Rattle.journal_spec.specs.Scan as Scan
 use Rattle.journal_spec.specs.Read.{noPart, partAt, partOf, partPlace, marked, unmarked, markOf, markAt, markIn, readMark}
+use Rattle.journal_spec.specs.Append.{Offer, offered, appendRefusal, unchanged, settle, appendTo, appendUpto}
 use Rattle.journal_spec.proofs.Scanning.{contents-long}
 use Rattle.journal_spec.proofs.RecordsLoop.{contents-part, mark-beyond}
 use Rattle.journal.specs.declared.Fault.{Fault}
@@ -18,8 +20,10 @@ use Rattle.journal.specs.declared.record.Head.{Head}
 use Rattle.journal.specs.declared.contents.Shown.{Shown}
 use Rattle.journal.specs.declared.contents.Contents.{Contents}
 use Rattle.journal.specs.declared.contents.Contents.the-variants as C
-use Rattle.journal.specs.Contents.{shownOf, noneShown, shownAt, contentsRead, recordsRead}
-use Rattle.journal.specs.Answers.{markFrom}
+use Rattle.journal.specs.declared.Appended.the-variants as A
+use Rattle.journal.specs.Records.{asLast}
+use Rattle.journal.specs.Contents.{headOf, shownOf, noneShown, shownAt, contentsRead, recordsRead}
+use Rattle.journal.specs.Answers.{markFrom, appendMeaning, lengthAfter, outcomeOf}
 
 -- ---- the length
 
@@ -35,20 +39,22 @@ contents-within v len i h k = ap (contentsRead i) (sym (contents-part v len h k)
 
 -- ---- the answer, taken back
 
-pub record Stood (k : Scan.Contents) (i records committed : ℕ) (shown : Shown) : Type 0 where
+pub record Stood (k : Scan.Contents) (i records committed : ℕ) (last : Head) (shown : Shown) : Type 0 where
   pub ps : List Placed
   pub count : records ≡ length ps
+  pub ends : last ≡ headOf (lastOf (recordsOf ps))
   pub seen : shown ≡ shownAt ps i
   pub is : k ≡ standing ps committed
 
 stands-stood : (k : Scan.Contents) (i records committed : ℕ) (last : Head) (shown : Shown)
-    → C.Stands records committed last shown ≡ contentsRead i k → Stood k i records committed shown
+    → C.Stands records committed last shown ≡ contentsRead i k → Stood k i records committed last shown
 unfolding contentsRead
 stands-stood (standing ps e) i records committed last shown h =
     let count : records ≡ length ps = cc in
     let place : committed ≡ e = cc in
+    let ends : last ≡ headOf (lastOf (recordsOf ps)) = cc in
     let seen : shown ≡ shownAt ps i = cc in
-    record { ps = ps; count = count; seen = seen; is = ap (standing ps) (sym place) }
+    record { ps = ps; count = count; ends = ends; seen = seen; is = ap (standing ps) (sym place) }
 stands-stood (faulty n p) i records committed last shown h = let z : _≡_ {A = ℕ} 0 1 = cc in absurd (omega arith)
 
 damaged-faulty : (k : Scan.Contents) (i : ℕ) (f : Fault) → C.Damaged f ≡ contentsRead i k → k ≡ faulty (f .number) (f .place)
@@ -85,9 +91,13 @@ mark-placed : (ps : List Placed) (i : ℕ) (shown : Shown) → shown ≡ shownAt
     → marked (markFrom (shown .flat) (shown .times)) ≡ markAt ps i
 mark-placed ps i shown e h = rw e (shown-mark ps i h)
 
+last-kept : (l : Last) → asLast (headOf l) ≡ l
+unfolding asLast headOf
+last-kept l = refl
+
 module _ (v : List ℕ) (len i : ℕ) (x : Contents) (read : x ≡ contentsRead i (contentsOf v len)) where
   module _ (records committed : ℕ) (last : Head) (shown : Shown) (told : x ≡ C.Stands records committed last shown) where
-    stood : Stood (contentsOf v len) i records committed shown
+    stood : Stood (contentsOf v len) i records committed last shown
     stood = stands-stood (contentsOf v len) i records committed last shown (sym told ∙ read)
 
     pub scan-stands : cond (eqb committed len) (whole records committed) (torn records committed) ≡ scanOf v len
@@ -107,6 +117,15 @@ module _ (v : List ℕ) (len i : ℕ) (x : Contents) (read : x ≡ contentsRead 
     unfolding readMark markIn
     mark-absent h = sym (mark-beyond (stood .ps) i (omega (arith, stood .count))) ∙ ap (λ k. markIn k i) (sym (stood .is))
 
+    -- what becomes of an offer goes on from what stands
+    pub append-stands : (o : Offer) (k : ℕ)
+        → settle (appendRefusal (length v) (asLast last) committed o) v len committed (take k (recordBytes (offered o))) ≡ appendUpto v len o k
+    unfolding appendUpto appendTo
+    append-stands o k =
+        ap (λ (l : Last). settle (appendRefusal (length v) l committed o) v len committed (take k (recordBytes (offered o))))
+        (ap asLast (stood .ends) ∙ last-kept (lastOf (recordsOf (stood .ps))))
+        ∙ ap (λ j. appendTo j v len o k) (sym (stood .is))
+
   module _ (f : Fault) (told : x ≡ C.Damaged f) where
     is : contentsOf v len ≡ faulty (f .number) (f .place)
     is = damaged-faulty (contentsOf v len) i f (sym told ∙ read)
@@ -122,3 +141,7 @@ module _ (v : List ℕ) (len i : ℕ) (x : Contents) (read : x ≡ contentsRead 
     pub mark-damaged : unmarked (f .number) ≡ readMark v len i
     unfolding readMark markIn
     mark-damaged = rw is
+
+    pub append-damaged : (o : Offer) (k : ℕ) → outcomeOf len (A.Damaged f) v ≡ appendUpto v len o k
+    unfolding appendUpto appendTo outcomeOf appendMeaning lengthAfter unchanged
+    append-damaged o k = rw is

@@ -17,3 +17,10 @@ pub mod Heads
 pub mod Counting
 pub mod Inside
 pub mod Answering
+-- writing
+pub mod Putting
+-- the check of an offer
+pub mod Checking
+pub mod WorkedOut
+pub mod Offered
+pub mod Extending

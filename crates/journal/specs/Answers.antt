@@ -1,16 +1,21 @@
 -- What the public functions answer, in document 01's words: its word, number and values for each case.
--- The contracts of scan, part_place and mark cite these.
+-- The contracts of the public functions cite these.
 use Prim.Native.Nat.{ℕ}
+use mathlib.Core.List.{List}
 use mathlib.Core.Bool.{Bool, cond}
 use lib.Dec.{ltb}
 use Rattle.journal_spec.specs.Scan.{ScanResult, whole, torn, damaged}
 use Rattle.journal_spec.specs.Read.{Mark, flat, few, normal, fewTimes, MarkResult, marked, unmarked}
 use Rattle.journal_spec.specs.Read as Read
+use Rattle.journal_spec.specs.Append.{AppendResult, extended, declined, Outcome}
+use Rattle.journal_spec.specs.Append as Append
 use Rattle.journal.specs.declared.Status.{Status}
 use Rattle.journal.specs.declared.Status.the-variants as S
 use Rattle.journal.specs.declared.Part.{Part}
 use Rattle.journal.specs.declared.Marked.{Marked}
 use Rattle.journal.specs.declared.Marked.the-variants as M
+use Rattle.journal.specs.declared.Appended.{Appended}
+use Rattle.journal.specs.declared.Appended.the-variants as A
 
 -- document 01's answer of a survey for each case of scan's
 unfoldable pub meaning : Status → ScanResult
@@ -32,3 +37,19 @@ markMeaning (M.Refused n) = unmarked n
 -- the mark of so many times, by whether they are all equal
 unfoldable pub markFrom : Bool → ℕ → Mark
 markFrom equal times = cond equal flat (cond (ltb times fewTimes) few normal)
+
+-- document 01's answer of an append for each case
+unfoldable pub appendMeaning : Appended → AppendResult
+appendMeaning (A.Extended n) = extended n
+appendMeaning (A.Declined n) = declined n
+appendMeaning (A.Damaged f) = Append.damaged (f .number) (f .place)
+
+-- the journal's length after an append that found the length `len`: what is answered, and else it stays
+unfoldable pub lengthAfter : ℕ → Appended → ℕ
+lengthAfter len (A.Extended n) = n
+lengthAfter len (A.Declined n) = len
+lengthAfter len (A.Damaged f) = len
+
+-- all that an append comes to, from the length before it, its answer and the slice's bytes after it
+unfoldable pub outcomeOf : ℕ → Appended → List ℕ → Outcome
+outcomeOf len r slice = record { answer = appendMeaning r; slice = slice; len = lengthAfter len r }

@@ -4,4 +4,5 @@ pub mod Rules
 pub mod Found
 pub mod Records
 pub mod Contents
+pub mod Offering
 pub mod Answers

@@ -1,18 +1,25 @@
-// The journal's reading side: scan, document 01's survey, and reading's two calls, the part of a record and its mark.
-// Each goes over the journal's bytes once; nothing is assumed of the slice or the length.
+// The journal: scan, document 01's survey; reading's two calls, the part of a record and its mark; append, and the call with a budget.
+// Each goes over the journal's bytes once; nothing is assumed of the slice, the length or what is offered.
 ghost use mathlib.Core.Path.{_≡_};
 ghost use Rattle.journal_spec.specs.Scan.{scanOf};
 ghost use Rattle.journal_spec.specs.Read.{partPlace, readPart, marked, readMark};
-ghost use Rattle.journal.specs.Answers.{meaning, partMeaning, markMeaning, markFrom};
+ghost use Rattle.journal_spec.specs.Append.{appendUpto, appendOf};
+ghost use Rattle.journal.specs.Offering.{offerOf};
+ghost use Rattle.journal.specs.Answers.{meaning, partMeaning, markMeaning, markFrom, outcomeOf};
 use crate::contents::Contents;
+use crate::contents::MAX_LENGTH;
 use crate::contents::contents_of;
+use crate::extend::extend_by;
 
 mod contents;
+mod extend;
 mod field;
 mod limits;
 mod number;
+mod offer;
 mod record;
 mod section;
+mod write;
 
 // Document 01's number for an i that is not below the number of records.
 pub const ABSENT_REFUSAL: u32 = 10;
@@ -46,6 +53,13 @@ pub enum Marked {
     Few,
     Normal,
     Refused(u32),
+}
+
+// The journal's length after an append; or declined, with the refusal's number; or damaged, with the journal's first fault.
+pub enum Appended {
+    Extended(usize),
+    Declined(u32),
+    Damaged(Fault),
 }
 
 // Document 01's survey of the journal of a length in a slice.
@@ -131,4 +145,46 @@ fn mark_from(flat: bool, times: u64) -> Marked
         return Marked::Few;
     }
     Marked::Normal
+}
+
+// Appends a record of what is offered, its limits worked out from the times. Where it answers a length that is the journal's new length,
+// and the slice's bytes from the committed length on are the record's; else the length stays and no byte is changed.
+pub fn append(
+    v: &mut [u8],
+    len: usize,
+    day: u16,
+    name: &[u8],
+    chances: &[u32],
+    times: &[u32],
+) -> Appended
+    ensures { λ r. ⌜ outcomeOf len r (now (v .exit))
+        ≡ appendOf (now (v .entry)) len (offerOf day (now (name .entry)) (now (chances .entry)) (now (times .entry))) ⌝ }
+{
+    append_upto(v, len, day, name, chances, times, MAX_LENGTH)
+}
+
+// Document 01's call with k: after append's checks it stops when `budget` bytes of the record are written. A budget beyond the record is
+// all of it.
+pub fn append_upto(
+    v: &mut [u8],
+    len: usize,
+    day: u16,
+    name: &[u8],
+    chances: &[u32],
+    times: &[u32],
+    budget: usize,
+) -> Appended
+    ensures { λ r. ⌜ outcomeOf len r (now (v .exit))
+        ≡ appendUpto (now (v .entry)) len (offerOf day (now (name .entry)) (now (chances .entry)) (now (times .entry))) budget ⌝ }
+{
+    let x = contents_of(v, len, 0);
+    match x {
+        Contents::Stands {
+            records: _,
+            committed,
+            last,
+            shown: _,
+        } => extend_by(v, committed, last, day, name, chances, times, budget),
+        Contents::Damaged(f) => Appended::Damaged(f),
+    }
 }

@@ -30,17 +30,17 @@ use limit::sums::MIN_TICKS;
 use limit::sums::Sums;
 
 // The one form there is, and the greatest day.
-const FORM: u64 = 1;
+pub(crate) const FORM: u64 = 1;
 
 const MAX_DAY: u64 = 65_535;
 
 // Document 01's numbers for a form that is not 1 and for a day below that of the record before.
 const FORM_REFUSAL: u32 = 2;
 
-const DAY_REFUSAL: u32 = 3;
+pub(crate) const DAY_REFUSAL: u32 = 3;
 
 // The name: 1 to 32 bytes, each 21 to 7e.
-const NAME: Rule = Rule {
+pub(crate) const NAME: Rule = Rule {
     width: 1,
     least: 1,
     most: 32,
@@ -51,7 +51,7 @@ const NAME: Rule = Rule {
 };
 
 // The chances: 1 to 8, in range, rising strictly.
-const CHANCES: Rule = Rule {
+pub(crate) const CHANCES: Rule = Rule {
     width: 4,
     least: 1,
     most: 8,

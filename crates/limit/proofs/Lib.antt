@@ -1,5 +1,5 @@
 -- The laws behind the limit's proofs, one idea to a file.
--- `Plausible`, `Adding` and `Agreement` are what a reader of times that keeps its own sums cites.
+-- `Plausible`, `Adding` and `Agreement` are what a reader of times that keeps its own sums cites, `Gathered` what a caller of `gather` does.
 pub mod InRange
 pub mod Cauchy
 pub mod Bounds
@@ -7,7 +7,7 @@ pub mod Plausible
 pub mod Scatter
 pub mod Adding
 mod Gathering
-mod Gathered
+pub mod Gathered
 pub mod Agreement
 pub mod Exact
 pub mod Inputs

@@ -23,7 +23,7 @@ pub struct Sums {
 }
 
 // The sums of times in range, or that their count or one of them is out of range.
-pub(crate) enum Gathered {
+pub enum Gathered {
     Within(Sums),
     Outside,
 }
@@ -87,7 +87,7 @@ fn time_in_range(t: u32) -> bool
 }
 
 // The sums of the times, in one pass that ends at the first time out of range. A count out of range is seen before the pass.
-pub(crate) fn gather(times: &[u32]) -> Gathered
+pub fn gather(times: &[u32]) -> Gathered
     ensures { λ r. ⌜ r ≡ gatherOf (now (times .entry)) ⌝ }
 {
     let n = times.len();

@@ -1,0 +1,11 @@
+-- Append's answer as the C interface gives it: three words.
+-- The first says which case it is, the others hold its values, 0 where there is none.
+use Prim.Native.Nat.{ℕ}
+use mathlib.Core.List.{List, [], _∷_}
+use Rattle.journal_spec.specs.Append.{AppendResult, extended, declined, damaged}
+
+-- 0 and the journal's length after the call; 1 and the number by which it is declined; or 2, the fault's number and place
+unfoldable pub appendWords : AppendResult → List ℕ
+appendWords (extended len) = 0 ∷ len ∷ 0 ∷ []
+appendWords (declined number) = 1 ∷ number ∷ 0 ∷ []
+appendWords (damaged number place) = 2 ∷ number ∷ place ∷ []

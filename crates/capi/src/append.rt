@@ -1,0 +1,38 @@
+// The call with a budget, its answer in words: an append cut after so many bytes. A budget of SIZE_MAX is append itself.
+// `v` is the slice, `len` the journal's length in it.
+ghost use mathlib.Core.Path.{_≡_};
+ghost use Rattle.journal_spec.specs.Append.{appendUpto};
+ghost use Rattle.journal.specs.Offering.{offerOf};
+ghost use Rattle.capi.specs.Append.{appendWords};
+use journal::Appended;
+
+// 0 and the journal's length after the call; 1 and the number by which it is declined; or 2, with the fault's number and place.
+#[no_mangle]
+pub extern "C" fn journal_append_upto(
+    v: &mut [u8],
+    len: usize,
+    day: u16,
+    name: &[u8],
+    chances: &[u32],
+    times: &[u32],
+    budget: usize,
+    out: &mut [u64; 3],
+)
+    ensures { λ r. ⌜ now (v .exit)
+        ≡ appendUpto (now (v .entry)) len (offerOf day (now (name .entry)) (now (chances .entry)) (now (times .entry))) budget .slice ⌝ }
+    ensures { λ r. ⌜ now (out .exit) ≡ appendWords
+        (appendUpto (now (v .entry)) len (offerOf day (now (name .entry)) (now (chances .entry)) (now (times .entry))) budget .answer) ⌝ }
+{
+    let a = journal::append_upto(v, len, day, name, chances, times, budget);
+    match a {
+        Appended::Extended(n) => {
+            *out = [0, n as u64, 0];
+        }
+        Appended::Declined(n) => {
+            *out = [1, n as u64, 0];
+        }
+        Appended::Damaged(f) => {
+            *out = [2, f.number as u64, f.place as u64];
+        }
+    }
+}

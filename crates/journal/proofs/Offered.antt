@@ -1,0 +1,118 @@
+-- An offer's refusals in document 01's order, as the code finds them: each one holds where those before it do not.
+-- Assumes nothing.
+use mathlib.Core.Path.{_≡_, refl, sym, ap, _∙_}
+use Prim.Native.Nat.{ℕ, suc, _≤_, _<_}
+use mathlib.Core.Bool.{true, false}
+use mathlib.Core.List.{List, [], _∷_}
+use native.Mathlib.Omega.{arith}
+use lib.ListN.{length}
+use lib.Dec.{leb}
+use borrow.Author.Tests.{le-leb, lt-leb}
+use Rattle.limit.specs.declared.sums.Sums.{Sums}
+use Rattle.limit.specs.declared.sums.Gathered.{Gathered}
+use Rattle.limit.specs.declared.sums.Gathered.the-variants as G
+use Rattle.limit.specs.Times.{minCount, maxCount, timesInRange}
+use Rattle.limit.specs.Sums.{sumsOf, gatherOf}
+use Rattle.limit.specs.Answer.{timesRefusal}
+use Rattle.limit.proofs.Gathered.{gathered-within, gathered-outside}
+use Rattle.journal_spec.specs.Refusals.{dayRefusal, unless, firstOf}
+use Rattle.journal_spec.specs.Section.{Section, sectionRefusal}
+use Rattle.journal_spec.specs.Record.{Last, judgeDay, nameSection, chanceSection, timeSection, minName, maxName, minChances, maxChances}
+use Rattle.journal_spec.specs.Append.{Offer, limitsRefusal, offerRefusal}
+use Rattle.journal_spec.proofs.Judging.{unless-true, unless-false, first-none, outside-none}
+use Rattle.journal_spec.proofs.Offers.{time-refused}
+use Rattle.journal_spec.proofs.Limits.{times-good}
+use Rattle.journal.specs.Offering.{LimitsChecked, OfferChecked}
+use Rattle.journal.proofs.Checking.{first-this, first-later, first-alone}
+
+-- ---- the counts of sections that are not refused
+
+pub name-few : (xs : List ℕ) → sectionRefusal nameSection xs ≡ 0 → length xs ≤ maxName
+unfolding sectionRefusal nameSection
+name-few xs e = outside-none minName maxName 3 (length xs) (first-none _ _ e .0) .1
+
+pub chances-few : (xs : List ℕ) → sectionRefusal chanceSection xs ≡ 0 → length xs ≤ maxChances
+unfolding sectionRefusal chanceSection
+chances-few xs e = outside-none minChances maxChances 4 (length xs) (first-none _ _ e .0) .1
+
+times-few : (xs : List ℕ) → sectionRefusal timeSection xs ≡ 0 → length xs ≤ maxCount
+unfolding sectionRefusal timeSection
+times-few xs e = outside-none minCount maxCount 5 (length xs) (first-none _ _ e .0) .1
+
+-- how many there are of what an offer holds that is not refused
+pub record Few (o : Offer) : Type 0 where
+  pub name : length (o .name) ≤ maxName
+  pub chances : length (o .chances) ≤ maxChances
+  pub times : length (o .times) ≤ maxCount
+
+pub offer-few : (last : Last) (o : Offer) → offerRefusal last o ≡ 0 → Few o
+unfolding offerRefusal
+offer-few last o e =
+    let day = first-none (judgeDay last (o .day)) _ e in
+    let name = first-none (sectionRefusal nameSection (o .name)) _ (day .1) in
+    let chances = first-none (sectionRefusal chanceSection (o .chances)) _ (name .1) in
+    let times = first-none (sectionRefusal timeSection (o .times)) _ (chances .1) in
+    record { name = name-few (o .name) (name .0); chances = chances-few (o .chances) (chances .0); times = times-few (o .times) (times .0) }
+
+-- ---- one refusal after another
+
+module _ (last : Last) (o : Offer) (bits : List ℕ) where
+  -- a refusal leaves nothing to say of the limits
+  refused-by : (r : ℕ) → 0 < r → r ≡ offerRefusal last o → OfferChecked last o r bits
+  refused-by r h e = record { refusal = e; limits = λ z. absurd (omega arith) }
+
+  pub day-refused : o .day < last .day → OfferChecked last o dayRefusal bits
+  unfolding offerRefusal judgeDay
+  day-refused h =
+      refused-by dayRefusal (omega arith)
+      (first-this dayRefusal _ _ (omega arith) (sym (unless-false (leb (last .day) (o .day)) dayRefusal (lt-leb (last .day) (o .day) h))))
+
+  module _ (d : last .day ≤ o .day) where
+    after-day : offerRefusal last o
+        ≡ firstOf
+        (sectionRefusal nameSection (o .name)
+        ∷ sectionRefusal chanceSection (o .chances)
+        ∷ sectionRefusal timeSection (o .times)
+        ∷ limitsRefusal (o .times) (o .chances)
+        ∷ [])
+    unfolding offerRefusal judgeDay
+    after-day = first-later _ _ (unless-true (leb (last .day) (o .day)) dayRefusal (le-leb (last .day) (o .day) d))
+
+    pub name-refused : (r : ℕ) → 0 < r → r ≡ sectionRefusal nameSection (o .name) → OfferChecked last o r bits
+    name-refused r h e = refused-by r h (first-this r _ _ h e ∙ sym after-day)
+
+    module _ (n : sectionRefusal nameSection (o .name) ≡ 0) where
+      after-name : offerRefusal last o
+          ≡ firstOf
+          (sectionRefusal chanceSection (o .chances)
+          ∷ sectionRefusal timeSection (o .times)
+          ∷ limitsRefusal (o .times) (o .chances)
+          ∷ [])
+      after-name = after-day ∙ first-later _ _ n
+
+      pub chances-refused : (r : ℕ) → 0 < r → r ≡ sectionRefusal chanceSection (o .chances) → OfferChecked last o r bits
+      chances-refused r h e = refused-by r h (first-this r _ _ h e ∙ sym after-name)
+
+      module _ (c : sectionRefusal chanceSection (o .chances) ≡ 0) (g : Gathered) (read : g ≡ gatherOf (o .times)) where
+        after-chances : offerRefusal last o ≡ firstOf (sectionRefusal timeSection (o .times) ∷ limitsRefusal (o .times) (o .chances) ∷ [])
+        after-chances = after-name ∙ first-later _ _ c
+
+        pub times-refused : g ≡ G.Outside → OfferChecked last o timesRefusal bits
+        times-refused told =
+            let bad = gathered-outside (o .times) (sym read ∙ told) in
+            let e : timesRefusal ≡ sectionRefusal timeSection (o .times) =
+            sym (time-refused (o .times) ∙ unless-false _ timesRefusal (times-good (o .times) ∙ bad)) in
+            refused-by timesRefusal (omega arith) (first-this timesRefusal _ _ (omega arith) e ∙ sym after-chances)
+
+        pub limits-judged : (s : Sums) → g ≡ G.Within s → (r : ℕ)
+            → ((times : List ℕ) → timesInRange times ≡ true → s ≡ sumsOf times → LimitsChecked times (o .chances) r bits)
+            → OfferChecked last o r bits
+        limits-judged s told r judged =
+            let within = gathered-within (o .times) s (sym read ∙ told) in
+            let t : sectionRefusal timeSection (o .times) ≡ 0 =
+            time-refused (o .times) ∙ unless-true _ timesRefusal (times-good (o .times) ∙ within .inside) in
+            let j = judged (o .times) (within .inside) (within .sums) in
+            record {
+              refusal = j .refusal ∙ sym (after-chances ∙ first-later _ _ t ∙ first-alone _);
+              limits = j .limits;
+            }

@@ -1,0 +1,71 @@
+-- `extend_by` declines what the check refuses, and else hands the record with the limits' bits on.
+-- Assumes nothing.
+use mathlib.Core.Path.{_≡_, sym, _∙_}
+use Prim.Native.Nat.{ℕ}
+use native.Mathlib.Omega.{arith}
+use borrow.Author.Needs.{needs}
+use lib.ListN.{length, take, length-take}
+use denote.Ref.{now}
+use Rattle.journal.specs.Records.{asLast}
+use Rattle.journal.specs.Offering.{offerOf, recordOf}
+use Rattle.journal.proofs.Offered.{Few, offer-few}
+use Rattle.journal.proofs.Extending.{offer-declined, offered-record, offer-settled}
+use Rattle.journal.proofs.extend.extend_by.Statement.{statement}
+use Rattle.journal.proofs.extend.extend_by.Tie as tie
+
+returns : tie.Need-returns
+returns c len =
+    let check = c .before .before .offer-refusal in
+    let a = c .before .before .before .before .before .before .before .before .args in
+    offer-declined (length (now (a .v))) (asLast (a .last)) (a .committed) (offerOf (a .day) (now (a .name)) (now (a .chances)) (now (a .times)))
+    (check .result) (now (a .v)) len _ (omega arith) (check .ensures .refusal)
+
+-- the offer is not refused
+few : (c : tie.After-extend-within-arg)
+    → let a = c .before .before .before .before .before .before .before .before .before .args in
+    Few (offerOf (a .day) (now (a .name)) (now (a .chances)) (now (a .times)))
+few c =
+    let check = c .before .before .before .offer-refusal in
+    let a = c .before .before .before .before .before .before .before .before .before .args in
+    offer-few (asLast (a .last)) (offerOf (a .day) (now (a .name)) (now (a .chances)) (now (a .times)))
+    (sym (check .ensures .refusal) ∙ omega arith)
+
+array-share-prefix-bits : tie.Need-array-share-prefix-bits
+unfolding offerOf
+array-share-prefix-bits c = omega (arith, few c .chances, c .before .before .before .offer-refusal .kept .1 .1 .1 .1 .1 .0)
+
+slice-aggregate-extend-within : tie.Need-slice-aggregate-extend-within
+unfolding offerOf
+slice-aggregate-extend-within c =
+    rw length-take (omega (arith, few (c .before) .chances, c .before .before .before .before .offer-refusal .kept .1 .1 .1 .1 .1 .0))
+
+extend-within-requires : tie.Need-extend-within-requires
+unfolding offerOf
+extend-within-requires c κs =
+    let counts = few (c .before) in
+    (counts .name, counts .chances, counts .times, rw length-take (omega (arith, counts .chances)))
+
+returns-2 : tie.Need-returns-2
+unfolding offerOf
+returns-2 c len =
+    let check = c .before .before .before .before .before .before .before .offer-refusal in
+    let a = c .before .before .before .before .before .before .before .before .before .before .before .before .before .args in
+    let o = offerOf (a .day) (now (a .name)) (now (a .chances)) (now (a .times)) in
+    let none : check .result ≡ 0 = omega arith in
+    c .before .before .extend-within .ensures len
+    ∙ offer-settled (length (now (a .v))) (asLast (a .last)) (a .committed) o _ (now (a .v)) len (a .budget)
+    (sym (check .ensures .refusal) ∙ none)
+    (offered-record (a .day) (now (a .name)) (now (a .chances)) (now (a .times)) _ (check .ensures .limits none))
+
+pub extend-by-spec : {M : Type 1} → statement M
+extend-by-spec =
+    tie.close
+    (tie.spec
+    (λ c. search needs)
+    (λ c κs. search needs)
+    returns
+    array-share-prefix-bits
+    slice-aggregate-extend-within
+    extend-within-requires
+    (λ c. search needs)
+    returns-2)

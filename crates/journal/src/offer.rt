@@ -1,0 +1,134 @@
+// The check of an offered record, in document 01's order: 3, 4, 5, 6, 8. A refusal is its number, 0 for none.
+// The limits' bits are kept while they are judged, so that the writer need not work them out again.
+ghost use mathlib.Core.Path.{_≡_};
+ghost use mathlib.Core.Bool.{true};
+ghost use mathlib.Core.List.{List};
+ghost use Prim.Native.Nat.{ℕ, _≤_};
+ghost use lib.ListN.{length};
+ghost use Rattle.limit.specs.Times.{timesInRange};
+ghost use Rattle.limit.specs.Sums.{sumsOf};
+ghost use Rattle.journal_spec.specs.Refusals.{outside};
+ghost use Rattle.journal_spec.specs.Section.{sectionRefusal};
+ghost use Rattle.journal_spec.specs.Record.{nameSection, chanceSection, maxChances};
+ghost use Rattle.journal.specs.Records.{asLast};
+ghost use Rattle.journal.specs.Offering.{offerOf, LimitsChecked, OfferChecked};
+use crate::record::CHANCES;
+use crate::record::DAY_REFUSAL;
+use crate::record::Head;
+use crate::record::NAME;
+use limit::Answer;
+use limit::FINITE_REFUSAL;
+use limit::TIMES_REFUSAL;
+use limit::sums::Gathered;
+use limit::sums::Sums;
+
+// The most chances of a record, which has as many limits.
+pub(crate) const MAX_CHANCES: usize = 8;
+
+// The refusal of the offer after the record `last`; where there is none, the limits' bits stand first in `bits`.
+pub(crate) fn offer_refusal(
+    last: Head,
+    day: u16,
+    name: &[u8],
+    chances: &[u32],
+    times: &[u32],
+    bits: &mut [u64],
+) -> u32
+    requires { ⌜ length (now bits) ≡ maxChances ⌝ }
+    ensures { λ r. ⌜ OfferChecked (asLast last) (offerOf day (now (name .entry)) (now (chances .entry)) (now (times .entry)))
+        r (now (bits .exit)) ⌝ }
+{
+    if (day as u64) < last.day {
+        return DAY_REFUSAL;
+    }
+    let of_name = name_refusal(name);
+    if 0 < of_name {
+        return of_name;
+    }
+    let of_chances = chances_refusal(chances);
+    if 0 < of_chances {
+        return of_chances;
+    }
+    let g = limit::sums::gather(times);
+    match g {
+        Gathered::Within(sums) => limits_refusal(sums, chances, bits),
+        Gathered::Outside => TIMES_REFUSAL,
+    }
+}
+
+// The refusal of a name: its count, then its bytes.
+fn name_refusal(name: &[u8]) -> u32
+    ensures { λ r. ⌜ r ≡ sectionRefusal nameSection (now (name .entry)) ⌝ }
+{
+    let n = name.len();
+    let count = range_refusal(NAME.least, NAME.most, NAME.refusal, n as u64);
+    if 0 < count {
+        return count;
+    }
+    let mut i: usize = 0;
+    while i < n {
+        let x = range_refusal(NAME.low, NAME.high, NAME.refusal, name[i] as u64);
+        if 0 < x {
+            return x;
+        }
+        i += 1;
+    }
+    0
+}
+
+// The refusal of the chances: their count, then each, whose least value is the one above the chance before it.
+fn chances_refusal(chances: &[u32]) -> u32
+    ensures { λ r. ⌜ r ≡ sectionRefusal chanceSection (now (chances .entry)) ⌝ }
+{
+    let n = chances.len();
+    let count = range_refusal(CHANCES.least, CHANCES.most, CHANCES.refusal, n as u64);
+    if 0 < count {
+        return count;
+    }
+    let mut low = CHANCES.low;
+    let mut i: usize = 0;
+    while i < n {
+        let c = chances[i] as u64;
+        let x = range_refusal(low, CHANCES.high, CHANCES.refusal, c);
+        if 0 < x {
+            return x;
+        }
+        low = c + 1;
+        i += 1;
+    }
+    0
+}
+
+// The refusal of a number outside low to high.
+fn range_refusal(low: u64, high: u64, refusal: u32, x: u64) -> u32
+    ensures { λ r. ⌜ r ≡ outside low high refusal x ⌝ }
+{
+    if x < low {
+        return refusal;
+    }
+    if high < x {
+        return refusal;
+    }
+    0
+}
+
+// The refusal of the limits that times with these sums have at the chances; each limit's bits are kept.
+fn limits_refusal(sums: Sums, chances: &[u32], bits: &mut [u64]) -> u32
+    requires { ⌜ (length (now chances) ≤ maxChances) × (length (now bits) ≡ maxChances) ⌝ }
+    ensures { λ r. ⌜ ((times : List ℕ) → timesInRange times ≡ true → sums ≡ sumsOf times
+        → LimitsChecked times (now (chances .entry)) r (now (bits .exit))) ⌝ }
+{
+    let n = chances.len();
+    let mut i: usize = 0;
+    while i < n {
+        let worked = limit::limit_of_sums(sums, chances[i]);
+        match worked {
+            Answer::Limit(x) => {
+                bits[i] = sqrt::bits::bits_of(x);
+                i += 1;
+            }
+            Answer::Refused(_) => return FINITE_REFUSAL,
+        }
+    }
+    0
+}
