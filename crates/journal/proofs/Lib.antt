@@ -2,6 +2,7 @@
 -- `Inside` says that the part which reading answers lies inside the slice.
 
 -- fields and sections
+pub mod NumbersIn
 pub mod Ranges
 pub mod Fields
 pub mod Items

@@ -21,6 +21,8 @@ mod record;
 mod section;
 mod write;
 
+pub use number::number_in;
+
 // Document 01's number for an i that is not below the number of records.
 pub const ABSENT_REFUSAL: u32 = 10;
 

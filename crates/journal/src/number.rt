@@ -4,6 +4,7 @@ ghost use mathlib.Core.Path.{_≡_};
 ghost use Prim.Native.Nat.{_+_, _^_, _≤_, _<_};
 ghost use lib.ListN.{length};
 ghost use Rattle.journal_spec.specs.Bytes.{numberAt};
+ghost use Rattle.journal.specs.Numbers.{numberIn};
 
 // The number in the w bytes at a place.
 pub(crate) fn number_at(b: &[u8], at: usize, w: usize) -> u64
@@ -17,4 +18,20 @@ pub(crate) fn number_at(b: &[u8], at: usize, w: usize) -> u64
         j -= 1;
     }
     value
+}
+
+// The same for a caller that has not looked whether the bytes stand: 0 where they do not all, or where they are more than a u64 has.
+pub fn number_in(b: &[u8], at: usize, w: usize) -> u64
+    ensures { λ r. ⌜ r ≡ numberIn w at (now (b .entry)) ⌝ }
+{
+    if 8 < w {
+        return 0;
+    }
+    if b.len() < w {
+        return 0;
+    }
+    if b.len() - w < at {
+        return 0;
+    }
+    number_at(b, at, w)
 }

@@ -1,0 +1,2 @@
+-- What the program needs of the listing.
+-- Assumes nothing.

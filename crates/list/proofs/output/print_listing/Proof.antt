@@ -1,0 +1,41 @@
+-- `print_listing` ends: each line leaves fewer records. Nothing has to hold from line to line.
+-- Assumes nothing.
+use mathlib.Core.Path.{_≡_, ap}
+use Prim.Native.Nat.{ℕ, _<_}
+use native.Mathlib.Omega.{arith}
+use denote.Ref.{now}
+use Rattle.listing.specs.Lines.{Position, positionOf, step}
+use Rattle.listing.proofs.Falling.{step-falls}
+use Rattle.list.proofs.output.print_listing.Statement.{statement}
+use Rattle.list.proofs.output.print_listing.Tie as tie
+
+abbrev Inv-loop : tie.InvT-loop
+Inv-loop v cursor₀ cursor = Unit {0}
+
+abbrev μ-loop : tie.MeasureT-loop
+μ-loop v cursor₀ cursor = cursor .left
+
+loop-less : tie.Need-loop-less Inv-loop μ-loop
+unfolding positionOf
+loop-less c =
+    let line = c .before .before .before .print-line in
+    let cursor = c .before .before .before .before .before .before .loop .cursor in
+    let v = c .before .before .before .before .before .before .before .before .before .args .v in
+    let less = step-falls (positionOf cursor) (now v) (c .before .before .before .before .if1 .taken) in
+    let same = ap (λ (p : Position). p .left) (line .ensures) in
+    omega (arith, less, same)
+
+pub print-listing-spec : {M : Type 1} → statement M
+print-listing-spec =
+    tie.close
+    (tie.spec
+    Inv-loop
+    μ-loop
+    (λ c κs. tt)
+    (λ c. tt)
+    (λ c κs. tt)
+    (λ c. tt)
+    loop-less
+    (λ c. tt)
+    (λ c κs. tt)
+    (λ c. tt))

@@ -1,0 +1,22 @@
+// Standard input, as much of it as matters: one byte more than the longest journal shows that the input is too long to be one.
+// A read that fails gives the same short count as the end, and one read more tells them apart.
+ghost use mathlib.Core.Path.{_≡_};
+ghost use lib.ListN.{length};
+
+// The longest journal, in bytes.
+const MAX_LENGTH: usize = 65_536;
+
+// Room for the longest journal and one byte.
+pub(crate) fn room() -> [u8; 65_537]
+    ensures { λ r. ⌜ 65_537 ≡ length r ⌝ }
+{
+    [0; 65_537]
+}
+
+// Whether all that matters is read, where so many bytes came.
+pub(crate) fn is_read(size: usize) -> bool {
+    if MAX_LENGTH < size {
+        return true;
+    }
+    lines::input_ended()
+}

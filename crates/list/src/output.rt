@@ -1,0 +1,81 @@
+// Standard output: the listing line by line, or the help that was asked for.
+// Nothing but the listing's format goes there; what fails is said on standard error.
+ghost use mathlib.Core.Path.{_≡_};
+ghost use Rattle.listing.specs.Lines.{positionOf, step};
+use listing::Cursor;
+
+// Whether a line was written, and the cursor behind it.
+struct Printed {
+    written: bool,
+    cursor: Cursor,
+}
+
+// The records' lines, and then that of the end state.
+pub(crate) fn print_listing(v: &[u8]) {
+    let mut cursor = listing::start(v);
+    while cursor.left > 0 {
+        let printed = print_line(v, cursor);
+        if !printed.written {
+            return;
+        }
+        cursor = printed.cursor;
+    }
+    print_line(v, cursor);
+}
+
+// The next line.
+fn print_line(v: &[u8], cursor: Cursor) -> Printed
+    ensures { λ r. ⌜ positionOf (r .cursor) ≡ step (positionOf cursor) (now (v .entry)) .position ⌝ }
+{
+    let mut out = [0u8; listing::MAX_LINE];
+    let line = listing::next_line(v, cursor, &mut out);
+    let size = line.size;
+    let next = line.cursor;
+    let written = io::write_all(1, &out[..size]);
+    if !written {
+        os::fail(b"list: standard output");
+    }
+    Printed {
+        written,
+        cursor: next,
+    }
+}
+
+// The help, if it is what the first argument asks for; any other argument is wrong.
+pub(crate) fn usage() {
+    let mut word = [0u8; 6];
+    let size = os::arg(1, &mut word);
+    if is_help(&word[..size]) {
+        io::write_all(1, b"usage: list < VOLUME\n");
+        io::write_all(
+            1,
+            b"Prints a line for each record of the volume: name, day, mark, then chance:limit for each chance.\n",
+        );
+        io::write_all(
+            1,
+            b"The last line is the end state: whole or torn with records and committed bytes,\n",
+        );
+        io::write_all(
+            1,
+            b"or, alone, damaged with the fault's number and place.\n",
+        );
+    } else {
+        io::write_all(
+            2,
+            b"list: it takes no argument but --help, and a volume on standard input\n",
+        );
+    }
+}
+
+// Whether a word is `--help`.
+fn is_help(word: &[u8]) -> bool {
+    if word.len() != 6 {
+        return false;
+    }
+    word[0] == 45
+        && word[1] == 45
+        && word[2] == 104
+        && word[3] == 101
+        && word[4] == 108
+        && word[5] == 112
+}

@@ -1,0 +1,33 @@
+-- `all_equal` meets its contract. The invariant is `Comparing`; the measure is the number of times left.
+-- Assumes nothing.
+use native.Mathlib.Omega.{arith}
+use borrow.Author.Needs.{needs}
+use mathlib.Core.Path.{sym, _∙_}
+use Rattle.listing.proofs.Equal.{Comparing, comparing-start, comparing-turn, comparing-differs, comparing-end}
+use Rattle.listing.proofs.mark.all_equal.Statement.{statement}
+use Rattle.listing.proofs.mark.all_equal.Tie as tie
+
+abbrev Inv-loop : tie.InvT-loop
+Inv-loop b at n first p₀ left₀ p left = Comparing b at n first p left
+
+abbrev μ-loop : tie.MeasureT-loop
+μ-loop b at n first p₀ left₀ p left = left
+
+loop-holds : tie.Need-loop-holds Inv-loop μ-loop
+loop-holds c = comparing-start _ _ _ _ (omega arith) (c .number-in .ensures)
+
+returns : tie.Need-returns Inv-loop μ-loop
+returns c =
+    let l = c .before .before .before .loop in
+    sym (comparing-differs _ _ _ _ _ _ (l .inv) _ (omega arith) (c .before .number-in2 .ensures) (c .if1 .taken))
+
+loop-again : tie.Need-loop-again Inv-loop μ-loop
+loop-again c =
+    let l = c .before .before .before .loop in
+    comparing-turn _ _ _ _ _ _ (l .inv) _ (omega arith) (c .before .number-in2 .ensures) (c .if1 .left)
+
+returns-2 : tie.Need-returns-2 Inv-loop μ-loop
+returns-2 c = sym (comparing-end _ _ _ _ _ _ (c .before .loop .inv) (omega arith))
+
+pub all-equal-spec : {M : Type 1} → statement M
+all-equal-spec = tie.close (tie.spec Inv-loop μ-loop (λ c κs. tt) loop-holds (λ c κs. tt) returns (λ c. omega arith) (λ c. omega arith) (λ c. omega arith) loop-again returns-2)

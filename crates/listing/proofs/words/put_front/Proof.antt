@@ -1,0 +1,28 @@
+-- `put_front` puts the name's bytes, a space and the day.
+-- Assumes nothing.
+use mathlib.Core.Path.{_∙_}
+use Prim.Native.Nat.{_+_}
+use mathlib.Core.List.{append-assoc}
+use native.Mathlib.Omega.{arith}
+use native.Mathlib.Nat.{add-sub-cancel-left}
+use borrow.Author.Needs.{needs}
+use denote.Ref.{now}
+use Rattle.listing.specs.Spans.{numbersOf}
+use Rattle.journal.proofs.NumbersIn.{number-stands}
+use Rattle.listing.proofs.Putting.{put-put, put-as}
+use Rattle.listing.proofs.Texts.{bytes-in}
+use Rattle.listing.proofs.words.put_front.Statement.{statement}
+use Rattle.listing.proofs.words.put_front.Tie as tie
+
+returns : tie.Need-returns
+unfolding numbersOf
+returns c =
+    let a = c .before .before .before .before .before .before .before .before .before .before .before .before .before .before .before .before .before .before .args in
+    let name = bytes-in (a .name .count) (a .name .first) (now (a .b)) (omega arith) in
+    let day = c .before .before .before .before .number-in .ensures ∙ number-stands 2 (a .at + 2) (now (a .b)) (omega arith) (omega arith) in
+    let first = put-put _ _ _ _ _ _ _ _ (c .before .before .before .before .before .before .before .before .before .before .before .before .put .ensures) (c .before .before .before .before .before .before .before .put2 .ensures) in
+    put-as _ _ _ _ _ _ (rw (name, ← day, append-assoc) (rw (add-sub-cancel-left (a .name .first) (a .name .count))))
+    (put-put _ _ _ _ _ _ _ _ first (c .before .before .put-decimal .ensures))
+
+pub put-front-spec : {M : Type 1} → statement M
+put-front-spec = tie.close (tie.spec (λ c. search needs) (λ c. search needs) (λ c. search needs) (λ c. search needs) (λ c κs. search needs) (λ c. search needs) (λ c κs. search needs) (λ c. search needs) (λ c κs. search needs) (λ c κs. search needs) (λ c. search needs) returns)

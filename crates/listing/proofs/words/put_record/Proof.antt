@@ -1,0 +1,38 @@
+-- `put_record` puts the parts of a record's line one behind another; its sections stand inside the bytes.
+-- Assumes nothing.
+use borrow.Author.Needs.{needs}
+use denote.Ref.{now}
+use Rattle.listing.specs.Spans.{recordIn}
+use Rattle.listing.proofs.Putting.{put-put, put-as}
+use Rattle.listing.proofs.Texts.{record-line}
+use Rattle.listing.proofs.Insides.{standing}
+use Rattle.listing.proofs.words.put_record.Statement.{statement}
+use Rattle.listing.proofs.words.put_record.Tie as tie
+
+put-front-requires : tie.Need-put-front-requires
+put-front-requires c κs =
+    let s = c .before .before .before in
+    let k = standing (s .args .at) (s .args .s) (now (s .args .b)) (s .pre .0) (s .pre .1) in
+    (k .head, k .name)
+
+put-mark-requires : tie.Need-put-mark-requires
+put-mark-requires c κs =
+    let s = c .before .before .before .before .before .before .before in
+    standing (s .args .at) (s .args .s) (now (s .args .b)) (s .pre .0) (s .pre .1) .times
+
+put-limits-requires : tie.Need-put-limits-requires
+put-limits-requires c κs =
+    let s = c .before .before .before .before .before .before .before .before .before .before .before in
+    let k = standing (s .args .at) (s .args .s) (now (s .args .b)) (s .pre .0) (s .pre .1) in
+    (k .chances, k .limits)
+
+returns : tie.Need-returns
+unfolding recordIn
+returns c =
+    let a = c .before .before .before .before .before .before .before .before .before .before .before .before .before .before .before .before .before .before .before .args in
+    let first = put-put _ _ _ _ _ _ _ _ (c .before .before .before .before .before .before .before .before .before .before .before .before .before .before .before .put-front .ensures) (c .before .before .before .before .before .before .before .before .before .before .before .put-mark .ensures) in
+    let second = put-put _ _ _ _ _ _ _ _ first (c .before .before .before .before .before .before .before .put-limits .ensures) in
+    put-as _ _ _ _ _ _ (record-line (recordIn (a .at) (a .s) (now (a .b)))) (put-put _ _ _ _ _ _ _ _ second (c .before .before .put .ensures))
+
+pub put-record-spec : {M : Type 1} → statement M
+put-record-spec = tie.close (tie.spec put-front-requires put-mark-requires put-limits-requires (λ c. search needs) (λ c κs. search needs) (λ c. search needs) returns)

@@ -1,0 +1,73 @@
+// Numbers and pairs put into a lent buffer, one behind another. What has no room is left out, as in crate hex.
+// Each answers the place behind what it put.
+ghost use mathlib.Core.Path.{_≡_};
+ghost use mathlib.Core.List.{_∷_};
+ghost use Prim.Native.Nat.{_+_, _*_, _≤_, min};
+ghost use lib.ListN.{length};
+ghost use Rattle.hex.specs.Hex.{decimalDigits};
+ghost use Rattle.hex.specs.Text.{Put};
+ghost use Rattle.listing.specs.Listing.{space, quotedLimit, quotedLimits};
+ghost use Rattle.listing.specs.Spaced.{eachSpaced};
+ghost use Rattle.listing.specs.Spans.{Inside, numbersOf, numbersIn};
+use crate::spans::Span;
+use hex::put;
+use journal::number_in;
+
+// A number in decimal.
+pub(crate) fn put_decimal(out: &mut [u8], at: usize, n: u64) -> usize
+    ensures { λ r. ⌜ Put (now (out .entry)) at (decimalDigits n) (now (out .exit)) r ⌝ }
+{
+    let d = hex::decimal_of(n);
+    let digits = d.digits;
+    let count = d.count;
+    put(out, at, &digits[..count])
+}
+
+// A space and `chance:limit`.
+fn put_limit(out: &mut [u8], at: usize, chance: u64, limit: u64) -> usize
+    ensures { λ r. ⌜ Put (now (out .entry)) at (space ∷ quotedLimit chance limit) (now (out .exit)) r ⌝ }
+{
+    let p = put(out, at, b" ");
+    let q = put_decimal(out, p, chance);
+    let r = put(out, q, b":");
+    let digits = hex::hex_of(limit);
+    put(out, r, &digits)
+}
+
+// Each chance with its limit, a space before each pair.
+pub(crate) fn put_limits(b: &[u8], chances: Span, limits: Span, out: &mut [u8], at: usize) -> usize
+    requires { ⌜ Inside 4 chances (now b) × Inside 8 limits (now b) ⌝ }
+    ensures { λ r. ⌜ Put (now (out .entry)) at
+        (eachSpaced (quotedLimits (numbersOf 4 chances (now (b .entry))) (numbersOf 8 limits (now (b .entry))))) (now (out .exit)) r ⌝ }
+{
+    let pairs = fewer(chances.count, limits.count);
+    put_pairs(b, chances.first, limits.first, pairs, out, at)
+}
+
+// The smaller of two numbers.
+fn fewer(n: usize, m: usize) -> usize
+    ensures { λ r. ⌜ r ≡ min n m ⌝ }
+{
+    if n < m { n } else { m }
+}
+
+// The pairs of n chances and n limits, each from a place on.
+fn put_pairs(b: &[u8], chances: usize, limits: usize, n: usize, out: &mut [u8], at: usize) -> usize
+    requires { ⌜ (chances + n * 4 ≤ length (now b)) × (limits + n * 8 ≤ length (now b)) ⌝ }
+    ensures { λ r. ⌜ Put (now (out .entry)) at
+        (eachSpaced (quotedLimits (numbersIn 4 n chances (now (b .entry))) (numbersIn 8 n limits (now (b .entry))))) (now (out .exit)) r ⌝ }
+{
+    let mut place = at;
+    let mut chance = chances;
+    let mut limit = limits;
+    let mut left = n;
+    while 0 < left {
+        let c = number_in(b, chance, 4);
+        let l = number_in(b, limit, 8);
+        place = put_limit(out, place, c, l);
+        chance += 4;
+        limit += 8;
+        left -= 1;
+    }
+    place
+}

@@ -1,0 +1,99 @@
+// The two kinds of lines: a record's, from the places of its sections, and that of the end state.
+// Both are put at the front of a lent buffer and answer how many bytes they take.
+ghost use mathlib.Core.Path.{_≡_};
+ghost use mathlib.Core.Bool.{true};
+ghost use mathlib.Core.List.{[], _∷_, _++_};
+ghost use Prim.Native.Nat.{_+_, _≤_};
+ghost use lib.ListN.{length};
+ghost use Rattle.hex.specs.Hex.{decimalDigits};
+ghost use Rattle.hex.specs.Text.{Put};
+ghost use Rattle.journal.specs.Answers.{meaning};
+ghost use Rattle.journal_spec.specs.Bytes.{numberAt};
+ghost use Rattle.journal_spec.specs.Read.{letterOf, markOf};
+ghost use Rattle.listing.specs.Listing.{space, newline, lineOf, quotedLimits, recordLine, stateLine};
+ghost use Rattle.listing.specs.Spaced.{eachSpaced};
+ghost use Rattle.listing.specs.Spans.{Inside, numbersOf, recordIn, spansAt};
+use crate::mark::letter;
+use crate::spans::Span;
+use crate::spans::Spans;
+use crate::text::put_decimal;
+use crate::text::put_limits;
+use hex::put;
+use journal::Status;
+use journal::number_in;
+
+// The line of the record at a place, whose sections stand.
+pub(crate) fn put_record(b: &[u8], at: usize, s: Spans, out: &mut [u8]) -> usize
+    requires { ⌜ (s ≡ spansAt at (now b)) × (s .limits .stands ≡ true) ⌝ }
+    ensures { λ r. ⌜ Put (now (out .entry)) 0 (recordLine (recordIn at s (now (b .entry)))) (now (out .exit)) r ⌝ }
+{
+    let p = put_front(b, at, s.name, out);
+    let q = put_mark(b, s.times, out, p);
+    let r = put_limits(b, s.chances, s.limits, out, q);
+    put(out, r, b"\n")
+}
+
+// The name, a space and the day.
+fn put_front(b: &[u8], at: usize, name: Span, out: &mut [u8]) -> usize
+    requires { ⌜ (at + 4 ≤ length (now b)) × Inside 1 name (now b) ⌝ }
+    ensures { λ r. ⌜ Put (now (out .entry)) 0
+        (numbersOf 1 name (now (b .entry)) ++ (space ∷ decimalDigits (numberAt 2 (at + 2) (now (b .entry))))) (now (out .exit)) r ⌝ }
+{
+    let first = name.first;
+    let end = first + name.count;
+    let p = put(out, 0, &b[first..end]);
+    let q = put(out, p, b" ");
+    let day = number_in(b, at + 2, 2);
+    put_decimal(out, q, day)
+}
+
+// A space and the mark's letter.
+fn put_mark(b: &[u8], times: Span, out: &mut [u8], at: usize) -> usize
+    requires { ⌜ Inside 4 times (now b) ⌝ }
+    ensures { λ r. ⌜ Put (now (out .entry)) at
+        (space ∷ letterOf (markOf (numbersOf 4 times (now (b .entry)))) ∷ []) (now (out .exit)) r ⌝ }
+{
+    let mark = [letter(b, times); 1];
+    let p = put(out, at, b" ");
+    put(out, p, &mark)
+}
+
+// The line of the end state.
+pub(crate) fn put_state(status: Status, out: &mut [u8]) -> usize
+    ensures { λ r. ⌜ Put (now (out .entry)) 0 (stateLine (meaning status)) (now (out .exit)) r ⌝ }
+{
+    match status {
+        Status::Whole { records, committed } => put_words(
+            out,
+            b"whole",
+            records as u64,
+            committed as u64,
+        ),
+        Status::Torn { records, committed } => put_words(
+            out,
+            b"torn",
+            records as u64,
+            committed as u64,
+        ),
+        Status::Damaged(f) => put_words(out, b"damaged", f.number as u64, f.place as u64),
+    }
+}
+
+// A word and two numbers, as a line.
+fn put_words(out: &mut [u8], word: &[u8], n: u64, m: u64) -> usize
+    ensures { λ r. ⌜ Put (now (out .entry)) 0
+        (lineOf (now (word .entry) ∷ decimalDigits n ∷ decimalDigits m ∷ [])) (now (out .exit)) r ⌝ }
+{
+    let p = put(out, 0, word);
+    let q = put_number(out, p, n);
+    let r = put_number(out, q, m);
+    put(out, r, b"\n")
+}
+
+// A space and a number.
+fn put_number(out: &mut [u8], at: usize, n: u64) -> usize
+    ensures { λ r. ⌜ Put (now (out .entry)) at (space ∷ decimalDigits n) (now (out .exit)) r ⌝ }
+{
+    let p = put(out, at, b" ");
+    put_decimal(out, p, n)
+}
