@@ -1,3 +1,3 @@
 -- What the program needs of the listing.
 -- Assumes nothing.
-pub mod State
+pub mod EndState

@@ -8,11 +8,11 @@ use Rattle.survey.proofs.output.print_state.Statement.{statement}
 use Rattle.survey.proofs.output.print_state.Tie as tie
 
 array-share-prefix-out : tie.Need-array-share-prefix-out
-array-share-prefix-out c = put-inside _ _ _ _ (c .state-line .ensures)
+array-share-prefix-out c = put-inside _ _ _ _ (c .before .state-line .ensures)
 
 slice-aggregate-write-all : tie.Need-slice-aggregate-write-all
 slice-aggregate-write-all c =
-    let line = c .before .state-line in
+    let line = c .before .before .state-line in
     sym (length-take-le (line .result) _ (put-inside _ _ _ _ (line .ensures)))
 
 pub print-state-spec : {M : Type 1} → statement M
