@@ -1,0 +1,78 @@
+-- Texts gone over a byte at a time: one turn of each loop, and what its end answers.
+-- Assumes nothing.
+use mathlib.Core.Path.{_≡_, refl, sym, ap, _∙_}
+use Prim.Native.Nat.{ℕ, zero, suc, _+_, _≤_, _<_}
+use mathlib.Core.Bool.{Bool, true, false, cond}
+use mathlib.Core.List.{List, [], _∷_}
+use native.Mathlib.Numerals.{add-one}
+use native.Mathlib.Omega.{arith}
+use borrow.Author.Tests.{eq-eqb, ne-eqb}
+use lib.Dec.{eqb}
+use lib.ListN.{length, getD, drop}
+use lib.Seq.{drop-cons, drop-length}
+use Rattle.arguments.specs.Arguments.{same, digitAfter, numberFrom, readNumber}
+use Rattle.arguments.specs.Numbers.{Read, turnOf, readFrom}
+use Rattle.arguments.specs.declared.digit.Number.{Number}
+use Rattle.arguments.specs.declared.digit.Number.the-variants as N
+
+-- ---- two texts
+
+pub same-next : (a b : List ℕ) (i : ℕ) → i < length a → i < length b → getD a i 0 ≡ getD b i 0
+    → same (drop i a) (drop i b) ≡ same (drop (i + 1) a) (drop (i + 1) b)
+unfolding same
+same-next a b i ha hb e = rw (drop-cons a i 0 ha, drop-cons b i 0 hb, eq-eqb (getD a i 0) (getD b i 0) e, add-one)
+
+pub same-differs : (a b : List ℕ) (i : ℕ) → i < length a → i < length b → (getD a i 0 ≡ getD b i 0 → ⊥)
+    → same (drop i a) (drop i b) ≡ false
+unfolding same
+same-differs a b i ha hb e = rw (drop-cons a i 0 ha, drop-cons b i 0 hb, ne-eqb (getD a i 0) (getD b i 0) e)
+
+pub same-ends : (a b : List ℕ) (i : ℕ) → i ≡ length a → length a ≡ length b → same (drop i a) (drop i b) ≡ true
+unfolding same
+same-ends a b i e f =
+    let da : drop i a ≡ [] = ap (λ (k : ℕ). drop k a) e ∙ drop-length a in
+    let db : drop i b ≡ [] = ap (λ (k : ℕ). drop k b) (e ∙ f) ∙ drop-length b in
+    rw (da, db)
+
+cond-false : (t : Bool) → cond t false false ≡ false
+cond-false true = refl
+cond-false false = refl
+
+pub same-lengths : (a b : List ℕ) → (length a ≡ length b → ⊥) → same a b ≡ false
+unfolding same
+same-lengths [] [] h = absurd (h refl)
+same-lengths [] (y ∷ ys) h = refl
+same-lengths (x ∷ xs) [] h = refl
+same-lengths (x ∷ xs) (y ∷ ys) h = rw (same-lengths xs ys (λ e. h (ap suc e))) (cond-false (eqb x y))
+
+-- ---- one number
+
+pub number-next : (most : ℕ) (r : Number) (text : List ℕ) (i : ℕ) → i < length text
+    → numberFrom most r (drop i text) ≡ numberFrom most (digitAfter most r (getD text i 0)) (drop (i + 1) text)
+unfolding numberFrom
+number-next most r text i h = rw (drop-cons text i 0 h, add-one)
+
+pub number-ends : (most : ℕ) (r : Number) (text : List ℕ) (i : ℕ) → i ≡ length text → numberFrom most r (drop i text) ≡ r
+unfolding numberFrom
+number-ends most r text i e = let none : drop i text ≡ [] = ap (λ (k : ℕ). drop k text) e ∙ drop-length text in rw none
+
+pub number-empty : (most : ℕ) (text : List ℕ) → length text ≡ 0 → readNumber most text ≡ N.Nothing
+unfolding readNumber
+number-empty most [] e = refl
+number-empty most (c ∷ cs) e = absurd (omega arith)
+
+pub number-starts : (most : ℕ) (text : List ℕ) → (length text ≡ 0 → ⊥) → readNumber most text ≡ numberFrom most (N.Value 0) text
+unfolding readNumber
+number-starts most [] h = absurd (h refl)
+number-starts most (c ∷ cs) h = refl
+
+-- ---- numbers separated by white space
+
+pub read-next : (most : ℕ) (a : Read) (text : List ℕ) (i : ℕ) → i < length text
+    → readFrom most a (drop i text) ≡ readFrom most (turnOf most a (getD text i 0)) (drop (i + 1) text)
+unfolding readFrom
+read-next most a text i h = rw (drop-cons text i 0 h, add-one)
+
+pub read-ends : (most : ℕ) (a : Read) (text : List ℕ) (i : ℕ) → i ≡ length text → readFrom most a (drop i text) ≡ a
+unfolding readFrom
+read-ends most a text i e = let none : drop i text ≡ [] = ap (λ (k : ℕ). drop k text) e ∙ drop-length text in rw none

@@ -1,0 +1,13 @@
+-- `is_help` compares the word with `--help`.
+-- Assumes nothing.
+use borrow.Author.Needs.{needs}
+use Rattle.arguments.specs.Arguments.{wordHelp, isHelp}
+use Rattle.arguments.proofs.help.is_help.Statement.{statement}
+use Rattle.arguments.proofs.help.is_help.Tie as tie
+
+returns : tie.Need-returns
+unfolding isHelp wordHelp
+returns c = c .same-bytes .ensures
+
+pub is-help-spec : {M : Type 1} → statement M
+is-help-spec = tie.close (tie.spec (λ c. search needs) (λ c κs. search needs) returns)

@@ -1,0 +1,32 @@
+-- `turn` ends a word at white space, and else goes on with it.
+-- Assumes nothing.
+use mathlib.Core.Path.{_≡_, refl, sym, ap, _∙_}
+use borrow.Author.Needs.{needs}
+use Rattle.arguments.specs.Arguments.{digitAfter}
+use Rattle.arguments.specs.declared.digit.Number.{Number}
+use Rattle.arguments.proofs.Storing.{turn-space, turn-other}
+use Rattle.arguments.proofs.numbers.turn.Statement.{statement}
+use Rattle.arguments.proofs.numbers.turn.Tie as tie
+
+returns : tie.Need-returns
+returns c =
+    let test = c .before .before .before .before in
+    λ d a h. rw (turn-space _ a _ (sym (test .before .is-space .ensures) ∙ test .if1 .taken)) (c .before .before .closed .ensures d a h)
+
+returns-2 : tie.Need-returns-2
+returns-2 c =
+    let test = c .before in
+    let args = test .before .before .before .args in
+    λ d a h. rw (turn-other _ a _ (sym (test .before .is-space .ensures) ∙ test .if1 .left))
+    (record { stored = h .stored; inside = refl; pending = c .digit-after .ensures ∙ ap (λ (r : Number). digitAfter (args .most) r (args .c)) (h .pending) })
+
+pub turn-spec : {M : Type 1} → statement M
+turn-spec =
+    tie.close
+    (tie.spec
+    (λ c κs. search needs)
+    (λ c κs. search needs)
+    (λ c. search needs)
+    returns
+    (λ c κs. search needs)
+    returns-2)

@@ -1,0 +1,15 @@
+// What the programs read: the word `--help`, a decimal number, decimal numbers separated by white space, and a journal's bytes.
+// No public function has a `requires`.
+mod digit;
+mod help;
+mod input;
+mod number;
+mod numbers;
+
+pub use digit::Number;
+pub use help::is_help;
+pub use input::journal_is_read;
+pub use input::journal_room;
+pub use number::read_number;
+pub use numbers::Reading;
+pub use numbers::read_numbers;

@@ -1,0 +1,3 @@
+-- What the program needs of the listing.
+-- Assumes nothing.
+pub mod EndState

@@ -1,0 +1,25 @@
+// The line of the end state, without the records' lines: a listing of which no record is left.
+// The journal is scanned once.
+ghost use mathlib.Core.Path.{_≡_};
+ghost use Prim.Native.Nat.{_≤_};
+ghost use lib.ListN.{length, take};
+ghost use Rattle.hex.specs.Text.{Put};
+ghost use Rattle.journal_spec.specs.Scan.{scanOf};
+ghost use Rattle.listing.specs.Listing.{stateLine};
+use listing::Cursor;
+
+// Writes the line to the front of the buffer, and answers how many bytes it takes there.
+pub fn state_line(v: &[u8], out: &mut [u8]) -> usize
+    ensures { λ r. ⌜ Put (now (out .entry)) 0 (stateLine (scanOf (now (v .entry)) (length (now (v .entry))))) (now (out .exit)) r ⌝ }
+{
+    let start = listing::start(v);
+    let status = start.status;
+    let cursor = Cursor {
+        at: 0,
+        left: 0,
+        ended: false,
+        status,
+    };
+    let line = listing::next_line(v, cursor, out);
+    line.size
+}
