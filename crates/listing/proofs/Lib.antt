@@ -12,5 +12,6 @@ pub mod Steps
 pub mod LinesJoined
 pub mod Longest
 pub mod Faults
+pub mod LinesFit
 pub mod Falling
 pub mod Examples

@@ -29,7 +29,7 @@ unfolding recordReader plain then
 plain-same last other = refl
 
 -- a record that nothing refuses is found again behind any bytes
-record-there : (last : Last) (r : Record) (pre post : List ℕ) → Good last r
+pub record-there : (last : Last) (r : Record) (pre post : List ℕ) → Good last r
     → recordAt (length pre) (pre ++ (recordBytes r ++ post)) ≡ found r (length pre + length (recordBytes r)) post
 unfolding recordAt
 record-there last r pre post good =
@@ -87,7 +87,7 @@ lines-left (r ∷ rs) earlier pre tail b state (suc k) f e h =
 -- ---- the theorem
 
 -- how many records are listed, by what the journal holds
-listed-standing : (len : ℕ) (ps : List Placed) (committed : ℕ) → listedOf (statusOf len (standing ps committed)) ≡ length ps
+pub listed-standing : (len : ℕ) (ps : List Placed) (committed : ℕ) → listedOf (statusOf len (standing ps committed)) ≡ length ps
 unfolding statusOf listedOf
 listed-standing len ps committed = go (eqb committed len)
   where
