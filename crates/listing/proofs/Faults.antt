@@ -5,12 +5,11 @@ use Prim.Native.Nat.{ℕ, zero, suc, _+_, _-_, _^_, _≤_, _<_, min}
 use mathlib.Core.List.{List, [], _∷_, _++_}
 use mathlib.Core.Bool.{Bool, true, false, cond}
 use native.Mathlib.Omega.{arith}
-use lib.ListN.{length, take, drop, length-take, length-drop, length-append}
+use lib.ListN.{length, take, drop, length-drop, length-append}
 use lib.Seq.{take-length}
 use lib.Dec.{leb, eqb}
 use borrow.Author.Tests.{leb-true, leb-false}
 use Rattle.limit.specs.Answer.{LimitResult, limited, refused}
-use Rattle.limit.specs.Limit.{limitOf}
 use Rattle.journal_spec.specs.Bytes.{valueOf, AreBytes}
 use Rattle.journal_spec.specs.Refusals.{unless, outside}
 use Rattle.journal_spec.specs.Reader.{Reader, done, field, Found, found, fault, short, run, then}

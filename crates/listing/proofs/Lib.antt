@@ -1,16 +1,24 @@
--- The laws of the listing a line at a time, and worked examples of its text.
--- Assumes nothing.
-pub mod Putting
+-- The laws of the listing a line at a time, one idea to a file, in the order in which they build on each other, and worked examples of its text.
+-- `LinesJoined` has the theorem that the lines are the listing, `LinesFit` that each fits the buffer.
+
+-- a record found again without judging it
 pub mod Plainly
 pub mod Reached
 pub mod Insides
 pub mod Rooms
+-- texts put one behind another
+pub mod Putting
 pub mod Texts
 pub mod Pairs
 pub mod Equal
+-- the calls
 pub mod Steps
+pub mod Falling
+-- the theorems
+pub mod Starting
 pub mod LinesJoined
 pub mod Longest
 pub mod Faults
-pub mod Falling
+pub mod LinesFit
+-- examples
 pub mod Examples

@@ -1,11 +1,11 @@
 -- How long a line is: that of a record in document 01's ranges takes at most `maxLine` bytes, and so does that of an end state whose numbers have
 -- at most 20 digits, as those of a u64 do. A buffer of `maxLine` bytes holds every line of a listing. Assumes nothing.
-use mathlib.Core.Path.{_≡_, refl, sym, ap, _∙_}
+use mathlib.Core.Path.{_≡_, refl}
 use Prim.Native.Nat.{ℕ, zero, suc, _+_, _*_, _^_, _≤_, _<_}
 use mathlib.Core.List.{List, [], _∷_, _++_}
 use native.Mathlib.Omega.{arith}
-use native.Mathlib.Nat.{pow-le-pow-right, one-le-pow}
-use lib.ListN.{length, getD, length-append}
+use native.Mathlib.Nat.{pow-le-pow-right}
+use lib.ListN.{length, length-append}
 use Rattle.hex.specs.Hex.{placesIn, placesOf, decimalDigits, digits}
 use Rattle.hex.proofs.Cases.{split}
 use Rattle.hex.proofs.Writing.{length-digits}
@@ -14,7 +14,7 @@ use Rattle.journal_spec.specs.Record.{Record, Last}
 use Rattle.journal_spec.specs.Read.{letterOf, markOf}
 use Rattle.journal_spec.specs.Ranges.{Each, RecordRanges}
 use Rattle.journal_spec.specs.Scan.{ScanResult, whole, torn, damaged}
-use Rattle.listing.specs.Listing.{space, newline, spaced, lineOf, quotedLimit, quotedLimits, wordWhole, wordTorn, wordDamaged, recordLine, stateLine}
+use Rattle.listing.specs.Listing.{space, lineOf, quotedLimit, quotedLimits, wordWhole, wordTorn, wordDamaged, recordLine, stateLine}
 use Rattle.listing.specs.Spaced.{eachSpaced}
 use Rattle.listing.specs.Lines.{maxLine}
 use Rattle.listing.proofs.Texts.{record-line, words-line}

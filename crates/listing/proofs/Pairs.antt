@@ -1,8 +1,8 @@
 -- What the loop over the pairs of chances and limits keeps: whoever puts the pairs that are left has put them all.
 -- Assumes nothing.
-use mathlib.Core.Path.{_≡_, refl, sym, ap, _∙_}
+use mathlib.Core.Path.{_≡_, refl, _∙_}
 use Prim.Native.Nat.{ℕ, zero, suc, _+_, _*_, _-_, _≤_, _<_}
-use mathlib.Core.List.{List, [], _∷_, _++_}
+use mathlib.Core.List.{List, _∷_, _++_}
 use native.Mathlib.Omega.{arith}
 use lib.ListN.{length}
 use Rattle.hex.specs.Text.{Put}
@@ -12,7 +12,7 @@ use Rattle.journal.proofs.NumbersIn.{number-stands}
 use Rattle.listing.specs.Listing.{space, quotedLimit, quotedLimits}
 use Rattle.listing.specs.Spaced.{eachSpaced}
 use Rattle.listing.specs.Spans.{numbersIn}
-use Rattle.listing.proofs.Putting.{put-nothing, put-put, put-as}
+use Rattle.listing.proofs.Putting.{put-nothing, put-put}
 
 -- n pairs, each behind a space
 abbrev pub pairsText : List ℕ → ℕ → ℕ → ℕ → List ℕ

@@ -4,13 +4,13 @@ use mathlib.Core.Path.{_≡_, refl, sym, ap, _∙_}
 use Prim.Native.Nat.{ℕ, zero, suc, _+_, _*_, _-_, _≤_, _<_}
 use mathlib.Core.List.{List, [], _∷_, _++_, append-nil}
 use native.Mathlib.Omega.{arith}
-use native.Mathlib.Nat.{suc-mul, zero-mul, add-zero, add-assoc}
+use native.Mathlib.Nat.{suc-mul, zero-mul, add-zero}
 use lib.ListN.{length, take, drop}
 use lib.Seq.{append-snoc}
 use Rattle.journal_spec.specs.Bytes.{valueOf, numberAt}
 use Rattle.journal_spec.specs.Reader.{Reader, done, field, found, short, run, then}
 use Rattle.journal_spec.specs.Section.{Section, items, section}
-use Rattle.journal_spec.proofs.Reading.{field-short, field-good, field-cases, field-found, after, by-order}
+use Rattle.journal_spec.proofs.Reading.{field-short, field-good, field-found, after, by-order}
 use Rattle.journal_spec.proofs.FieldAt.{at-short, at-good}
 use Rattle.listing.specs.Plain.{plain}
 use Rattle.listing.specs.Spans.{numbersIn}

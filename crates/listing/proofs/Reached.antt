@@ -6,18 +6,17 @@ use mathlib.Core.List.{List, []}
 use mathlib.Core.Bool.{Bool, true, false}
 use native.Mathlib.Omega.{arith}
 use lib.ListN.{length, drop}
-use lib.Dec.{leb}
 use borrow.Author.Tests.{le-leb, lt-leb}
 use Rattle.journal_spec.specs.Bytes.{numberAt}
 use Rattle.journal_spec.specs.Reader.{Reader, done, field, found, short, run, then}
 use Rattle.journal_spec.specs.Section.{Section, section}
-use Rattle.journal_spec.specs.Record.{Record, lastOf, judgeForm, judgeDay, nameSection, chanceSection, timeSection, limitSection, recordReader}
+use Rattle.journal_spec.specs.Record.{Record, lastOf, judgeForm, nameSection, chanceSection, timeSection, limitSection}
 use Rattle.journal_spec.specs.Stages.{dayStage, nameStage, chanceStage, timeStage, limitStage}
 use Rattle.journal_spec.proofs.Reading.{by-order, after}
 use Rattle.journal_spec.proofs.FieldAt.{at-short, at-good}
 use Rattle.journal_spec.proofs.Records.{by-stages}
 use Rattle.listing.specs.Plain.{plain, recordAt}
-use Rattle.listing.specs.Spans.{numbersIn, noSpan, headAt, spanAt, spanAfter, spansAt, numbersOf, recordIn}
+use Rattle.listing.specs.Spans.{noSpan, headAt, spanAt, spanAfter, spansAt, numbersOf, recordIn}
 use Rattle.listing.specs.declared.spans.Span.{Span}
 use Rattle.listing.proofs.Plainly.{plain-then, section-stands, section-short}
 

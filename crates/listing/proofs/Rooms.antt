@@ -1,9 +1,9 @@
 -- Whether n numbers of w bytes have room behind a count, by the quotient that the code compares with n.
 -- Assumes nothing.
 use mathlib.Core.Path.{_≡_}
-use Prim.Native.Nat.{ℕ, _+_, _*_, _-_, _/_, _%_, _≤_, _<_}
+use Prim.Native.Nat.{ℕ, _+_, _*_, _-_, _/_, _≤_, _<_}
 use native.Mathlib.Omega.{arith}
-use native.Mathlib.Nat.{div-add-mod, mod-lt, mul-le-mul-left, mul-le-mul-right, mul-comm, suc-mul}
+use native.Mathlib.Nat.{div-add-mod, mod-lt, mul-le-mul-right, mul-comm, suc-mul}
 
 -- the bytes up to `size` hold a count at `at` and n numbers behind it
 pub room-holds : (size at n w : ℕ) → 0 < w → at + 2 ≤ size → n ≤ (size - 2 - at) / w → at + 2 + n * w ≤ size

@@ -1,19 +1,17 @@
 -- What a call of `next_line` writes and answers, by the way it goes: no line, the end state's, or a record's.
 -- Assumes nothing.
-use mathlib.Core.Path.{_≡_, refl, sym, ap, _∙_}
+use mathlib.Core.Path.{_≡_, refl, ap, _∙_}
 use Prim.Native.Nat.{ℕ, zero, suc, _-_, _<_}
-use mathlib.Core.List.{List, []}
+use mathlib.Core.List.{List}
 use mathlib.Core.Bool.{Bool, true, false, cond}
 use native.Mathlib.Omega.{arith}
-use Rattle.hex.specs.Text.{Put}
 use Rattle.journal.specs.Answers.{meaning}
 use Rattle.listing.specs.Listing.{recordLine, stateLine}
 use Rattle.listing.specs.Plain.{recordAt}
 use Rattle.listing.specs.Spans.{spansAt, recordIn}
-use Rattle.listing.specs.Lines.{Position, positionOf, Step, endOf, noLine, recordStep, stepBy, step, Writes}
+use Rattle.listing.specs.Lines.{Position, positionOf, endOf, noLine, recordStep, stepBy, step, Writes}
 use Rattle.listing.specs.declared.spans.Spans.{Spans}
 use Rattle.listing.specs.declared.Cursor.{Cursor}
-use Rattle.listing.specs.declared.Line.{Line}
 use Rattle.listing.proofs.Putting.{put-nothing}
 use Rattle.listing.proofs.Reached.{record-stands, record-short}
 

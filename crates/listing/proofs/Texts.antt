@@ -1,13 +1,13 @@
 -- Parts of lines as the code puts them one behind another, and the lines of the definition that they make up.
 -- Assumes nothing.
 use mathlib.Core.Path.{_≡_, refl, sym, ap, _∙_}
-use Prim.Native.Nat.{ℕ, zero, suc, _+_, _*_, _-_, _≤_, _<_, min}
+use Prim.Native.Nat.{ℕ, zero, suc, _+_, _*_, _-_, _≤_, min}
 use mathlib.Core.List.{List, [], _∷_, _++_, append-assoc, append-nil}
 use native.Mathlib.Omega.{arith}
 use native.Mathlib.Nat.{zero-min, min-zero, suc-min-suc}
 use native.Mathlib.Numerals.{add-one}
-use lib.ListN.{length, take, drop, getD, replicate, length-drop}
-use lib.Seq.{take-at, drop-cons, drop-drop}
+use lib.ListN.{length, take, drop, getD, replicate}
+use lib.Seq.{take-at, drop-cons}
 use Rattle.hex.specs.Hex.{placesOf, decimalDigits, decimalOf}
 use Rattle.hex.specs.declared.write.Decimal.{Decimal}
 use Rattle.hex.proofs.Writing.{length-digits}

@@ -1,7 +1,7 @@
 -- The listing a line at a time: where a listing stands after some of its lines, and what the next call writes and answers.
 -- Defined for every position, also for those that no listing comes to.
 use mathlib.Core.Path.{_≡_}
-use Prim.Native.Nat.{ℕ, zero, suc}
+use Prim.Native.Nat.{ℕ, zero, suc, _≤_}
 use mathlib.Core.List.{List, [], _∷_, _++_}
 use mathlib.Core.Bool.{Bool, true, false, cond}
 use lib.ListN.{length}
@@ -82,6 +82,11 @@ linesFrom (suc more) p b = onward (step p b .text) (linesFrom more (step p b .po
 -- the longest line: a name of 32 bytes, a day of 5 digits, the mark, 8 pairs of a chance of 6 digits and a limit of 16, and what separates them
 abbrev pub maxLine : ℕ
 maxLine = 233
+
+-- each line of so many calls from a position on has at most `most` bytes
+abbrev pub LinesWithin : ℕ → ℕ → Position → List ℕ → Type 0
+LinesWithin most zero p b = Unit {0}
+LinesWithin most (suc more) p b = (length (step p b .text) ≤ most) × LinesWithin most more (step p b .position) b
 
 -- What a call does that writes a line into a lent buffer: the line stands from its start on, as much of it as there is room for, and no other
 -- byte is changed; answered are the number of bytes written and the position behind the line.

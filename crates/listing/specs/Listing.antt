@@ -2,13 +2,11 @@
 -- Numbers are decimal, limits 16 lowercase hexadecimal digits; single spaces stand between words, and byte 0a ends each line.
 use Prim.Native.Nat.{ℕ}
 use mathlib.Core.List.{List, [], _∷_, _++_, map}
-use mathlib.Core.Bool.{cond}
 use lib.ListN.{length}
-use lib.Dec.{eqb}
 use Rattle.hex.specs.Hex.{hexDigits, decimalDigits}
 use Rattle.journal_spec.specs.Bytes.{joined}
 use Rattle.journal_spec.specs.Record.{Record}
-use Rattle.journal_spec.specs.Scan.{Placed, recordsOf, Contents, standing, faulty, contentsOf, ScanResult, whole, torn, damaged, statusOf}
+use Rattle.journal_spec.specs.Scan.{recordsOf, Contents, standing, faulty, contentsOf, ScanResult, whole, torn, damaged, statusOf}
 use Rattle.journal_spec.specs.Read.{letterOf, markOf}
 
 -- A space, and the byte that ends a line.

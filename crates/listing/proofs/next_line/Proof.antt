@@ -16,8 +16,10 @@ returns c =
 
 returns-2 : tie.Need-returns-2
 returns-2 c =
-    let a = c .before .before .before .before .before .before .before .before .before .before .args in
-    rw (step-state (a .cursor) (now (a .v)) (c .before .before .before .before .before .before .before .if1 .left) (c .before .before .before .before .before .if2 .taken))
+    let none = c .before .before .before .before .before in
+    let on = none .before .before in
+    let a = on .before .before .before .args in
+    rw (step-state (a .cursor) (now (a .v)) (on .if1 .left) (none .if2 .taken))
     (record { bytes = c .before .before .before .put-state .ensures; position = c .at-end2 .ensures })
 
 returns-3 : tie.Need-returns-3
@@ -27,4 +29,15 @@ returns-3 c =
     (c .before .before .record-line .ensures)
 
 pub next-line-spec : {M : Type 1} → statement M
-next-line-spec = tie.close (tie.spec (λ c κs. search needs) returns (λ c κs. search needs) (λ c κs. search needs) (λ c. search needs) returns-2 (λ c κs. search needs) (λ c. search needs) returns-3)
+next-line-spec =
+    tie.close
+    (tie.spec
+    (λ c κs. search needs)
+    returns
+    (λ c κs. search needs)
+    (λ c κs. search needs)
+    (λ c. search needs)
+    returns-2
+    (λ c κs. search needs)
+    (λ c. search needs)
+    returns-3)

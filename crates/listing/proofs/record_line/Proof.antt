@@ -1,6 +1,5 @@
 -- `record_line` writes the line of the record whose sections stand, and else none.
 -- Assumes nothing.
-use mathlib.Core.Path.{_∙_}
 use Prim.Native.Nat.{_-_}
 use borrow.Author.Needs.{needs}
 use borrow.Author.Tests.{not-true, not-false}
@@ -33,4 +32,13 @@ returns-2 c =
     (record { bytes = c .before .before .before .put-record .ensures; position = rw (c .past-record .ensures) })
 
 pub record-line-spec : {M : Type 1} → statement M
-record-line-spec = tie.close (tie.spec (λ c κs. search needs) (λ c κs. search needs) returns put-record-requires (λ c κs. search needs) (λ c. search needs) returns-2)
+record-line-spec =
+    tie.close
+    (tie.spec
+    (λ c κs. search needs)
+    (λ c κs. search needs)
+    returns
+    put-record-requires
+    (λ c κs. search needs)
+    (λ c. search needs)
+    returns-2)

@@ -1,10 +1,9 @@
 -- `print_listing` ends: each line leaves fewer records. Nothing has to hold from line to line.
 -- Assumes nothing.
-use mathlib.Core.Path.{_≡_, ap}
-use Prim.Native.Nat.{ℕ, _<_}
+use mathlib.Core.Path.{ap}
 use native.Mathlib.Omega.{arith}
 use denote.Ref.{now}
-use Rattle.listing.specs.Lines.{Position, positionOf, step}
+use Rattle.listing.specs.Lines.{Position, positionOf}
 use Rattle.listing.proofs.Falling.{step-falls}
 use Rattle.list.proofs.output.print_listing.Statement.{statement}
 use Rattle.list.proofs.output.print_listing.Tie as tie

@@ -1,8 +1,7 @@
 -- `all_equal` meets its contract. The invariant is `Comparing`; the measure is the number of times left.
 -- Assumes nothing.
 use native.Mathlib.Omega.{arith}
-use borrow.Author.Needs.{needs}
-use mathlib.Core.Path.{sym, _∙_}
+use mathlib.Core.Path.{sym}
 use Rattle.listing.proofs.Equal.{Comparing, comparing-start, comparing-turn, comparing-differs, comparing-end}
 use Rattle.listing.proofs.mark.all_equal.Statement.{statement}
 use Rattle.listing.proofs.mark.all_equal.Tie as tie
@@ -30,4 +29,17 @@ returns-2 : tie.Need-returns-2 Inv-loop μ-loop
 returns-2 c = sym (comparing-end _ _ _ _ _ _ (c .before .loop .inv) (omega arith))
 
 pub all-equal-spec : {M : Type 1} → statement M
-all-equal-spec = tie.close (tie.spec Inv-loop μ-loop (λ c κs. tt) loop-holds (λ c κs. tt) returns (λ c. omega arith) (λ c. omega arith) (λ c. omega arith) loop-again returns-2)
+all-equal-spec =
+    tie.close
+    (tie.spec
+    Inv-loop
+    μ-loop
+    (λ c κs. tt)
+    loop-holds
+    (λ c κs. tt)
+    returns
+    (λ c. omega arith)
+    (λ c. omega arith)
+    (λ c. omega arith)
+    loop-again
+    returns-2)

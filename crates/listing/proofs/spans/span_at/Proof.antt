@@ -1,7 +1,7 @@
 -- `span_at` is its definition by the ways of its tests: a count that the room holds makes places inside the bytes.
 -- Assumes nothing.
-use mathlib.Core.Path.{_≡_, sym, ap, _∙_}
-use Prim.Native.Nat.{ℕ, _+_, _*_, _/_, _≤_, _<_}
+use mathlib.Core.Path.{_≡_, sym, _∙_}
+use Prim.Native.Nat.{_+_, _*_, _≤_}
 use native.Mathlib.Omega.{arith}
 use borrow.Author.Needs.{needs}
 use denote.Ref.{now}
@@ -23,7 +23,8 @@ unfolding noSpan
 returns-2 c = let a = c .before .before .before .args in sym (span-beyond (a .w) (a .at) (now (a .b)) (omega arith))
 
 -- the count, where its bytes stand
-counted : (c : tie.After-number-in) → c .number-in .result ≡ numberAt 2 (c .before .before .before .before .args .at) (now (c .before .before .before .before .args .b))
+counted : (c : tie.After-number-in)
+    → c .number-in .result ≡ numberAt 2 (c .before .before .before .before .args .at) (now (c .before .before .before .before .args .b))
 counted c =
     let a = c .before .before .before .before .args in
     c .number-in .ensures ∙ number-stands 2 (a .at) (now (a .b)) (omega arith) (omega arith)
@@ -35,7 +36,9 @@ returns-3 c =
     let room = room-lacks (length (now (a .b))) (a .at) (c .before .number-in .result) (a .w) (omega arith) (omega arith) (c .if3 .taken) in
     sym (span-beyond (a .w) (a .at) (now (a .b)) (rw (← counted (c .before)) room))
 
-held : (c : tie.Else3) → c .before .before .before .before .before .args .at + 2 + c .before .number-in .result * c .before .before .before .before .before .args .w
+-- the numbers that it counts have room
+held : (c : tie.Else3)
+    → c .before .before .before .before .before .args .at + 2 + c .before .number-in .result * c .before .before .before .before .before .args .w
     ≤ length (now (c .before .before .before .before .before .args .b))
 held c =
     let a = c .before .before .before .before .before .args in
@@ -53,4 +56,19 @@ returns-4 c =
     rw (counted (c .before)) (sym (span-stands (a .w) (a .at) (now (a .b)) (rw (← counted (c .before)) (held c))))
 
 pub span-at-spec : {M : Type 1} → statement M
-span-at-spec = tie.close (tie.spec returns (λ c. search needs) returns-2 (λ c κs. search needs) (λ c. search needs) (λ c. search needs) (λ c. search needs) returns-3 (λ c. search needs) (λ c. search needs) mul-t10 add-t9 returns-4)
+span-at-spec =
+    tie.close
+    (tie.spec
+    returns
+    (λ c. search needs)
+    returns-2
+    (λ c κs. search needs)
+    (λ c. search needs)
+    (λ c. search needs)
+    (λ c. search needs)
+    returns-3
+    (λ c. search needs)
+    (λ c. search needs)
+    mul-t10
+    add-t9
+    returns-4)

@@ -13,13 +13,30 @@ use Rattle.listing.proofs.text.put_limit.Tie as tie
 returns : tie.Need-returns
 unfolding quotedLimit
 returns c =
-    let first = put-put _ _ _ _ _ _ _ _ (c .before .before .before .before .before .before .before .before .before .before .before .before .before .before .before .before .before .put .ensures) (c .before .before .before .before .before .before .before .before .before .before .before .before .before .put-decimal .ensures) in
-    let second = put-put _ _ _ _ _ _ _ _ first (c .before .before .before .before .before .before .before .before .put2 .ensures) in
-    let third = put-put _ _ _ _ _ _ _ _ second (c .before .before .put3 .ensures) in
-    let a = c .before .before .before .before .before .before .before .before .before .before .before .before .before .before .before .before .before .before .before .before .before .args in
-    let limit = c .before .before .before .before .before .hex-of in
-    put-as _ _ _ _ _ _ (append-assoc (space ∷ decimalDigits (a .chance)) (0x3a ∷ []) (limit .result)
-    ∙ ap (λ (x : List ℕ). space ∷ (decimalDigits (a .chance) ++ (0x3a ∷ x))) (limit .ensures)) third
+    let fourth = c .before .before in
+    let limit = fourth .before .before .before in
+    let third = limit .before .before .before in
+    let second = third .before .before .before .before .before in
+    let first = second .before .before .before .before in
+    let a = first .before .before .before .before .args in
+    let spaced = put-put _ _ _ _ _ _ _ _ (first .put .ensures) (second .put-decimal .ensures) in
+    let parted = put-put _ _ _ _ _ _ _ _ spaced (third .put2 .ensures) in
+    put-as _ _ _ _ _ _
+    (append-assoc (space ∷ decimalDigits (a .chance)) (0x3a ∷ []) (limit .hex-of .result)
+    ∙ ap (λ (x : List ℕ). space ∷ (decimalDigits (a .chance) ++ (0x3a ∷ x))) (limit .hex-of .ensures))
+    (put-put _ _ _ _ _ _ _ _ parted (fourth .put3 .ensures))
 
 pub put-limit-spec : {M : Type 1} → statement M
-put-limit-spec = tie.close (tie.spec (λ c. search needs) (λ c κs. search needs) (λ c κs. search needs) (λ c. search needs) (λ c κs. search needs) (λ c κs. search needs) (λ c. search needs) (λ c κs. search needs) (λ c. search needs) returns)
+put-limit-spec =
+    tie.close
+    (tie.spec
+    (λ c. search needs)
+    (λ c κs. search needs)
+    (λ c κs. search needs)
+    (λ c. search needs)
+    (λ c κs. search needs)
+    (λ c κs. search needs)
+    (λ c. search needs)
+    (λ c κs. search needs)
+    (λ c. search needs)
+    returns)

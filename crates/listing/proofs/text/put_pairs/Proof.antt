@@ -18,9 +18,12 @@ loop-holds c = pairs-start _ _ _ _ _ _ (omega arith) (omega arith)
 
 loop-again : tie.Need-loop-again Inv-loop μ-loop
 loop-again c =
-    let l = c .before .before .before .before .before .before .before .loop in
-    pairs-turn _ _ _ _ _ _ _ _ _ _ _ (l .inv) _ _ _ _ (omega arith) (c .before .before .before .before .before .number-in .ensures) (c .before .before .before .before .number-in2 .ensures) (omega arith)
-    (c .before .before .put-limit .ensures)
+    let written = c .before .before in
+    let second = written .before .before in
+    let first = second .before in
+    let l = first .before .before .loop in
+    pairs-turn _ _ _ _ _ _ _ _ _ _ _ (l .inv) _ _ _ _ (omega arith) (first .number-in .ensures) (second .number-in2 .ensures)
+    (omega arith) (written .put-limit .ensures)
 
 same-length : tie.Need-same-length Inv-loop μ-loop
 same-length c = search needs
@@ -29,4 +32,19 @@ returns : tie.Need-returns Inv-loop μ-loop
 returns c = pairs-end _ _ _ _ _ _ _ _ _ _ _ (c .before .loop .inv) (omega arith)
 
 pub put-pairs-spec : {M : Type 1} → statement M
-put-pairs-spec = tie.close (tie.spec Inv-loop μ-loop loop-holds (λ c κs. tt) (λ c κs. tt) (λ c κs. tt) (λ c. omega arith) (λ c. omega arith) (λ c. omega arith) (λ c. omega arith) loop-again same-length returns)
+put-pairs-spec =
+    tie.close
+    (tie.spec
+    Inv-loop
+    μ-loop
+    loop-holds
+    (λ c κs. tt)
+    (λ c κs. tt)
+    (λ c κs. tt)
+    (λ c. omega arith)
+    (λ c. omega arith)
+    (λ c. omega arith)
+    (λ c. omega arith)
+    loop-again
+    same-length
+    returns)

@@ -29,10 +29,24 @@ put-limits-requires c κs =
 returns : tie.Need-returns
 unfolding recordIn
 returns c =
-    let a = c .before .before .before .before .before .before .before .before .before .before .before .before .before .before .before .before .before .before .before .args in
-    let first = put-put _ _ _ _ _ _ _ _ (c .before .before .before .before .before .before .before .before .before .before .before .before .before .before .before .put-front .ensures) (c .before .before .before .before .before .before .before .before .before .before .before .put-mark .ensures) in
-    let second = put-put _ _ _ _ _ _ _ _ first (c .before .before .before .before .before .before .before .put-limits .ensures) in
-    put-as _ _ _ _ _ _ (record-line (recordIn (a .at) (a .s) (now (a .b)))) (put-put _ _ _ _ _ _ _ _ second (c .before .before .put .ensures))
+    let fourth = c .before .before in
+    let third = fourth .before .before .before .before .before in
+    let second = third .before .before .before .before in
+    let first = second .before .before .before .before in
+    let a = first .before .before .before .before .args in
+    let marked = put-put _ _ _ _ _ _ _ _ (first .put-front .ensures) (second .put-mark .ensures) in
+    let listed = put-put _ _ _ _ _ _ _ _ marked (third .put-limits .ensures) in
+    let line = record-line (recordIn (a .at) (a .s) (now (a .b))) in
+    put-as _ _ _ _ _ _ line (put-put _ _ _ _ _ _ _ _ listed (fourth .put .ensures))
 
 pub put-record-spec : {M : Type 1} → statement M
-put-record-spec = tie.close (tie.spec put-front-requires put-mark-requires put-limits-requires (λ c. search needs) (λ c κs. search needs) (λ c. search needs) returns)
+put-record-spec =
+    tie.close
+    (tie.spec
+    put-front-requires
+    put-mark-requires
+    put-limits-requires
+    (λ c. search needs)
+    (λ c κs. search needs)
+    (λ c. search needs)
+    returns)
