@@ -1,0 +1,36 @@
+-- `repeat` stays inside the buffer. The measure is how many bytes are left.
+-- Assumes nothing.
+use mathlib.Core.Path.{_≡_, refl, _∙_}
+use native.Mathlib.Omega.{arith}
+use borrow.Author.Needs.{needs}
+use lib.ListN.{length, length-set}
+use Rattle.journal_history.proofs.store.repeat.Statement.{statement}
+use Rattle.journal_history.proofs.store.repeat.Tie as tie
+
+abbrev Inv-loop : tie.InvT-loop
+Inv-loop v₀ from₀ left₀ to₀ v from left to = length v ≡ length v₀
+
+abbrev μ-loop : tie.MeasureT-loop
+μ-loop v₀ from₀ left₀ to₀ v from left to = left
+
+pub repeat-spec : {M : Type 1} → statement M
+repeat-spec =
+    tie.close
+    (tie.spec
+    Inv-loop
+    μ-loop
+    (λ c. refl)
+    (λ c. c .before .before .loop .inv)
+    (λ c. search needs)
+    (λ c. c .before .before .before .loop .inv)
+    (λ c. search needs)
+    (λ c. omega arith)
+    (λ c. omega arith)
+    (λ c. omega (arith, c .before .before .before .before .loop .inv))
+    (λ c. omega arith)
+    (λ c. omega (arith, c .before .before .before .before .loop .inv))
+    (λ c. omega arith)
+    (λ c. length-set (c .before .before .before .before .loop .v) (c .before .before .before .before .loop .to) _
+    ∙ c .before .before .before .before .loop .inv)
+    (λ c. c .before .loop .inv)
+    (λ c. search needs))

@@ -1,0 +1,41 @@
+// One stored line: a letter, and three numbers of 16 hexadecimal digits, single spaces between them, line end: 53 bytes.
+// tools/journal_history says what each letter asks for.
+use lines::Field;
+use lines::number_at;
+
+pub(crate) struct Line {
+    pub letter: u8,
+    pub x: u64,
+    pub y: u64,
+    pub z: u64,
+}
+
+pub(crate) enum Parsed {
+    Numbers(Line),
+    Malformed,
+}
+
+// The line's letter and numbers.
+pub(crate) fn parse(line: &[u8]) -> Parsed {
+    if line.len() != 53 {
+        return Parsed::Malformed;
+    }
+    if line[52] != b'\n' {
+        return Parsed::Malformed;
+    }
+    parse_numbers(line, line[0])
+}
+
+// The numbers behind a letter.
+fn parse_numbers(line: &[u8], letter: u8) -> Parsed {
+    match number_at(line, 2, 16) {
+        Field::Value(x) => match number_at(line, 19, 16) {
+            Field::Value(y) => match number_at(line, 36, 16) {
+                Field::Value(z) => Parsed::Numbers(Line { letter, x, y, z }),
+                Field::Nothing => Parsed::Malformed,
+            },
+            Field::Nothing => Parsed::Malformed,
+        },
+        Field::Nothing => Parsed::Malformed,
+    }
+}

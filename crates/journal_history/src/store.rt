@@ -1,0 +1,74 @@
+// Bytes and numbers of a line put into a buffer, and two buffers compared.
+// What has no room in the buffer is left out; the comparison that follows then differs.
+ghost use mathlib.Core.Path.{_≡_};
+ghost use mathlib.Core.Bool.{true};
+use crate::line::Line;
+
+// Fills a buffer with bytes that differ from place to place, by a seed.
+pub(crate) fn fill(v: &mut [u8], seed: u64) {
+    let mut i: usize = 0;
+    while i < v.len() {
+        v[i] = ((seed % 256 + (i % 256) as u64 * 7) % 256) as u8;
+        i += 1;
+    }
+}
+
+// The y lowest bytes of z, the lowest first, from the place x on.
+pub(crate) fn bytes(v: &mut [u8], l: Line) {
+    let mut rest = l.z;
+    let mut left = l.y;
+    let mut at = l.x as usize;
+    while 0 < left {
+        if v.len() <= at {
+            return;
+        }
+        v[at] = (rest % 256) as u8;
+        rest = rest / 256;
+        left -= 1;
+        at += 1;
+    }
+}
+
+// So many bytes of a buffer once more: y of them, from the place x, to the place z on.
+pub(crate) fn repeat(v: &mut [u8], l: Line) {
+    let mut from = l.x as usize;
+    let mut left = l.y;
+    let mut to = l.z as usize;
+    while 0 < left {
+        if v.len() <= from {
+            return;
+        }
+        if v.len() <= to {
+            return;
+        }
+        v[to] = v[from];
+        from += 1;
+        left -= 1;
+        to += 1;
+    }
+}
+
+// The number y at the place x.
+pub(crate) fn number(v: &mut [u32], l: Line) {
+    let at = l.x as usize;
+    if at < v.len() {
+        v[at] = (l.y % 0x100000000) as u32;
+    }
+}
+
+// Whether two buffers hold the same bytes.
+pub(crate) fn same(a: &[u8], b: &[u8]) -> bool
+    ensures { λ r. ⌜ (r ≡ true → now (a .entry) ≡ now (b .entry)) ⌝ }
+{
+    if a.len() != b.len() {
+        return false;
+    }
+    let mut i: usize = 0;
+    while i < a.len() {
+        if a[i] != b[i] {
+            return false;
+        }
+        i += 1;
+    }
+    true
+}
