@@ -2,7 +2,7 @@
 // `v` is the slice, `len` the journal's length in it.
 ghost use mathlib.Core.Path.{_≡_};
 ghost use Rattle.journal_spec.specs.Append.{appendUpto};
-ghost use Rattle.journal.specs.Offering.{offerOf};
+ghost use Rattle.journal.specs.Offering.{offerFrom};
 ghost use Rattle.capi.specs.Append.{appendWords};
 use journal::Appended;
 
@@ -19,9 +19,9 @@ pub extern "C" fn journal_append_upto(
     out: &mut [u64; 3],
 )
     ensures { λ r. ⌜ now (v .exit)
-        ≡ appendUpto (now (v .entry)) len (offerOf day (now (name .entry)) (now (chances .entry)) (now (times .entry))) budget .slice ⌝ }
+        ≡ appendUpto (now (v .entry)) len (offerFrom day (now (name .entry)) (now (chances .entry)) (now (times .entry))) budget .slice ⌝ }
     ensures { λ r. ⌜ now (out .exit) ≡ appendWords
-        (appendUpto (now (v .entry)) len (offerOf day (now (name .entry)) (now (chances .entry)) (now (times .entry))) budget .answer) ⌝ }
+        (appendUpto (now (v .entry)) len (offerFrom day (now (name .entry)) (now (chances .entry)) (now (times .entry))) budget .answer) ⌝ }
 {
     let a = journal::append_upto(v, len, day, name, chances, times, budget);
     match a {

@@ -21,7 +21,7 @@ use Rattle.journal_spec.proofs.Reading.{by-order}
 use Rattle.journal_spec.proofs.Writing.{lent-wrote}
 use Rattle.journal.specs.declared.Fault.{Fault}
 use Rattle.journal.specs.declared.Appended.the-variants as A
-use Rattle.journal.specs.Offering.{offerOf, recordOf}
+use Rattle.journal.specs.Offering.{offerFrom, recordFrom}
 use Rattle.journal.specs.Answers.{appendMeaning, lengthAfter, outcomeOf}
 use Rattle.journal.proofs.Checking.{first-this, first-later, first-alone}
 
@@ -79,8 +79,8 @@ room-extended v committed size k end new len r ys s h e b w =
 -- ---- the offer's record is the one with the limits worked out
 
 pub offered-record : (day : ℕ) (name chances times limits : List ℕ) → limits ≡ limitsOf times chances
-    → recordOf day name chances times limits ≡ offered (offerOf day name chances times)
-unfolding recordOf offered offerOf
+    → recordFrom day name chances times limits ≡ offered (offerFrom day name chances times)
+unfolding recordFrom offered offerFrom
 offered-record day name chances times limits e = rw e refl
 
 pub offer-settled : (room : ℕ) (last : Last) (committed : ℕ) (o : Offer) (r : Record) (slice : List ℕ) (len k : ℕ)

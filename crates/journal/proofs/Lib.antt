@@ -25,3 +25,4 @@ pub mod Checking
 pub mod WorkedOut
 pub mod Offered
 pub mod Extending
+pub mod Meaning

@@ -8,12 +8,12 @@ use Rattle.journal_spec.specs.Record.{Record, Last, theForm}
 use Rattle.journal_spec.specs.Append.{Offer, limitsOf, limitsRefusal, offerRefusal}
 
 -- document 01's offered leaf, from a call's arguments
-unfoldable pub offerOf : ℕ → List ℕ → List ℕ → List ℕ → Offer
-offerOf day name chances times = record { day = day; name = name; chances = chances; times = times }
+unfoldable pub offerFrom : ℕ → List ℕ → List ℕ → List ℕ → Offer
+offerFrom day name chances times = record { day = day; name = name; chances = chances; times = times }
 
 -- the record of the arguments with these limits
-unfoldable pub recordOf : ℕ → List ℕ → List ℕ → List ℕ → List ℕ → Record
-recordOf day name chances times limits = record {
+unfoldable pub recordFrom : ℕ → List ℕ → List ℕ → List ℕ → List ℕ → Record
+recordFrom day name chances times limits = record {
   form = theForm;
   day = day;
   name = name;

@@ -10,17 +10,19 @@ ghost use Rattle.journal_spec.specs.Record.{maxName, maxChances, recordBytes};
 ghost use Rattle.journal_spec.specs.Scan.{maxLength};
 ghost use Rattle.journal_spec.specs.Append.{offered, judgeRoom, appendRefusal, settle};
 ghost use Rattle.journal.specs.Records.{asLast};
-ghost use Rattle.journal.specs.Offering.{offerOf, recordOf};
+ghost use Rattle.journal.specs.Offering.{offerFrom, recordFrom};
 ghost use Rattle.journal.specs.Answers.{outcomeOf};
 use crate::Appended;
 use crate::contents::MAX_LENGTH;
-use crate::offer::MAX_CHANCES;
 use crate::offer::offer_refusal;
 use crate::record::Head;
 use crate::write::put_record;
 
 // Document 01's number for a record that ends beyond the slice or the longest journal.
 const ROOM_REFUSAL: u32 = 9;
+
+// The most chances of a record, which has as many limits.
+const MAX_CHANCES: usize = 8;
 
 // The offer after the record `last`, in a journal of that committed length.
 pub(crate) fn extend_by(
@@ -35,9 +37,9 @@ pub(crate) fn extend_by(
 ) -> Appended
     ensures { λ r. ⌜ ((len : ℕ) → outcomeOf len r (now (v .exit))
         ≡ settle (appendRefusal (length (now (v .entry))) (asLast last) committed
-        (offerOf day (now (name .entry)) (now (chances .entry)) (now (times .entry))))
+        (offerFrom day (now (name .entry)) (now (chances .entry)) (now (times .entry))))
         (now (v .entry)) len committed
-        (take budget (recordBytes (offered (offerOf day (now (name .entry)) (now (chances .entry)) (now (times .entry))))))) ⌝ }
+        (take budget (recordBytes (offered (offerFrom day (now (name .entry)) (now (chances .entry)) (now (times .entry))))))) ⌝ }
 {
     let mut bits: [u64; MAX_CHANCES] = [0; MAX_CHANCES];
     let refusal = offer_refusal(last, day, name, chances, times, &mut bits);
@@ -63,9 +65,9 @@ fn extend_within(
         × (length (now limits) ≤ maxChances) ⌝ }
     ensures { λ r. ⌜ ((len : ℕ) → outcomeOf len r (now (v .exit))
         ≡ settle (judgeRoom (length (now (v .entry))) committed
-        (length (recordBytes (recordOf day (now (name .entry)) (now (chances .entry)) (now (times .entry)) (now (limits .entry))))))
+        (length (recordBytes (recordFrom day (now (name .entry)) (now (chances .entry)) (now (times .entry)) (now (limits .entry))))))
         (now (v .entry)) len committed
-        (take budget (recordBytes (recordOf day (now (name .entry)) (now (chances .entry)) (now (times .entry)) (now (limits .entry)))))) ⌝ }
+        (take budget (recordBytes (recordFrom day (now (name .entry)) (now (chances .entry)) (now (times .entry)) (now (limits .entry)))))) ⌝ }
 {
     let size = 12 + name.len() + 4 * chances.len() + 4 * times.len() + 8 * limits.len();
     if !has_room(v.len(), committed, size) {

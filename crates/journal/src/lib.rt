@@ -4,7 +4,7 @@ ghost use mathlib.Core.Path.{_≡_};
 ghost use Rattle.journal_spec.specs.Scan.{scanOf};
 ghost use Rattle.journal_spec.specs.Read.{partPlace, readPart, marked, readMark};
 ghost use Rattle.journal_spec.specs.Append.{appendUpto, appendOf};
-ghost use Rattle.journal.specs.Offering.{offerOf};
+ghost use Rattle.journal.specs.Offering.{offerFrom};
 ghost use Rattle.journal.specs.Answers.{meaning, partMeaning, markMeaning, markFrom, outcomeOf};
 use crate::contents::Contents;
 use crate::contents::MAX_LENGTH;
@@ -160,7 +160,7 @@ pub fn append(
     times: &[u32],
 ) -> Appended
     ensures { λ r. ⌜ outcomeOf len r (now (v .exit))
-        ≡ appendOf (now (v .entry)) len (offerOf day (now (name .entry)) (now (chances .entry)) (now (times .entry))) ⌝ }
+        ≡ appendOf (now (v .entry)) len (offerFrom day (now (name .entry)) (now (chances .entry)) (now (times .entry))) ⌝ }
 {
     append_upto(v, len, day, name, chances, times, MAX_LENGTH)
 }
@@ -177,7 +177,7 @@ pub fn append_upto(
     budget: usize,
 ) -> Appended
     ensures { λ r. ⌜ outcomeOf len r (now (v .exit))
-        ≡ appendUpto (now (v .entry)) len (offerOf day (now (name .entry)) (now (chances .entry)) (now (times .entry))) budget ⌝ }
+        ≡ appendUpto (now (v .entry)) len (offerFrom day (now (name .entry)) (now (chances .entry)) (now (times .entry))) budget ⌝ }
 {
     let x = contents_of(v, len, 0);
     match x {

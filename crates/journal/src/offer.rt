@@ -11,7 +11,7 @@ ghost use Rattle.journal_spec.specs.Refusals.{outside};
 ghost use Rattle.journal_spec.specs.Section.{sectionRefusal};
 ghost use Rattle.journal_spec.specs.Record.{nameSection, chanceSection, maxChances};
 ghost use Rattle.journal.specs.Records.{asLast};
-ghost use Rattle.journal.specs.Offering.{offerOf, LimitsChecked, OfferChecked};
+ghost use Rattle.journal.specs.Offering.{offerFrom, LimitsChecked, OfferChecked};
 use crate::record::CHANCES;
 use crate::record::DAY_REFUSAL;
 use crate::record::Head;
@@ -21,9 +21,6 @@ use limit::FINITE_REFUSAL;
 use limit::TIMES_REFUSAL;
 use limit::sums::Gathered;
 use limit::sums::Sums;
-
-// The most chances of a record, which has as many limits.
-pub(crate) const MAX_CHANCES: usize = 8;
 
 // The refusal of the offer after the record `last`; where there is none, the limits' bits stand first in `bits`.
 pub(crate) fn offer_refusal(
@@ -35,7 +32,7 @@ pub(crate) fn offer_refusal(
     bits: &mut [u64],
 ) -> u32
     requires { ⌜ length (now bits) ≡ maxChances ⌝ }
-    ensures { λ r. ⌜ OfferChecked (asLast last) (offerOf day (now (name .entry)) (now (chances .entry)) (now (times .entry)))
+    ensures { λ r. ⌜ OfferChecked (asLast last) (offerFrom day (now (name .entry)) (now (chances .entry)) (now (times .entry)))
         r (now (bits .exit)) ⌝ }
 {
     if (day as u64) < last.day {

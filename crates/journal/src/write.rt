@@ -7,7 +7,7 @@ ghost use Rattle.journal_spec.specs.Bytes.{bytesOf};
 ghost use Rattle.journal_spec.specs.Section.{sectionBytes};
 ghost use Rattle.journal_spec.specs.Record.{recordBytes};
 ghost use Rattle.journal_spec.specs.Wrote.{Wrote};
-ghost use Rattle.journal.specs.Offering.{recordOf};
+ghost use Rattle.journal.specs.Offering.{recordFrom};
 use crate::record::FORM;
 
 // The next byte, and no other.
@@ -95,7 +95,7 @@ pub(crate) fn put_record(
 ) -> usize
     requires { ⌜ end ≤ length (now part) ⌝ }
     ensures { λ r. ⌜ Wrote (now (part .entry)) 0 end
-        (recordBytes (recordOf day (now (name .entry)) (now (chances .entry)) (now (times .entry)) (now (limits .entry))))
+        (recordBytes (recordFrom day (now (name .entry)) (now (chances .entry)) (now (times .entry)) (now (limits .entry))))
         r (now (part .exit)) ⌝ }
 {
     let form_end = put_number(part, 0, end, 2, FORM);

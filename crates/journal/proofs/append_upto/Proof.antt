@@ -3,7 +3,7 @@
 use mathlib.Core.Path.{_∙_}
 use borrow.Author.Needs.{needs}
 use denote.Ref.{now}
-use Rattle.journal.specs.Offering.{offerOf}
+use Rattle.journal.specs.Offering.{offerFrom}
 use Rattle.journal.proofs.Answering.{append-stands, append-damaged}
 use Rattle.journal.proofs.append_upto.Statement.{statement}
 use Rattle.journal.proofs.append_upto.Tie as tie
@@ -16,7 +16,7 @@ returns c =
     c .before .before .extend-by .ensures (a .len)
     ∙ append-stands (now (a .v)) (a .len) 0 (read .contents-of .result) (read .contents-of .ensures)
     (x .0 .0) (x .0 .1 .0) (x .0 .1 .1 .0) (x .0 .1 .1 .1 .0) (x .1)
-    (offerOf (a .day) (now (a .name)) (now (a .chances)) (now (a .times))) (a .budget)
+    (offerFrom (a .day) (now (a .name)) (now (a .chances)) (now (a .times))) (a .budget)
 
 returns-2 : tie.Need-returns-2
 returns-2 c =
@@ -24,7 +24,7 @@ returns-2 c =
     let read = c .before .before .before in
     let a = read .before .before .before .before .before .before .args in
     append-damaged (now (a .v)) (a .len) 0 (read .contents-of .result) (read .contents-of .ensures) (x .0 .0) (x .1)
-    (offerOf (a .day) (now (a .name)) (now (a .chances)) (now (a .times))) (a .budget)
+    (offerFrom (a .day) (now (a .name)) (now (a .chances)) (now (a .times))) (a .budget)
 
 pub append-upto-spec : {M : Type 1} → statement M
 append-upto-spec =

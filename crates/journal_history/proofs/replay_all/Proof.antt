@@ -20,8 +20,9 @@ abbrev μ-loop : tie.MeasureT-loop
 
 loop-again : tie.Need-loop-again Inv-loop μ-loop
 loop-again c =
-    let kept = c .before .before .before .before .before .before .before .before .before .before .replay-some .kept .1 in
-    let l = c .before .before .before .before .before .before .before .before .before .before .before .before .before .before .before .before .before .before .before .loop .inv in
+    let called = c .before .before .before .before .before .before .before .before .before .before in
+    let kept = called .replay-some .kept .1 in
+    let l = called .before .before .before .before .before .before .before .before .before .loop .inv in
     (kept .0 ∙ l .0, kept .1 .0 ∙ l .1, kept .1 .1 .0 ∙ l .2, kept .1 .1 .1 .0 ∙ l .3, kept .1 .1 .1 .1 .0 ∙ l .4)
 
 pub replay-all-spec : {M : Type 1} → statement M

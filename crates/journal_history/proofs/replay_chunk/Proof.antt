@@ -20,12 +20,15 @@ abbrev μ-loop : tie.MeasureT-loop
 μ-loop chunk v₀ expected₀ name₀ chances₀ times₀ state₀ at₀ v expected name chances times state at = length chunk - at
 
 loop-less : tie.Need-loop-less Inv-loop μ-loop
-loop-less c = omega (arith, c .before .before .before .before .before .before .before .before .before .before .before .before .before .before .before .before .before .before .line-end .ensures)
+loop-less c =
+    let called = c .before .before .before .before .before .before .before .before .before .before in
+    omega (arith, called .before .before .before .before .before .before .before .before .line-end .ensures)
 
 loop-again : tie.Need-loop-again Inv-loop μ-loop
 loop-again c =
-    let kept = c .before .before .before .before .before .before .before .before .before .before .replay-line .kept .1 .1 in
-    let l = c .before .before .before .before .before .before .before .before .before .before .before .before .before .before .before .before .before .before .before .before .loop .inv in
+    let called = c .before .before .before .before .before .before .before .before .before .before in
+    let kept = called .replay-line .kept .1 .1 in
+    let l = called .before .before .before .before .before .before .before .before .before .before .loop .inv in
     (kept .0 ∙ l .0, kept .1 .0 ∙ l .1, kept .1 .1 .0 ∙ l .2, kept .1 .1 .1 .0 ∙ l .3, kept .1 .1 .1 .1 .0 ∙ l .4)
 
 pub replay-chunk-spec : {M : Type 1} → statement M

@@ -7,7 +7,7 @@ use borrow.Author.Needs.{needs}
 use lib.ListN.{length, take, length-take}
 use denote.Ref.{now}
 use Rattle.journal.specs.Records.{asLast}
-use Rattle.journal.specs.Offering.{offerOf, recordOf}
+use Rattle.journal.specs.Offering.{offerFrom, recordFrom}
 use Rattle.journal.proofs.Offered.{Few, offer-few}
 use Rattle.journal.proofs.Extending.{offer-declined, offered-record, offer-settled}
 use Rattle.journal.proofs.extend.extend_by.Statement.{statement}
@@ -17,40 +17,40 @@ returns : tie.Need-returns
 returns c len =
     let check = c .before .before .offer-refusal in
     let a = c .before .before .before .before .before .before .before .before .args in
-    offer-declined (length (now (a .v))) (asLast (a .last)) (a .committed) (offerOf (a .day) (now (a .name)) (now (a .chances)) (now (a .times)))
+    offer-declined (length (now (a .v))) (asLast (a .last)) (a .committed) (offerFrom (a .day) (now (a .name)) (now (a .chances)) (now (a .times)))
     (check .result) (now (a .v)) len _ (omega arith) (check .ensures .refusal)
 
 -- the offer is not refused
 few : (c : tie.After-extend-within-arg)
     → let a = c .before .before .before .before .before .before .before .before .before .args in
-    Few (offerOf (a .day) (now (a .name)) (now (a .chances)) (now (a .times)))
+    Few (offerFrom (a .day) (now (a .name)) (now (a .chances)) (now (a .times)))
 few c =
     let check = c .before .before .before .offer-refusal in
     let a = c .before .before .before .before .before .before .before .before .before .args in
-    offer-few (asLast (a .last)) (offerOf (a .day) (now (a .name)) (now (a .chances)) (now (a .times)))
+    offer-few (asLast (a .last)) (offerFrom (a .day) (now (a .name)) (now (a .chances)) (now (a .times)))
     (sym (check .ensures .refusal) ∙ omega arith)
 
 array-share-prefix-bits : tie.Need-array-share-prefix-bits
-unfolding offerOf
+unfolding offerFrom
 array-share-prefix-bits c = omega (arith, few c .chances, c .before .before .before .offer-refusal .kept .1 .1 .1 .1 .1 .0)
 
 slice-aggregate-extend-within : tie.Need-slice-aggregate-extend-within
-unfolding offerOf
+unfolding offerFrom
 slice-aggregate-extend-within c =
     rw length-take (omega (arith, few (c .before) .chances, c .before .before .before .before .offer-refusal .kept .1 .1 .1 .1 .1 .0))
 
 extend-within-requires : tie.Need-extend-within-requires
-unfolding offerOf
+unfolding offerFrom
 extend-within-requires c κs =
     let counts = few (c .before) in
     (counts .name, counts .chances, counts .times, rw length-take (omega (arith, counts .chances)))
 
 returns-2 : tie.Need-returns-2
-unfolding offerOf
+unfolding offerFrom
 returns-2 c len =
     let check = c .before .before .before .before .before .before .before .offer-refusal in
     let a = c .before .before .before .before .before .before .before .before .before .before .before .before .before .args in
-    let o = offerOf (a .day) (now (a .name)) (now (a .chances)) (now (a .times)) in
+    let o = offerFrom (a .day) (now (a .name)) (now (a .chances)) (now (a .times)) in
     let none : check .result ≡ 0 = omega arith in
     c .before .before .extend-within .ensures len
     ∙ offer-settled (length (now (a .v))) (asLast (a .last)) (a .committed) o _ (now (a .v)) len (a .budget)

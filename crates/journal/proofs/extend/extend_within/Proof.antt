@@ -13,16 +13,16 @@ use Rattle.journal_spec.specs.Record.{recordBytes}
 use Rattle.journal_spec.specs.Scan.{maxLength}
 use Rattle.journal_spec.proofs.Records.{length-record}
 use Rattle.journal_spec.proofs.Writing.{wrote-inside}
-use Rattle.journal.specs.Offering.{recordOf}
+use Rattle.journal.specs.Offering.{recordFrom}
 use Rattle.journal.proofs.Extending.{room-declined, room-extended}
 use Rattle.journal.proofs.extend.extend_within.Statement.{statement}
 use Rattle.journal.proofs.extend.extend_within.Tie as tie
 
 returns : tie.Need-returns
-unfolding recordOf
+unfolding recordFrom
 returns c len =
     let a = c .before .before .before .before .before .before .before .args in
-    let r = recordOf (a .day) (now (a .name)) (now (a .chances)) (now (a .times)) (now (a .limits)) in
+    let r = recordFrom (a .day) (now (a .name)) (now (a .chances)) (now (a .times)) (now (a .limits)) in
     room-declined (now (a .v)) (a .committed) _ (a .budget) (recordBytes r) len (sym (length-record r))
     (sym (c .before .has-room .ensures) ∙ not-true _ (c .if1 .taken))
 
@@ -55,11 +55,11 @@ add-t13 c =
     omega (arith, fits ready, ready .least .ensures, wrote-inside _ 0 _ _ _ _ (omega arith) (c .before .before .put-record .ensures))
 
 returns-2 : tie.Need-returns-2
-unfolding recordOf
+unfolding recordFrom
 returns-2 c len =
     let ready = c .before .before .before .before in
     let a = ready .before .before .before .before .before .before .before .before .args in
-    let r = recordOf (a .day) (now (a .name)) (now (a .chances)) (now (a .times)) (now (a .limits)) in
+    let r = recordFrom (a .day) (now (a .name)) (now (a .chances)) (now (a .times)) (now (a .limits)) in
     room-extended (now (a .v)) (a .committed) _ (a .budget) (ready .least .result) (recordBytes r) len (c .before .before .put-record .result) _
     (sym (length-record r)) (omega (arith, fits ready)) (room ready) (ready .least .ensures) (c .before .before .put-record .ensures)
 

@@ -5,32 +5,32 @@ use native.Mathlib.Omega.{arith}
 use borrow.Author.Needs.{needs}
 use denote.Ref.{now}
 use Rattle.journal.specs.Records.{asLast}
-use Rattle.journal.specs.Offering.{offerOf}
+use Rattle.journal.specs.Offering.{offerFrom}
 use Rattle.journal.proofs.Offered.{chances-few, day-refused, name-refused, chances-refused, times-refused, limits-judged}
 use Rattle.journal.proofs.offer.offer_refusal.Statement.{statement}
 use Rattle.journal.proofs.offer.offer_refusal.Tie as tie
 
 returns : tie.Need-returns
-unfolding offerOf asLast
+unfolding offerFrom asLast
 returns c =
     let a = c .before .before .before .before .before .before .args in
-    day-refused (asLast (a .last)) (offerOf (a .day) (now (a .name)) (now (a .chances)) (now (a .times))) (now (a .bits)) (omega arith)
+    day-refused (asLast (a .last)) (offerFrom (a .day) (now (a .name)) (now (a .chances)) (now (a .times))) (now (a .bits)) (omega arith)
 
 returns-2 : tie.Need-returns-2
-unfolding offerOf asLast
+unfolding offerFrom asLast
 returns-2 c =
     let name = c .before .name-refusal in
     let a = c .before .before .before .before .before .before .before .before .args in
-    name-refused (asLast (a .last)) (offerOf (a .day) (now (a .name)) (now (a .chances)) (now (a .times))) (now (a .bits)) (omega arith)
+    name-refused (asLast (a .last)) (offerFrom (a .day) (now (a .name)) (now (a .chances)) (now (a .times))) (now (a .bits)) (omega arith)
     (name .result) (omega arith) (name .ensures)
 
 returns-3 : tie.Need-returns-3
-unfolding offerOf asLast
+unfolding offerFrom asLast
 returns-3 c =
     let chances = c .before .chances-refusal in
     let named = c .before .before .before in
     let a = named .before .before .before .before .before .before .before .args in
-    chances-refused (asLast (a .last)) (offerOf (a .day) (now (a .name)) (now (a .chances)) (now (a .times))) (now (a .bits)) (omega arith)
+    chances-refused (asLast (a .last)) (offerFrom (a .day) (now (a .name)) (now (a .chances)) (now (a .times))) (now (a .bits)) (omega arith)
     (sym (named .name-refusal .ensures) ∙ omega arith) (chances .result) (omega arith) (chances .ensures)
 
 limits-refusal-requires : tie.Need-limits-refusal-requires
@@ -40,7 +40,7 @@ limits-refusal-requires c κs =
     (chances-few (now (start .args .chances)) (sym (chances .chances-refusal .ensures) ∙ omega arith), start .pre)
 
 returns-4 : tie.Need-returns-4
-unfolding offerOf asLast
+unfolding offerFrom asLast
 returns-4 c =
     let limits = c .before .before .limits-refusal in
     let told = c .before .before .before .before .before .g .given in
@@ -48,18 +48,18 @@ returns-4 c =
     let chances = gathered .before .before in
     let named = chances .before .before in
     let a = named .before .before .before .before .before .before .before .args in
-    limits-judged (asLast (a .last)) (offerOf (a .day) (now (a .name)) (now (a .chances)) (now (a .times))) _ (omega arith)
+    limits-judged (asLast (a .last)) (offerFrom (a .day) (now (a .name)) (now (a .chances)) (now (a .times))) _ (omega arith)
     (sym (named .name-refusal .ensures) ∙ omega arith) (sym (chances .chances-refusal .ensures) ∙ omega arith)
     (gathered .gather .result) (gathered .gather .ensures) (told .0 .0) (told .1) (limits .result) (limits .ensures)
 
 returns-5 : tie.Need-returns-5
-unfolding offerOf asLast
+unfolding offerFrom asLast
 returns-5 c =
     let gathered = c .before .before in
     let chances = gathered .before .before in
     let named = chances .before .before in
     let a = named .before .before .before .before .before .before .before .args in
-    times-refused (asLast (a .last)) (offerOf (a .day) (now (a .name)) (now (a .chances)) (now (a .times))) (now (a .bits)) (omega arith)
+    times-refused (asLast (a .last)) (offerFrom (a .day) (now (a .name)) (now (a .chances)) (now (a .times))) (now (a .bits)) (omega arith)
     (sym (named .name-refusal .ensures) ∙ omega arith) (sym (chances .chances-refusal .ensures) ∙ omega arith)
     (gathered .gather .result) (gathered .gather .ensures) (c .enum-told .given .1)
 

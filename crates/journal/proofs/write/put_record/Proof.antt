@@ -5,7 +5,7 @@ use borrow.Author.Needs.{needs}
 use Rattle.journal_spec.specs.Bytes.{joined}
 use Rattle.journal_spec.specs.Record.{recordBytes}
 use Rattle.journal_spec.proofs.Writing.{wrote-none}
-use Rattle.journal.specs.Offering.{recordOf}
+use Rattle.journal.specs.Offering.{recordFrom}
 use Rattle.journal.proofs.Putting.{wrote-room, wrote-then}
 use Rattle.journal.proofs.write.put_record.Statement.{statement}
 use Rattle.journal.proofs.write.put_record.Tie as tie
@@ -57,7 +57,7 @@ put-limits-requires c κs =
     (times .put-numbers2 .ensures)
 
 returns : tie.Need-returns
-unfolding recordBytes joined recordOf
+unfolding recordBytes joined recordFrom
 returns c =
     let limits = c .before .before in
     let times = limits .before .before .before .before in
