@@ -2,3 +2,4 @@
 -- Assumes nothing.
 pub mod Texts
 pub mod Storing
+pub mod Examples

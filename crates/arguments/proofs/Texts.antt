@@ -1,16 +1,16 @@
 -- Texts gone over a byte at a time: one turn of each loop, and what its end answers.
 -- Assumes nothing.
 use mathlib.Core.Path.{_≡_, refl, sym, ap, _∙_}
-use Prim.Native.Nat.{ℕ, zero, suc, _+_, _≤_, _<_}
+use Prim.Native.Nat.{ℕ, zero, suc, _+_, _-_, _*_, _≤_, _<_}
 use mathlib.Core.Bool.{Bool, true, false, cond}
 use mathlib.Core.List.{List, [], _∷_}
 use native.Mathlib.Numerals.{add-one}
 use native.Mathlib.Omega.{arith}
-use borrow.Author.Tests.{eq-eqb, ne-eqb}
-use lib.Dec.{eqb}
+use borrow.Author.Tests.{eq-eqb, ne-eqb, ltb-false}
+use lib.Dec.{eqb, ltb}
 use lib.ListN.{length, getD, drop}
 use lib.Seq.{drop-cons, drop-length}
-use Rattle.arguments.specs.Arguments.{same, digitAfter, numberFrom, readNumber}
+use Rattle.arguments.specs.Arguments.{same, withDigit, digitAfter, numberFrom, readNumber}
 use Rattle.arguments.specs.Numbers.{Read, turnOf, readFrom}
 use Rattle.arguments.specs.declared.digit.Number.{Number}
 use Rattle.arguments.specs.declared.digit.Number.the-variants as N
@@ -65,6 +65,31 @@ pub number-starts : (most : ℕ) (text : List ℕ) → (length text ≡ 0 → �
 unfolding readNumber
 number-starts most [] h = absurd (h refl)
 number-starts most (c ∷ cs) h = refl
+
+-- a number with one digit more is at most the largest
+digit-below : (most : ℕ) (r : Number) (c n : ℕ) → digitAfter most r c ≡ N.Value n → n ≤ most
+unfolding digitAfter withDigit
+digit-below most (N.Value k) c n e = go (ltb c 48) (ltb 57 c) (ltb most (k * 10 + (c - 48))) refl e
+  where
+    go : (s t u : Bool) → ltb most (k * 10 + (c - 48)) ≡ u
+        → cond s N.Nothing (cond t N.Nothing (cond u N.Nothing (N.Value (k * 10 + (c - 48))))) ≡ N.Value n → n ≤ most
+    go true t u f e = let z : _≡_ {A = ℕ} 0 1 = cc in absurd (omega arith)
+    go false true u f e = let z : _≡_ {A = ℕ} 0 1 = cc in absurd (omega arith)
+    go false false true f e = let z : _≡_ {A = ℕ} 0 1 = cc in absurd (omega arith)
+    go false false false f e = let same : k * 10 + (c - 48) ≡ n = cc in omega (arith, ltb-false most (k * 10 + (c - 48)) f, same)
+digit-below most N.Nothing c n e = let z : _≡_ {A = ℕ} 0 1 = cc in absurd (omega arith)
+
+-- a number that was read is at most the largest
+below-from : (most : ℕ) (text : List ℕ) (r : Number) (m : ℕ) → ((n : ℕ) → r ≡ N.Value n → n ≤ most) → numberFrom most r text ≡ N.Value m → m ≤ most
+unfolding numberFrom
+below-from most [] r m h e = h m e
+below-from most (c ∷ cs) r m h e = below-from most cs (digitAfter most r c) m (digit-below most r c) e
+
+pub number-below : (most : ℕ) (text : List ℕ) (m : ℕ) → readNumber most text ≡ N.Value m → m ≤ most
+unfolding readNumber
+number-below most [] m e = let z : _≡_ {A = ℕ} 0 1 = cc in absurd (omega arith)
+number-below most (c ∷ cs) m e =
+    below-from most (c ∷ cs) (N.Value 0) m (λ n f. let z : 0 ≡ n = cc in omega arith) e
 
 -- ---- numbers separated by white space
 

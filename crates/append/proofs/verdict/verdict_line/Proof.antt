@@ -1,0 +1,39 @@
+-- `verdict_line` puts the line of each of the three cases.
+-- Assumes nothing.
+use borrow.Author.Needs.{needs}
+use Rattle.journal.specs.Answers.{appendMeaning}
+use Rattle.append.specs.Verdict.{wordExtended, wordDeclined, verdictLine}
+use Rattle.append.proofs.verdict.verdict_line.Statement.{statement}
+use Rattle.append.proofs.verdict.verdict_line.Tie as tie
+
+returns : tie.Need-returns
+unfolding verdictLine appendMeaning wordExtended
+returns c = rw (c .before .before .before .before .before .before .answer .given .1) (c .before .before .put-word .ensures)
+
+returns-2 : tie.Need-returns-2
+unfolding verdictLine appendMeaning wordDeclined
+returns-2 c = rw (c .before .before .before .before .before .before .answer2 .given .1) (c .before .before .put-word2 .ensures)
+
+returns-3 : tie.Need-returns-3
+unfolding verdictLine appendMeaning
+returns-3 c = rw (c .before .before .before .before .before .answer3 .given .1) (c .before .before .put-damage .ensures)
+
+pub verdict-line-spec : {M : Type 1} → statement M
+verdict-line-spec =
+    tie.close
+    (tie.spec
+    (λ c. search needs)
+    (λ c. search needs)
+    (λ c κs. search needs)
+    (λ c. search needs)
+    (λ c. search needs)
+    (λ c. search needs)
+    (λ c κs. search needs)
+    (λ c. search needs)
+    (λ c κs. search needs)
+    (λ c. search needs)
+    returns
+    (λ c. search needs)
+    returns-2
+    (λ c. search needs)
+    returns-3)

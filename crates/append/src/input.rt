@@ -1,0 +1,87 @@
+// The arguments behind the file's name. More bytes of a name or more chances than a record holds are passed on, so that the library
+// declines them: there is room for one more than the format allows.
+ghost use mathlib.Core.Path.{_≡_};
+ghost use Prim.Native.Nat.{ℕ, _<_, _≤_, _^_};
+ghost use lib.ListN.{length};
+ghost use Rattle.io.specs.Counts.{Counts};
+ghost use Rattle.arguments.specs.declared.digit.Number.the-variants as N;
+use arguments::Number;
+
+// The largest day.
+const MAX_DAY: u32 = 65_535;
+
+// How many chances are stored, and which argument is no chance, counted from 1, or 0.
+pub(crate) struct Counted {
+    pub(crate) count: usize,
+    pub(crate) wrong: usize,
+}
+
+// The day.
+pub(crate) fn day() -> Number
+    ensures { λ r. ⌜ ((n : ℕ) → r ≡ N.Value n → n < 2 ^ 16) ⌝ }
+{
+    let mut word = [0u8; 32];
+    let size = os::arg(2, &mut word);
+    arguments::read_number(&word[..size], MAX_DAY)
+}
+
+// The name, or as much of it as there is room for; how many bytes of the buffer it takes.
+pub(crate) fn name(out: &mut [u8]) -> usize
+    ensures { λ r. ⌜ Counts r (now (out .exit)) ⌝ }
+{
+    let size = os::arg(3, out);
+    if os::errno() == libc::ENAMETOOLONG {
+        return out.len();
+    }
+    size
+}
+
+// The chances, as many as there is room for. All are read, so that one that is no number is found.
+pub(crate) fn chances(out: &mut [u32]) -> Counted
+    ensures { λ r. ⌜ Counts (r .count) (now (out .exit)) ⌝ }
+{
+    let end = os::arg_count();
+    let mut i = 4;
+    let mut count = 0;
+    while i < end {
+        match chance(i) {
+            Number::Value(n) => {
+                count = store(out, count, n);
+                i += 1;
+            }
+            Number::Nothing => {
+                return Counted {
+                    count,
+                    wrong: i - 3,
+                };
+            }
+        }
+    }
+    Counted { count, wrong: 0 }
+}
+
+// The chance of an argument.
+fn chance(i: usize) -> Number {
+    let mut word = [0u8; 32];
+    let size = os::arg(i, &mut word);
+    arguments::read_number(&word[..size], u32::MAX)
+}
+
+// Stores a number where there is room for it, and answers the place behind it.
+fn store(out: &mut [u32], at: usize, n: u32) -> usize
+    requires { ⌜ at ≤ length (now out) ⌝ }
+    ensures { λ r. ⌜ r ≤ length (now (out .exit)) ⌝ }
+{
+    if at < out.len() {
+        out[at] = n;
+        return at + 1;
+    }
+    at
+}
+
+// Room for as many ticks as 65,536 bytes of text can hold.
+pub(crate) fn ticks_room() -> [u32; 32_768]
+    ensures { λ r. ⌜ 32_768 ≡ length r ⌝ }
+{
+    [0; 32_768]
+}

@@ -1,0 +1,53 @@
+// Appends a record to a journal file, document 01's volume: append FILE DAY NAME CHANCE.. with the ticks on standard input.
+// The last line of the output is the verdict; what is wrong with the arguments, the input or the file is said on standard error.
+mod extend;
+mod file;
+mod input;
+mod output;
+mod verdict;
+
+ghost use lib.ListN.{length};
+use arguments::Number;
+
+fn main() {
+    if os::arg_count() < 4 {
+        output::usage();
+        return;
+    }
+    match input::day() {
+        Number::Value(day) => append_on(day as u16),
+        Number::Nothing => output::complain(b"DAY: not a decimal number from 0 to 65535"),
+    }
+}
+
+// The other arguments, where the day is one.
+fn append_on(day: u16) {
+    let mut name = [0u8; 33];
+    let name_size = input::name(&mut name);
+    let mut chances = [0u32; 9];
+    let read = input::chances(&mut chances);
+    let count = read.count;
+    if read.wrong > 0 {
+        output::malformed(b"CHANCE", read.wrong);
+        return;
+    }
+    append_ticks(day, &name[..name_size], &chances[..count]);
+}
+
+// The ticks, where the arguments are as they should be.
+fn append_ticks(day: u16, name: &[u8], chances: &[u32]) {
+    let mut text = io::large_buffer();
+    let size = io::read_full(0, &mut text);
+    if !lines::input_ended() {
+        output::complain(b"standard input: it cannot be read, or has more than 65536 bytes");
+        return;
+    }
+    let mut ticks = input::ticks_room();
+    let read = arguments::read_numbers(&text[..size], u32::MAX, &mut ticks);
+    let count = read.count;
+    let pending = read.pending;
+    match pending {
+        Number::Value(_) => file::append_to_file(day, name, chances, &ticks[..count]),
+        Number::Nothing => output::malformed_tick(count),
+    }
+}

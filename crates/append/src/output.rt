@@ -1,0 +1,73 @@
+// Standard output: the verdict, or the help that was asked for. Standard error: what is wrong.
+// Each line on standard error starts with the program's name.
+use crate::verdict::verdict_line;
+use journal::Appended;
+
+// The verdict, as the last line of the output.
+pub(crate) fn print_verdict(answer: Appended) {
+    let mut out = [0u8; listing::MAX_LINE];
+    let size = verdict_line(answer, &mut out);
+    if !io::write_all(1, &out[..size]) {
+        os::fail(b"append: standard output");
+    }
+}
+
+// What the last call that failed says of a file.
+pub(crate) fn fail_file(path: &[u8]) {
+    io::write_all(2, b"append: ");
+    os::fail(path);
+}
+
+// A line of its own.
+pub(crate) fn complain(what: &[u8]) {
+    io::write_all(2, b"append: ");
+    io::write_all(2, what);
+    io::write_all(2, b"\n");
+}
+
+// The argument of a kind, counted from 1, that is no number.
+pub(crate) fn malformed(what: &[u8], which: usize) {
+    io::write_all(2, b"append: ");
+    io::write_all(2, what);
+    io::write_all(2, b" ");
+    io::print_decimal(2, which as u64);
+    io::write_all(2, b": not a decimal number from 0 to 4294967295\n");
+}
+
+// The tick behind so many that is no number.
+pub(crate) fn malformed_tick(before: usize) {
+    if before < 32_768 {
+        malformed(b"standard input: tick", before + 1);
+    }
+}
+
+// The help, if it is what the first argument asks for; fewer arguments than are needed are wrong.
+pub(crate) fn usage() {
+    let mut word = [0u8; 6];
+    let size = os::arg(1, &mut word);
+    if arguments::is_help(&word[..size]) {
+        help();
+    } else {
+        complain(b"it takes FILE DAY NAME CHANCE.., or --help");
+    }
+}
+
+fn help() {
+    io::write_all(1, b"usage: append FILE DAY NAME CHANCE.. < TICKS\n");
+    io::write_all(
+        1,
+        b"Appends a record to the volume FILE, which is made if it is missing. The day counts from 1 January 2000,\n",
+    );
+    io::write_all(
+        1,
+        b"a chance is in a million, a tick is ten microseconds; the ticks are decimal, separated by white space.\n",
+    );
+    io::write_all(
+        1,
+        b"The limits are worked out. A torn end is written over. The last line is the verdict: extended with the\n",
+    );
+    io::write_all(
+        1,
+        b"volume's new length, declined with the refusal's number, or damaged with the fault's number and place.\n",
+    );
+}
