@@ -1,25 +1,23 @@
 -- What becomes of an offer, as the code finds it: declined, no room, or its first bytes are written after the committed length.
 -- And append, whose budget is the longest journal, is the call with all of the record for a budget. Assumes nothing.
-use mathlib.Core.Path.{_≡_, refl, sym, ap, ap₂, _∙_}
-use Prim.Native.Nat.{ℕ, zero, suc, _+_, _-_, _*_, _≤_, _<_, min}
+use mathlib.Core.Path.{_≡_, refl, sym, ap, _∙_}
+use Prim.Native.Nat.{ℕ, zero, suc, _+_, _-_, _≤_, _<_, min}
 use mathlib.Core.Bool.{true, false}
-use mathlib.Core.List.{List, [], _∷_, _++_}
+use mathlib.Core.List.{List, [], _++_}
 use native.Mathlib.Omega.{arith}
-use lib.ListN.{length, take, drop, length-map}
+use lib.ListN.{length, take, drop}
 use lib.Seq.{take-all}
 use lib.Dec.{leb}
 use borrow.Author.Tests.{leb-true}
-use Rattle.journal_spec.specs.Refusals.{roomRefusal, unless, firstOf}
+use Rattle.journal_spec.specs.Refusals.{roomRefusal}
 use Rattle.journal_spec.specs.Record.{Record, Last, lastOf, recordBytes}
 use Rattle.journal_spec.specs.Scan.{maxLength, recordsOf, Contents, standing, faulty, contentsOf}
-use Rattle.journal_spec.specs.Append.{Offer, limitsOf, offered, judgeRoom, offerRefusal, appendRefusal, extended, declined, Outcome, written, unchanged}
+use Rattle.journal_spec.specs.Append.{Offer, limitsOf, offered, judgeRoom, offerRefusal, appendRefusal, written, unchanged}
 use Rattle.journal_spec.specs.Append.{extend, settle, appendTo, appendUpto, appendOf}
-use Rattle.journal_spec.specs.Append as Append
 use Rattle.journal_spec.specs.Wrote.{Wrote}
 use Rattle.journal_spec.proofs.Judging.{unless-none, unless-true, unless-false, first-none}
 use Rattle.journal_spec.proofs.Reading.{by-order}
 use Rattle.journal_spec.proofs.Writing.{lent-wrote}
-use Rattle.journal.specs.declared.Fault.{Fault}
 use Rattle.journal.specs.declared.Appended.the-variants as A
 use Rattle.journal.specs.Offering.{offerFrom, recordFrom}
 use Rattle.journal.specs.Answers.{appendMeaning, lengthAfter, outcomeOf}

@@ -1,8 +1,8 @@
 -- An offer's refusals in document 01's order, as the code finds them: each one holds where those before it do not.
 -- Assumes nothing.
-use mathlib.Core.Path.{_≡_, refl, sym, ap, _∙_}
-use Prim.Native.Nat.{ℕ, suc, _≤_, _<_}
-use mathlib.Core.Bool.{true, false}
+use mathlib.Core.Path.{_≡_, sym, _∙_}
+use Prim.Native.Nat.{ℕ, _≤_, _<_}
+use mathlib.Core.Bool.{true}
 use mathlib.Core.List.{List, [], _∷_}
 use native.Mathlib.Omega.{arith}
 use lib.ListN.{length}
@@ -15,8 +15,8 @@ use Rattle.limit.specs.Times.{minCount, maxCount, timesInRange}
 use Rattle.limit.specs.Sums.{sumsOf, gatherOf}
 use Rattle.limit.specs.Answer.{timesRefusal}
 use Rattle.limit.proofs.Gathered.{gathered-within, gathered-outside}
-use Rattle.journal_spec.specs.Refusals.{dayRefusal, unless, firstOf}
-use Rattle.journal_spec.specs.Section.{Section, sectionRefusal}
+use Rattle.journal_spec.specs.Refusals.{dayRefusal, firstOf}
+use Rattle.journal_spec.specs.Section.{sectionRefusal}
 use Rattle.journal_spec.specs.Record.{Last, judgeDay, nameSection, chanceSection, timeSection, minName, maxName, minChances, maxChances}
 use Rattle.journal_spec.specs.Append.{Offer, limitsRefusal, offerRefusal}
 use Rattle.journal_spec.proofs.Judging.{unless-true, unless-false, first-none, outside-none}

@@ -14,7 +14,7 @@ use Rattle.limit.specs.declared.Answer.{Answer}
 use Rattle.limit.specs.declared.Answer.the-variants as W
 use Rattle.limit.specs.Times.{timesInRange}
 use Rattle.limit.specs.Sums.{sumsOf}
-use Rattle.limit.specs.Answer.{LimitResult, limited, refused, finiteRefusal, meaning}
+use Rattle.limit.specs.Answer.{limited, refused, finiteRefusal, meaning}
 use Rattle.limit.specs.Limit.{limitOf, limitOfSums}
 use Rattle.limit.proofs.Agreement.{limit-of-sums-agrees}
 use Rattle.journal_spec.specs.Refusals.{firstOf}

@@ -1,7 +1,6 @@
 // An offered record joins a journal that stands: the check, then the room, then the bytes, from the committed length onward.
 // Every check is over before the first byte is written.
 ghost use mathlib.Core.Path.{_≡_};
-ghost use mathlib.Core.List.{List};
 ghost use Prim.Native.Nat.{ℕ, _+_, _*_, _≤_, min};
 ghost use lib.Dec.{leb};
 ghost use lib.ListN.{length, take};

@@ -1,13 +1,12 @@
 -- `extend_by` declines what the check refuses, and else hands the record with the limits' bits on.
 -- Assumes nothing.
 use mathlib.Core.Path.{_≡_, sym, _∙_}
-use Prim.Native.Nat.{ℕ}
 use native.Mathlib.Omega.{arith}
 use borrow.Author.Needs.{needs}
-use lib.ListN.{length, take, length-take}
+use lib.ListN.{length, length-take}
 use denote.Ref.{now}
 use Rattle.journal.specs.Records.{asLast}
-use Rattle.journal.specs.Offering.{offerFrom, recordFrom}
+use Rattle.journal.specs.Offering.{offerFrom}
 use Rattle.journal.proofs.Offered.{Few, offer-few}
 use Rattle.journal.proofs.Extending.{offer-declined, offered-record, offer-settled}
 use Rattle.journal.proofs.extend.extend_by.Statement.{statement}

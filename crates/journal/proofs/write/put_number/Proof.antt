@@ -1,7 +1,7 @@
 -- `put_number` writes one byte a turn: its loop keeps what of the number is still to be written.
 -- The measure is the number of bytes left. Assumes nothing.
 use mathlib.Core.Path.{_≡_, refl}
-use Prim.Native.Nat.{ℕ, _-_, _%_}
+use Prim.Native.Nat.{_%_}
 use native.Mathlib.Omega.{arith}
 use lib.ListN.{drop}
 use denote.Ref.{now}
