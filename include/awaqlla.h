@@ -36,4 +36,10 @@ uint64_t journal_mark(const uint8_t *v, size_t size, size_t len, size_t i);
 void journal_append_upto(uint8_t *v, size_t size, size_t len, uint16_t day, const uint8_t *name, size_t name_len,
     const uint32_t *chances, size_t chances_len, const uint32_t *times, size_t times_len, size_t budget, uint64_t out[3]);
 
+/* Line i, counted from 0, of the listing of the journal that is all of the len bytes at v: a line for each record, then the end state's, each
+   with its line end. As much of it as there is room for is written to the size bytes at out; the answer is how many bytes those are,
+   0 behind the last line. JOURNAL_MAX_LINE bytes have room for every line. Each call scans the journal. */
+#define JOURNAL_MAX_LINE 233
+size_t journal_line(const uint8_t *v, size_t len, size_t i, uint8_t *out, size_t size);
+
 #endif

@@ -3,3 +3,4 @@
 pub mod Append
 pub mod Journal
 pub mod Limit
+pub mod Line

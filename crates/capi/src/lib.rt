@@ -3,4 +3,5 @@
 pub mod append;
 pub mod journals;
 pub mod limits;
+pub mod line;
 pub mod quantile;
