@@ -2,7 +2,6 @@
 // The lines at the end say how often each kind of answer came.
 
 mod alter;
-#[cfg(append)]
 mod histories;
 mod reading;
 mod run;
@@ -13,6 +12,5 @@ use crate::tally::Totals;
 
 pub fn compare(options: &Options, totals: &mut Totals) {
     reading::compare(options, totals);
-    #[cfg(append)]
     histories::compare(options, totals);
 }

@@ -69,7 +69,6 @@ pub fn journal_mark(v: &[u8], len: usize, i: usize) -> u64 {
 }
 
 /// What an append offers.
-#[cfg(append)]
 pub struct Offer<'a> {
     pub day: u16,
     pub name: &'a [u8],
@@ -78,7 +77,6 @@ pub struct Offer<'a> {
 }
 
 /// The append of an offer up to a budget: {0, length, 0}, {1, declined by, 0} or {2, number, place}.
-#[cfg(append)]
 pub fn journal_append_upto(v: &mut [u8], len: usize, offer: Offer, budget: usize) -> [u64; 3] {
     unsafe extern "C" {
         fn journal_append_upto(
