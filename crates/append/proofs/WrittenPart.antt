@@ -7,12 +7,12 @@ use mathlib.Core.List.{List, [], _∷_, _++_}
 use native.Mathlib.Omega.{arith}
 use borrow.Author.Tests.{leb-true, leb-false}
 use lib.Dec.{leb, eqb}
-use lib.ListN.{length, take, drop, length-take, length-drop}
-use Rattle.journal_spec.specs.Refusals.{unless, firstOf}
+use lib.ListN.{length, take, length-take, length-drop}
 use Rattle.journal_spec.specs.Reader.{Found, found, fault, short, run}
 use Rattle.journal_spec.specs.Record.{Record, Last, lastOf, recordReader, recordBytes}
 use Rattle.journal_spec.specs.Scan.{maxLength, Placed, recordsOf, Contents, standing, faulty, contentsFrom, contentsOf, statusOf, scanOf, whole, torn}
-use Rattle.journal_spec.specs.Append.{AppendResult, Outcome, Offer, offered, judgeRoom, offerRefusal, appendRefusal, unchanged, extend, settle, appendTo, appendUpto, appendOf}
+use Rattle.journal_spec.specs.Append.{Offer, offered, AppendResult, Outcome, judgeRoom, appendRefusal, appendOf}
+use Rattle.journal_spec.specs.Append.{unchanged, extend, settle, appendTo, appendUpto}
 use Rattle.journal_spec.proofs.Judging.{first-none, unless-none}
 use Rattle.journal_spec.proofs.Reading.{run-left}
 use Rattle.journal_spec.proofs.Scanning.{turn-short, turn-fault, turn-found, contents-fits, contents-long}

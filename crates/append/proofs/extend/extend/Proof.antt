@@ -1,15 +1,9 @@
 -- `extend` appends, and answers the part that is written; it lies inside the slice.
 -- Assumes nothing.
-use mathlib.Core.Path.{_≡_, refl, sym, ap, _∙_}
-use Prim.Native.Nat.{ℕ}
 use native.Mathlib.Omega.{arith}
 use borrow.Author.Needs.{needs}
 use denote.Ref.{now}
-use Rattle.journal_spec.specs.Append.{Outcome}
-use Rattle.journal_spec.specs.Scan.{ScanResult}
-use Rattle.journal.specs.Answers.{appendMeaning, outcomeOf}
 use Rattle.journal.specs.Offering.{offerOf}
-use Rattle.append.specs.Extension.{committedIn, endIn}
 use Rattle.append.proofs.WrittenPart.{extends-inside}
 use Rattle.append.proofs.extend.extend.Statement.{statement}
 use Rattle.append.proofs.extend.extend.Tie as tie
@@ -20,7 +14,8 @@ returns c =
     let started = c .before .before .before .before .before in
     let a = c .before .before .before .before .before .before .before .before .before .before .before .before .args in
     extends-inside (now (a .v)) (a .len) (offerOf (a .day) (now (a .name)) (now (a .chances)) (now (a .times)))
-    (appended .result) (started .before .scan .result) (started .committed-in .result) (c .end-in .result) _ (appended .ensures) (started .before .scan .ensures)
+    (appended .result) (started .before .scan .result) (started .committed-in .result) (c .end-in .result) _
+    (appended .ensures) (started .before .scan .ensures)
     (started .committed-in .ensures) (c .end-in .ensures) (omega arith)
 
 pub extend-spec : {M : Type 1} → statement M
