@@ -6,14 +6,16 @@ use inputs::journal::{LARGEST, SMALLEST};
 use inputs::quantile::{chance, BELOW_ONE, CHANCES, ONE_TO_TWO};
 use inputs::random::Random;
 use original::steps;
-use ours::{number, Step};
-use reference::samples::full;
-use reference::scan::{scan, Status};
+use ours::{number, Offer, Step};
+use reference::samples::{filling, full};
+use reference::scan::{scan, Status, MAX_LENGTH};
+use std::cell::RefCell;
 use std::hint::black_box;
 use std::time::{Duration, Instant};
 
 type OnBits = extern "C" fn(u64) -> u64;
 type OnJournal = fn(&[u8]) -> u64;
+type OnPart = fn(&RefCell<Vec<u8>>, usize) -> u64;
 
 /// Calls in a turn, and turns of each side; the least time of a turn counts.
 const CALLS: usize = 2_000;
@@ -35,6 +37,7 @@ fn main() {
         ),
     );
     scan_rows(&mut random);
+    append_rows(&mut random);
 }
 
 /// The scan of full journals beside rust/reference's, in bytes a second.
@@ -57,6 +60,41 @@ fn scan_rows(random: &mut Random) {
             ours / rust
         );
     }
+}
+
+/// The append of a largest record to journals of rising length, beside the scan of the same journal: what is left is the record's own cost.
+/// Each call finds the journal as it was, since the length that it is given stays.
+fn append_rows(random: &mut Random) {
+    println!();
+    println!("| append of 652 bytes to a journal of | append, ns | scan of it, ns | the rest, ns |");
+    println!("|---|---|---|---|");
+    for len in [0, 16_384, 32_768, 64_000] {
+        let mut slice = filling(random, len, |_| LARGEST);
+        slice.resize(MAX_LENGTH, 0);
+        let journal = RefCell::new(slice);
+        let times = race([append_largest as OnPart, scan_part], &[len; 4], |call, len| {
+            call(&journal, *len)
+        });
+        let [append, scan] = times.map(|time| time.as_secs_f64() * 1e9 / 4.0);
+        println!("| {len} bytes | {append:.0} | {scan:.0} | {:.0} |", append - scan);
+    }
+}
+
+fn append_largest(journal: &RefCell<Vec<u8>>, len: usize) -> u64 {
+    let times: [u32; 128] = std::array::from_fn(|i| 1000 + i as u32);
+    let offer = Offer {
+        day: u16::MAX,
+        name: &[b'A'; 32],
+        chances: &[1, 10, 100, 1_000, 10_000, 100_000, 250_000, 500_000],
+        times: &times,
+    };
+    let answer = ours::journal_append_upto(&mut journal.borrow_mut(), len, offer, usize::MAX);
+    assert_eq!(answer, [0, (len + LARGEST) as u64, 0]);
+    answer[1]
+}
+
+fn scan_part(journal: &RefCell<Vec<u8>>, len: usize) -> u64 {
+    ours::journal_scan(&journal.borrow(), len)[1]
 }
 
 /// The number of records that stand, where the journal is whole.
