@@ -1,6 +1,5 @@
 // Prints the listing of a journal, document 01's volume, that it reads from standard input: a line for each record, then the end state.
 // The lines are made by crate listing, whose theorem `lines-joined` says that they are the listing; here they are read and written.
-mod input;
 mod output;
 
 fn main() {
@@ -8,9 +7,9 @@ fn main() {
         output::usage();
         return;
     }
-    let mut room = input::room();
+    let mut room = arguments::journal_room();
     let size = io::read_full(0, &mut room);
-    if input::is_read(size) {
+    if arguments::journal_is_read(0, size) {
         output::print_listing(&room[..size]);
     } else {
         os::fail(b"list: standard input");

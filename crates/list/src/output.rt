@@ -45,7 +45,7 @@ fn print_line(v: &[u8], cursor: Cursor) -> Printed
 pub(crate) fn usage() {
     let mut word = [0u8; 6];
     let size = os::arg(1, &mut word);
-    if is_help(&word[..size]) {
+    if arguments::is_help(&word[..size]) {
         io::write_all(1, b"usage: list < VOLUME\n");
         io::write_all(
             1,
@@ -65,17 +65,4 @@ pub(crate) fn usage() {
             b"list: it takes no argument but --help, and a volume on standard input\n",
         );
     }
-}
-
-// Whether a word is `--help`.
-fn is_help(word: &[u8]) -> bool {
-    if word.len() != 6 {
-        return false;
-    }
-    word[0] == 45
-        && word[1] == 45
-        && word[2] == 104
-        && word[3] == 101
-        && word[4] == 108
-        && word[5] == 112
 }
