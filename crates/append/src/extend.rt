@@ -6,7 +6,7 @@ ghost use lib.ListN.{length};
 ghost use Rattle.journal_spec.specs.Append.{appendOf};
 ghost use Rattle.journal_spec.specs.Scan.{maxLength, scanOf};
 ghost use Rattle.journal.specs.Answers.{meaning, appendMeaning};
-ghost use Rattle.journal.specs.Offering.{offerOf};
+ghost use Rattle.journal.specs.Offering.{offerFrom};
 ghost use Rattle.append.specs.Extension.{committedIn, endIn, Extends};
 use journal::Appended;
 use journal::Status;
@@ -27,7 +27,7 @@ pub fn extend(
     chances: &[u32],
     times: &[u32],
 ) -> Extension
-    ensures { λ r. ⌜ Extends (now (v .entry)) len (offerOf day (now (name .entry)) (now (chances .entry)) (now (times .entry)))
+    ensures { λ r. ⌜ Extends (now (v .entry)) len (offerFrom day (now (name .entry)) (now (chances .entry)) (now (times .entry)))
         r (now (v .exit)) ⌝ }
     ensures { λ r. ⌜ (r .start ≤ r .end) × (r .end ≤ length (now (v .exit))) × (r .start ≤ maxLength) ⌝ }
 {
