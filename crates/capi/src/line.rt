@@ -1,5 +1,5 @@
 // One line of the listing of a journal that is all of a slice: a record's line for each record, then the line of the end state.
-// Each call scans the journal; a program that prints a long listing calls crate listing's functions in turn instead.
+// Each call scans the journal, so that no state stands between calls; a Rattle program calls crate listing's functions in turn instead.
 ghost use mathlib.Core.Path.{_≡_};
 ghost use Rattle.hex.specs.Text.{Put};
 ghost use Rattle.listing.specs.Lines.{positionOf, step};

@@ -1,2 +1,2 @@
--- What the program needs of the listing.
+-- The program's proofs need no law of its own: those of the listing stand in crate listing.
 -- Assumes nothing.
