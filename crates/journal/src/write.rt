@@ -1,21 +1,23 @@
 // Writes a record's bytes, front to back, into the part of the slice that is lent, as far as the budget's end.
-// Every byte goes through `step`, which writes the next one and no other.
+// Every byte goes through `step`, which writes the next one and no other; a writer's place advances through `step` alone.
 ghost use mathlib.Core.Path.{_≡_};
 ghost use Prim.Native.Nat.{_≤_, _<_};
-ghost use lib.ListN.{length, set};
+ghost use lib.ListN.{length};
 ghost use Rattle.journal_spec.specs.Bytes.{bytesOf};
 ghost use Rattle.journal_spec.specs.Section.{sectionBytes};
 ghost use Rattle.journal_spec.specs.Record.{recordBytes};
 ghost use Rattle.journal_spec.specs.Wrote.{Wrote};
+ghost use Rattle.journal.specs.Stepped.{Stepped};
 ghost use Rattle.journal.specs.Offering.{recordFrom};
 use crate::record::FORM;
 
-// The next byte, and no other.
-fn step(part: &mut [u8], at: usize, x: u8)
+// The next byte, and no other. Answers the place after it.
+fn step(part: &mut [u8], at: usize, x: u8) -> usize
     requires { ⌜ at < length (now part) ⌝ }
-    ensures { λ _. ⌜ now (part .exit) ≡ set (now (part .entry)) at x ⌝ }
+    ensures { λ r. ⌜ Stepped (now (part .entry)) at x r (now (part .exit)) ⌝ }
 {
     part[at] = x;
+    at + 1
 }
 
 // A number in w bytes, the lowest first, from a place on. Answers the place after the last byte written.
@@ -30,9 +32,8 @@ fn put_number(part: &mut [u8], at: usize, end: usize, w: usize, x: u64) -> usize
         if end <= p {
             return p;
         }
-        step(part, p, (v % 256) as u8);
+        p = step(part, p, (v % 256) as u8);
         v = v / 256;
-        p += 1;
         left -= 1;
     }
     p

@@ -51,7 +51,8 @@ loop-again c =
     let q = l .inv .0 in
     let new = bytesOf (a .w) (a .x) in
     let n = byte-next new (q .count) (l .left) (l .v) (l .inv .1) (omega arith) in
-    rw (c .before .before .step .ensures) (
+    let s = c .before .before .step .ensures in
+    rw (s .place, s .bytes) (
       put-turn (now (a .part)) (a .at) (a .end) new (l .part) (l .p) q (l .v % 256) (omega arith)
           (omega (arith, bytes-left new (q .count) (l .left) (l .v) (l .inv .1))) (n .0),
       n .1,
@@ -83,7 +84,6 @@ put-number-spec =
     returns
     (λ c. omega arith)
     step-requires
-    (λ c. omega arith)
     (λ c. omega arith)
     (λ c. omega arith)
     loop-again
