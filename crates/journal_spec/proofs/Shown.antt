@@ -84,22 +84,63 @@ good-at before [] i f h = absurd (omega arith)
 good-at before (r ∷ rs) zero f h = (lastOf before, f .0)
 good-at before (r ∷ rs) (suc i) f h = good-at (before ++ r ∷ []) rs i (f .1) (omega arith)
 
-finished-at : (room : ℕ) (m : Model) (cs : List Call) (i : ℕ) → i < length (finished room m cs)
-    → (c : Call) × (getD (finished room m cs) i blank ≡ recordOf c)
+-- the call of the list that the i-th finished record is of: it finishes when its turn comes, and i calls before it have finished
+record FinishedAt (room : ℕ) (m : Model) (cs : List Call) (i : ℕ) : Type 0 where
+  before : List Call
+  call : Call
+  others : List Call
+  parts : cs ≡ before ++ call ∷ others
+  whole : finishes room (modelAfter room m before) call ≡ true
+  place : i ≡ length (finished room m before)
+  is : getD (finished room m cs) i blank ≡ recordOf call
+
+at-first : (room : ℕ) (m : Model) (c : Call) (cs : List Call) → finishes room m c ≡ true → FinishedAt room m (c ∷ cs) 0
+unfolding finished modelAfter
+at-first room m c cs e = record { before = []; call = c; others = cs; parts = refl; whole = e; place = refl; is = rw e refl }
+
+-- behind a first record or none, the place is one more or the same
+place-later : (b : Bool) (r : Record) (rs : List Record) (i : ℕ) → i ≡ length rs → cond b (suc i) i ≡ length (cond b (r ∷ []) [] ++ rs)
+place-later true r rs i e = ap suc e
+place-later false r rs i e = e
+
+getD-later : (b : Bool) (r : Record) (rs : List Record) (i : ℕ) → getD (cond b (r ∷ []) [] ++ rs) (cond b (suc i) i) blank ≡ getD rs i blank
+getD-later true r rs i = refl
+getD-later false r rs i = refl
+
+at-later : (room : ℕ) (m : Model) (c : Call) (cs : List Call) (b : Bool) → finishes room m c ≡ b → (i : ℕ)
+    → FinishedAt room (enter room m c .model) cs i → FinishedAt room m (c ∷ cs) (cond b (suc i) i)
+unfolding finished modelAfter
+at-later room m c cs b e i f = record {
+  before = c ∷ f .before;
+  call = f .call;
+  others = f .others;
+  parts = ap (λ (l : List Call). c ∷ l) (f .parts);
+  whole = f .whole;
+  place = rw e (place-later b (recordOf c) (finished room (enter room m c .model) (f .before)) i (f .place));
+  is = rw e (getD-later b (recordOf c) (finished room (enter room m c .model) cs) i ∙ f .is);
+}
+
+finished-at : (room : ℕ) (m : Model) (cs : List Call) (i : ℕ) → i < length (finished room m cs) → FinishedAt room m cs i
 unfolding finished
 finished-at room m [] i h = absurd (omega arith)
-finished-at room m (c ∷ cs) i h = by-first c (finished room (enter room m c .model) cs) (finished-at room (enter room m c .model) cs) (finishes room m c) i h
+finished-at room m (c ∷ cs) i h = by-first (finished-at room (enter room m c .model) cs) (finishes room m c) refl i h
   where
-    by-first : (c : Call) (rest : List Record) → ((i : ℕ) → i < length rest → (d : Call) × (getD rest i blank ≡ recordOf d))
-        → (b : Bool) (i : ℕ) → i < length (cond b (recordOf c ∷ []) [] ++ rest)
-        → (d : Call) × (getD (cond b (recordOf c ∷ []) [] ++ rest) i blank ≡ recordOf d)
-    by-first c rest later false i h = later i h
-    by-first c rest later true zero h = (c, refl)
-    by-first c rest later true (suc i) h = later i (omega arith)
+    by-first : ((i : ℕ) → i < length (finished room (enter room m c .model) cs) → FinishedAt room (enter room m c .model) cs i)
+        → (b : Bool) → finishes room m c ≡ b → (i : ℕ)
+        → i < length (cond b (recordOf c ∷ []) [] ++ finished room (enter room m c .model) cs) → FinishedAt room m (c ∷ cs) i
+    by-first later false e i h = at-later room m c cs false e i (later i h)
+    by-first later true e zero h = at-first room m c cs e
+    by-first later true e (suc i) h = at-later room m c cs true e i (later i (omega arith))
 
--- record i shown: the call that it is of, its bytes, what is in it, and that its part reads back as it
+-- record i shown: the call of the list that it is of, which finishes when its turn comes as the i-th that does, counted from 0;
+-- its bytes, what is in it, and that its part reads back as it
 pub record ShownRecord (slice : List ℕ) (cs : List Call) (i : ℕ) : Type 0 where
+  pub before : List Call
   pub call : Call
+  pub others : List Call
+  pub parts : cs ≡ before ++ call ∷ others
+  pub whole : finishes (length slice) (modelAfter (length slice) emptyModel before) call ≡ true
+  pub place : i ≡ length (finished (length slice) emptyModel before)
   pub part : readPart (journalAfter operations (emptyIn slice) cs .slice) (journalAfter operations (emptyIn slice) cs .len) i ≡ recordBytes (recordOf call)
   pub fields : Given (offerOf call) (recordOf call)
   pub last : Last
@@ -114,12 +155,17 @@ shown-record slice cs i h =
     rw (records-are-finished (length slice) emptyModel cs)
     at (after-all (length slice) (emptyIn slice) emptyModel (start slice) cs .holds .follow) in
     let g = good-at [] rs i follow h in
-    let good : Good (g .0) (recordOf (f .0)) = rw (f .1) at (g .1) in
-    let on = reads-record (g .0) (recordOf (f .0)) good .on 0 [] in
+    let good : Good (g .0) (recordOf (f .call)) = rw (f .is) at (g .1) in
+    let on = reads-record (g .0) (recordOf (f .call)) good .on 0 [] in
     record {
-      call = f .0;
-      part = shown-bytes slice cs i h ∙ bytes-at rs i h ∙ ap recordBytes (f .1);
-      fields = shown-fields (f .0);
+      before = f .before;
+      call = f .call;
+      others = f .others;
+      parts = f .parts;
+      whole = f .whole;
+      place = f .place;
+      part = shown-bytes slice cs i h ∙ bytes-at rs i h ∙ ap recordBytes (f .is);
+      fields = shown-fields (f .call);
       last = g .0;
       reads = rw (append-nil, zero-add) at on;
     }
