@@ -1,3 +1,4 @@
 -- The laws that the proofs of the C interface cite.
 -- Assumes nothing.
+pub mod AppendOutcome
 pub mod LineAt

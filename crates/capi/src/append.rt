@@ -1,12 +1,31 @@
-// The call with a budget, its answer in words: an append cut after so many bytes. A budget of SIZE_MAX is append itself.
+// Append and the call with a budget, an append cut after so many bytes, each with its answer in three words.
 // `v` is the slice, `len` the journal's length in it.
 ghost use mathlib.Core.Path.{_≡_};
-ghost use Rattle.journal_spec.specs.Append.{appendUpto};
+ghost use Rattle.journal_spec.specs.Append.{appendOf, appendUpto};
+ghost use Rattle.journal.specs.Answers.{appendMeaning};
 ghost use Rattle.journal.specs.Offering.{offerFrom};
 ghost use Rattle.capi.specs.Append.{appendWords};
 use journal::Appended;
 
-// 0 and the journal's length after the call; 1 and the number by which it is declined; or 2, with the fault's number and place.
+#[no_mangle]
+pub extern "C" fn journal_append(
+    v: &mut [u8],
+    len: usize,
+    day: u16,
+    name: &[u8],
+    chances: &[u32],
+    times: &[u32],
+    out: &mut [u64; 3],
+)
+    ensures { λ r. ⌜ now (v .exit)
+        ≡ appendOf (now (v .entry)) len (offerFrom day (now (name .entry)) (now (chances .entry)) (now (times .entry))) .slice ⌝ }
+    ensures { λ r. ⌜ now (out .exit) ≡ appendWords
+        (appendOf (now (v .entry)) len (offerFrom day (now (name .entry)) (now (chances .entry)) (now (times .entry))) .answer) ⌝ }
+{
+    let a = journal::append(v, len, day, name, chances, times);
+    put_words(a, out);
+}
+
 #[no_mangle]
 pub extern "C" fn journal_append_upto(
     v: &mut [u8],
@@ -24,6 +43,13 @@ pub extern "C" fn journal_append_upto(
         (appendUpto (now (v .entry)) len (offerFrom day (now (name .entry)) (now (chances .entry)) (now (times .entry))) budget .answer) ⌝ }
 {
     let a = journal::append_upto(v, len, day, name, chances, times, budget);
+    put_words(a, out);
+}
+
+// 0 and the journal's length after the call; 1 and the number by which it is declined; or 2, with the fault's number and place.
+fn put_words(a: Appended, out: &mut [u64; 3])
+    ensures { λ r. ⌜ now (out .exit) ≡ appendWords (appendMeaning a) ⌝ }
+{
     match a {
         Appended::Extended(n) => {
             *out = [0, n as u64, 0];
