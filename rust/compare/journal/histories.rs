@@ -33,17 +33,11 @@ fn answer_words(answer: Answer) -> [u64; 3] {
 }
 
 fn call_ours(v: &mut [u8], len: usize, offer: &Offer, budget: usize) -> [u64; 3] {
-    let Offer {
-        day,
-        name,
-        chances,
-        times,
-    } = offer;
     let offer = ours::Offer {
-        day: *day,
-        name,
-        chances,
-        times,
+        day: offer.day,
+        name: &offer.name,
+        chances: &offer.chances,
+        times: &offer.times,
     };
     ours::journal_append_upto(v, len, offer, budget)
 }
