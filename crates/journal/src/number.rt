@@ -6,8 +6,31 @@ ghost use lib.ListN.{length};
 ghost use Rattle.journal_spec.specs.Bytes.{numberAt};
 ghost use Rattle.journal.specs.Numbers.{numberIn};
 
-// The number in the w bytes at a place.
+// The number in the w bytes at a place. Nearly all numbers of a journal have four bytes, which the compiler reads at once
+// where they are not taken in by a loop.
 pub(crate) fn number_at(b: &[u8], at: usize, w: usize) -> u64
+    requires { ⌜ (at + w ≤ length (now b)) × (w ≤ 8) ⌝ }
+    ensures { λ r. ⌜ (r ≡ numberAt w at (now (b .entry))) × (r < 256 ^ w) ⌝ }
+{
+    if w == 4 {
+        return four_bytes_at(b, at);
+    }
+    bytes_at(b, at, w)
+}
+
+// The number in four bytes.
+fn four_bytes_at(b: &[u8], at: usize) -> u64
+    requires { ⌜ at + 4 ≤ length (now b) ⌝ }
+    ensures { λ r. ⌜ (r ≡ numberAt 4 at (now (b .entry))) × (r < 256 ^ 4) ⌝ }
+{
+    let top = b[at + 3] as u64;
+    let two = top * 256 + b[at + 2] as u64;
+    let three = two * 256 + b[at + 1] as u64;
+    three * 256 + b[at] as u64
+}
+
+// The number in any number of bytes.
+fn bytes_at(b: &[u8], at: usize, w: usize) -> u64
     requires { ⌜ (at + w ≤ length (now b)) × (w ≤ 8) ⌝ }
     ensures { λ r. ⌜ (r ≡ numberAt w at (now (b .entry))) × (r < 256 ^ w) ⌝ }
 {

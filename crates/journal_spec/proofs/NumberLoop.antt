@@ -59,6 +59,16 @@ pub gather-end : (b : List ℕ) (at w acc j : ℕ) → Gathering b at w acc j �
 unfolding numberAt
 gather-end b at w acc j g e = g .value ∙ rw e refl
 
+-- the four bytes of a number taken in one after another, as four turns do
+pub gather-four : (b : List ℕ) (at : ℕ) → at + 4 ≤ length b → ((i : ℕ) → getD b i 0 < 256)
+    → Gathering b at 4 (((getD b (at + 3) 0 * 256 + getD b (at + 2) 0) * 256 + getD b (at + 1) 0) * 256 + getD b at 0) 0
+gather-four b at fits byte =
+    let first : 0 * 256 + getD b (at + 3) 0 ≡ getD b (at + 3) 0 = omega arith in
+    let g3 : Gathering b at 4 (getD b (at + 3) 0) 3 = rw (← first) (gather-turn b at 4 0 4 _ (gather-start b at 4) (omega arith) fits refl (byte _)) in
+    let g2 = gather-turn b at 4 _ 3 (getD b (at + 2) 0) g3 (omega arith) fits refl (byte _) in
+    let g1 = gather-turn b at 4 _ 2 (getD b (at + 1) 0) g2 (omega arith) fits refl (byte _) in
+    gather-turn b at 4 _ 1 (getD b at 0) g1 (omega arith) fits (ap (λ (i : ℕ). getD b i 0) (sym (add-zero at))) (byte _)
+
 -- ---- writing
 
 -- from the i-th byte on, `new` is the number v in the bytes that are left
