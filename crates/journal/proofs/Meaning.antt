@@ -1,32 +1,72 @@
--- Two answers of an append that come to the same are the same answer and the same bytes, so that an equation for the outcome leaves
--- nothing free. Assumes nothing.
-use mathlib.Core.Path.{_≡_, ap, ap₂}
+-- Two answers with the same meaning are the same answer, and two appends that come to the same leave the same bytes: the equations of the
+-- contracts leave nothing free. For each answer there is a way back from its meaning. Assumes nothing.
+use mathlib.Core.Path.{_≡_, refl, ap}
 use Prim.Native.Nat.{ℕ}
 use mathlib.Core.List.{List}
-use native.Mathlib.Omega.{arith}
-use Rattle.journal_spec.specs.Append.{Outcome}
-use Rattle.journal.specs.declared.Fault.{Fault}
+use Rattle.limit.proofs.Meaning.{injective-by}
+use Rattle.journal_spec.specs.Scan.{ScanResult, whole, torn, damaged}
+use Rattle.journal_spec.specs.Read.{flat, few, normal, MarkResult, marked, unmarked}
+use Rattle.journal_spec.specs.Read as Read
+use Rattle.journal_spec.specs.Append.{AppendResult, extended, declined, Outcome}
+use Rattle.journal_spec.specs.Append as Append
+use Rattle.journal.specs.declared.Status.{Status}
+use Rattle.journal.specs.declared.Status.the-variants as S
+use Rattle.journal.specs.declared.Part.{Part}
+use Rattle.journal.specs.declared.Marked.{Marked}
+use Rattle.journal.specs.declared.Marked.the-variants as M
 use Rattle.journal.specs.declared.Appended.{Appended}
 use Rattle.journal.specs.declared.Appended.the-variants as A
-use Rattle.journal.specs.Answers.{appendMeaning, outcomeOf}
+use Rattle.journal.specs.Answers.{meaning, partMeaning, markMeaning, appendMeaning, outcomeOf}
 
-fault-same : (f g : Fault) → f .number ≡ g .number → f .place ≡ g .place → f ≡ g
-fault-same f g n p = ap₂ (λ (x y : ℕ). record { number = x; place = y }) n p
+statusOf : ScanResult → Status
+statusOf (whole n c) = S.Whole n c
+statusOf (torn n c) = S.Torn n c
+statusOf (damaged n p) = S.Damaged (record { number = n; place = p })
+
+pub meaning-injective : (a b : Status) → meaning a ≡ meaning b → a ≡ b
+unfolding meaning statusOf
+meaning-injective = injective-by meaning statusOf back
+  where
+    back : (s : Status) → statusOf (meaning s) ≡ s
+    back (S.Whole n c) = refl
+    back (S.Torn n c) = refl
+    back (S.Damaged f) = refl
+
+partOf : Read.Part → Part
+partOf p = record { start = p .start; size = p .size }
+
+pub part-meaning-injective : (a b : Part) → partMeaning a ≡ partMeaning b → a ≡ b
+part-meaning-injective = injective-by partMeaning partOf (λ p. unfold partMeaning partOf in refl)
+
+markedOf : MarkResult → Marked
+markedOf (marked flat) = M.Flat
+markedOf (marked few) = M.Few
+markedOf (marked normal) = M.Normal
+markedOf (unmarked n) = M.Refused n
+
+pub mark-meaning-injective : (a b : Marked) → markMeaning a ≡ markMeaning b → a ≡ b
+unfolding markMeaning markedOf
+mark-meaning-injective = injective-by markMeaning markedOf back
+  where
+    back : (m : Marked) → markedOf (markMeaning m) ≡ m
+    back M.Flat = refl
+    back M.Few = refl
+    back M.Normal = refl
+    back (M.Refused n) = refl
+
+appendedOf : AppendResult → Appended
+appendedOf (extended n) = A.Extended n
+appendedOf (declined n) = A.Declined n
+appendedOf (Append.damaged n p) = A.Damaged (record { number = n; place = p })
 
 pub append-meaning-injective : (a b : Appended) → appendMeaning a ≡ appendMeaning b → a ≡ b
-unfolding appendMeaning
-append-meaning-injective (A.Extended m) (A.Extended n) e = cc
-append-meaning-injective (A.Extended m) (A.Declined n) e = let z : _≡_ {A = ℕ} 0 1 = cc in absurd (omega arith)
-append-meaning-injective (A.Extended m) (A.Damaged g) e = let z : _≡_ {A = ℕ} 0 1 = cc in absurd (omega arith)
-append-meaning-injective (A.Declined m) (A.Extended n) e = let z : _≡_ {A = ℕ} 0 1 = cc in absurd (omega arith)
-append-meaning-injective (A.Declined m) (A.Declined n) e = cc
-append-meaning-injective (A.Declined m) (A.Damaged g) e = let z : _≡_ {A = ℕ} 0 1 = cc in absurd (omega arith)
-append-meaning-injective (A.Damaged f) (A.Extended n) e = let z : _≡_ {A = ℕ} 0 1 = cc in absurd (omega arith)
-append-meaning-injective (A.Damaged f) (A.Declined n) e = let z : _≡_ {A = ℕ} 0 1 = cc in absurd (omega arith)
-append-meaning-injective (A.Damaged f) (A.Damaged g) e =
-    let n : f .number ≡ g .number = cc in
-    let p : f .place ≡ g .place = cc in
-    ap A.Damaged (fault-same f g n p)
+unfolding appendMeaning appendedOf
+append-meaning-injective = injective-by appendMeaning appendedOf back
+  where
+    back : (a : Appended) → appendedOf (appendMeaning a) ≡ a
+    back (A.Extended n) = refl
+    back (A.Declined n) = refl
+    back (A.Damaged f) = refl
 
 pub outcome-injective : (len : ℕ) (a b : Appended) (v w : List ℕ) → outcomeOf len a v ≡ outcomeOf len b w → (a ≡ b) × (v ≡ w)
 unfolding outcomeOf

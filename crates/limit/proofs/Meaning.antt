@@ -1,15 +1,22 @@
 -- Two answers with the same meaning are the same answer, so that an equation for the meaning leaves nothing of the answer free.
 -- Assumes nothing.
-use mathlib.Core.Path.{_≡_}
-use Prim.Native.Nat.{ℕ}
-use native.Mathlib.Omega.{arith}
+use mathlib.Core.Path.{_≡_, refl, sym, ap, _∙_}
 use Rattle.limit.specs.declared.Answer.{Answer}
 use Rattle.limit.specs.declared.Answer.the-variants.{Limit, Refused}
-use Rattle.limit.specs.Answer.{meaning}
+use Rattle.limit.specs.Answer.{LimitResult, limited, refused, meaning}
+
+-- what has a way back sends no two values to one
+pub injective-by : {A B : Type 0} (f : A → B) (back : B → A) → ((a : A) → back (f a) ≡ a) → (a b : A) → f a ≡ f b → a ≡ b
+injective-by f back h a b e = sym (h a) ∙ ap back e ∙ h b
+
+answerOf : LimitResult → Answer
+answerOf (limited x) = Limit x
+answerOf (refused n) = Refused n
 
 pub meaning-injective : (a b : Answer) → meaning a ≡ meaning b → a ≡ b
-unfolding meaning
-meaning-injective (Limit x) (Limit y) e = cc
-meaning-injective (Limit x) (Refused n) e = let z : _≡_ {A = ℕ} 0 1 = cc in absurd (omega arith)
-meaning-injective (Refused m) (Limit y) e = let z : _≡_ {A = ℕ} 0 1 = cc in absurd (omega arith)
-meaning-injective (Refused m) (Refused n) e = cc
+unfolding meaning answerOf
+meaning-injective = injective-by meaning answerOf back
+  where
+    back : (a : Answer) → answerOf (meaning a) ≡ a
+    back (Limit x) = refl
+    back (Refused n) = refl

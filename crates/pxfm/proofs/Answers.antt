@@ -14,6 +14,7 @@ use lib.Ieee.Fits.{down-pos}
 use lib.Ieee.Bits.{ofBits-toBits, ofBits-fits, toBits-lt}
 use lib.Ieee.Back.{whole-unique}
 use lib.Ieee.Exact.{HasValue}
+use lib.Ieee.Scale.{finite}
 use Rattle.pxfm.specs.DoubleDouble.{one, two}
 use Rattle.pxfm.specs.Argument.{zero}
 use Rattle.pxfm.specs.Inverfc.{fErfcinv}
@@ -189,3 +190,14 @@ negative-answer x f h = outside-answer (λ x. lt x zero) below-zero-outside x f 
 
 pub above-two-answer : (x : Float) → T (fits binary64 x) → lt two x ≡ true → fErfcinv x ≡ nan
 above-two-answer x f h = outside-answer (λ x. lt two x) above-two-outside x f h
+
+-- ---- promise c
+
+-- no constant is the quantile of every double: at 0 it is infinite, at 1 it is 0
+pub constant-quantile : (c : Float) → ((x : Float) → T (fits binary64 x) → fErfcinv x ≡ c) → ⊥
+constant-quantile c h =
+    let at-zero : fErfcinv zero ≡ inf false = zero-answer zero (ofBits-fits binary64 0) (unfold eq ofBits in refl) in
+    let same : zero ≡ inf false =
+    sym at-one ∙ h one (ofBits-fits binary64 0x3ff0_0000_0000_0000) ∙ sym (h zero (ofBits-fits binary64 0)) ∙ at-zero in
+    let plain : finite zero ≡ true = unfold ofBits in refl in
+    true≢false (sym plain ∙ ap finite same)
