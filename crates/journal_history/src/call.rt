@@ -1,5 +1,9 @@
 // A call of append, or of the call with a budget, with the offer and the slice as the lines before set them up.
 // A slice or an offer larger than its buffer makes the line malformed.
+ghost use mathlib.Core.Path.{_≡_};
+ghost use lib.ListN.{length};
+ghost use Rattle.journal.specs.Answers.{appendMeaning, lengthAfter};
+ghost use Rattle.journal_history.specs.Call.{fits, told, appendCalled, appendUptoCalled};
 use crate::line::Line;
 use crate::state::State;
 use crate::state::answer;
@@ -14,24 +18,20 @@ pub(crate) fn append_upto(
     name: &[u8],
     chances: &[u32],
     times: &[u32],
-) -> State {
+) -> State
+    ensures { λ r. ⌜ r ≡ appendUptoCalled s l (now (v .entry)) (now (name .entry)) (now (chances .entry)) (now (times .entry)) .state ⌝ }
+    ensures { λ r. ⌜ now (v .exit)
+        ≡ appendUptoCalled s l (now (v .entry)) (now (name .entry)) (now (chances .entry)) (now (times .entry)) .slice ⌝ }
+{
+    let offered = s.offered;
     let size = s.size;
     let len = s.len;
     let budget = l.y as usize;
     let day = (l.x % 65536) as u16;
-    let n = s.name;
-    let c = s.chances;
-    let t = s.times;
-    if v.len() < size {
-        return malformed(s);
-    }
-    if name.len() < n {
-        return malformed(s);
-    }
-    if chances.len() < c {
-        return malformed(s);
-    }
-    if times.len() < t {
+    let n = offered.name;
+    let c = offered.chances;
+    let t = offered.times;
+    if !have_room(s, v.len(), name.len(), chances.len(), times.len()) {
         return malformed(s);
     }
     let a = journal::append_upto(
@@ -43,7 +43,7 @@ pub(crate) fn append_upto(
         &times[..t],
         budget,
     );
-    told(s, a)
+    answered_by(s, a)
 }
 
 // Append: the day is x.
@@ -54,23 +54,19 @@ pub(crate) fn append(
     name: &[u8],
     chances: &[u32],
     times: &[u32],
-) -> State {
+) -> State
+    ensures { λ r. ⌜ r ≡ appendCalled s l (now (v .entry)) (now (name .entry)) (now (chances .entry)) (now (times .entry)) .state ⌝ }
+    ensures { λ r. ⌜ now (v .exit)
+        ≡ appendCalled s l (now (v .entry)) (now (name .entry)) (now (chances .entry)) (now (times .entry)) .slice ⌝ }
+{
+    let offered = s.offered;
     let size = s.size;
     let len = s.len;
     let day = (l.x % 65536) as u16;
-    let n = s.name;
-    let c = s.chances;
-    let t = s.times;
-    if v.len() < size {
-        return malformed(s);
-    }
-    if name.len() < n {
-        return malformed(s);
-    }
-    if chances.len() < c {
-        return malformed(s);
-    }
-    if times.len() < t {
+    let n = offered.name;
+    let c = offered.chances;
+    let t = offered.times;
+    if !have_room(s, v.len(), name.len(), chances.len(), times.len()) {
         return malformed(s);
     }
     let a = journal::append(
@@ -81,11 +77,30 @@ pub(crate) fn append(
         &chances[..c],
         &times[..t],
     );
-    told(s, a)
+    answered_by(s, a)
+}
+
+// Whether the slice and what is offered stand in buffers of these lengths.
+fn have_room(s: State, v: usize, name: usize, chances: usize, times: usize) -> bool
+    ensures { λ r. ⌜ r ≡ fits s v name chances times ⌝ }
+{
+    let offered = s.offered;
+    if v < s.size {
+        return false;
+    }
+    if name < offered.name {
+        return false;
+    }
+    if chances < offered.chances {
+        return false;
+    }
+    offered.times <= times
 }
 
 // The state after an answer: only a length answered changes the journal's.
-fn told(s: State, a: Appended) -> State {
+fn answered_by(s: State, a: Appended) -> State
+    ensures { λ r. ⌜ r ≡ told s (lengthAfter (s .len) a) (appendMeaning a) ⌝ }
+{
     match a {
         Appended::Extended(n) => answer(s, n, 0, n as u64, 0),
         Appended::Declined(n) => answer(s, s.len, 1, n as u64, 0),

@@ -1,5 +1,7 @@
 // One stored line: a letter, and three numbers of 16 hexadecimal digits, single spaces between them, line end: 53 bytes.
 // tools/journal_history says what each letter asks for.
+ghost use mathlib.Core.Path.{_≡_};
+ghost use Rattle.journal_history.specs.Line.{parsedLine, parsedNumbers};
 use lines::Field;
 use lines::number_at;
 
@@ -16,7 +18,9 @@ pub(crate) enum Parsed {
 }
 
 // The line's letter and numbers.
-pub(crate) fn parse(line: &[u8]) -> Parsed {
+pub(crate) fn parse(line: &[u8]) -> Parsed
+    ensures { λ r. ⌜ r ≡ parsedLine (now (line .entry)) ⌝ }
+{
     if line.len() != 53 {
         return Parsed::Malformed;
     }
@@ -27,7 +31,9 @@ pub(crate) fn parse(line: &[u8]) -> Parsed {
 }
 
 // The numbers behind a letter.
-fn parse_numbers(line: &[u8], letter: u8) -> Parsed {
+fn parse_numbers(line: &[u8], letter: u8) -> Parsed
+    ensures { λ r. ⌜ r ≡ parsedNumbers (now (line .entry)) letter ⌝ }
+{
     match number_at(line, 2, 16) {
         Field::Value(x) => match number_at(line, 19, 16) {
             Field::Value(y) => match number_at(line, 36, 16) {

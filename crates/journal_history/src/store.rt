@@ -1,11 +1,14 @@
 // Bytes and numbers of a line put into a buffer, and two buffers compared.
 // What has no room in the buffer is left out; the comparison that follows then differs.
 ghost use mathlib.Core.Path.{_≡_};
-ghost use mathlib.Core.Bool.{true};
+ghost use lib.ListN.{length};
+ghost use Rattle.journal_history.specs.Store.{filled, bytesStored, repeated, numberStored, sameBytes};
 use crate::line::Line;
 
 // Fills a buffer with bytes that differ from place to place, by a seed.
-pub(crate) fn fill(v: &mut [u8], seed: u64) {
+pub(crate) fn fill(v: &mut [u8], seed: u64)
+    ensures { λ _. ⌜ now (v .exit) ≡ filled seed (length (now (v .entry))) ⌝ }
+{
     let mut i: usize = 0;
     while i < v.len() {
         v[i] = ((seed % 256 + (i % 256) as u64 * 7) % 256) as u8;
@@ -14,7 +17,9 @@ pub(crate) fn fill(v: &mut [u8], seed: u64) {
 }
 
 // The y lowest bytes of z, the lowest first, from the place x on.
-pub(crate) fn bytes(v: &mut [u8], l: Line) {
+pub(crate) fn bytes(v: &mut [u8], l: Line)
+    ensures { λ _. ⌜ now (v .exit) ≡ bytesStored l (now (v .entry)) ⌝ }
+{
     let mut rest = l.z;
     let mut left = l.y;
     let mut at = l.x as usize;
@@ -30,7 +35,9 @@ pub(crate) fn bytes(v: &mut [u8], l: Line) {
 }
 
 // So many bytes of a buffer once more: y of them, from the place x, to the place z on.
-pub(crate) fn repeat(v: &mut [u8], l: Line) {
+pub(crate) fn repeat(v: &mut [u8], l: Line)
+    ensures { λ _. ⌜ now (v .exit) ≡ repeated (l .y) (l .x) (l .z) (now (v .entry)) ⌝ }
+{
     let mut from = l.x as usize;
     let mut left = l.y;
     let mut to = l.z as usize;
@@ -49,7 +56,9 @@ pub(crate) fn repeat(v: &mut [u8], l: Line) {
 }
 
 // The number y at the place x.
-pub(crate) fn number(v: &mut [u32], l: Line) {
+pub(crate) fn number(v: &mut [u32], l: Line)
+    ensures { λ _. ⌜ now (v .exit) ≡ numberStored l (now (v .entry)) ⌝ }
+{
     let at = l.x as usize;
     if at < v.len() {
         v[at] = (l.y % 0x100000000) as u32;
@@ -58,7 +67,7 @@ pub(crate) fn number(v: &mut [u32], l: Line) {
 
 // Whether two buffers hold the same bytes.
 pub(crate) fn same(a: &[u8], b: &[u8]) -> bool
-    ensures { λ r. ⌜ (r ≡ true → now (a .entry) ≡ now (b .entry)) ⌝ }
+    ensures { λ r. ⌜ r ≡ sameBytes (now (a .entry)) (now (b .entry)) ⌝ }
 {
     if a.len() != b.len() {
         return false;

@@ -1,32 +1,64 @@
--- `append` hands as much of each buffer on as there is.
--- Assumes nothing.
+-- `append` hands as much of each buffer on as is offered, and tells the answer. Assumes nothing.
 use mathlib.Core.Path.{sym}
 use native.Mathlib.Omega.{arith}
 use borrow.Author.Needs.{needs}
 use lib.Seq.{length-take-le}
 use denote.Ref.{now}
+use Rattle.journal_history.specs.Call.{offerOf, appendCalled}
+use Rattle.journal_history.proofs.Calls.{Room, room-found, call-made, call-refused}
 use Rattle.journal_history.proofs.call.append.Statement.{statement}
 use Rattle.journal_history.proofs.call.append.Tie as tie
 
+returns : tie.Need-returns
+unfolding appendCalled offerOf
+returns c =
+    let asked = c .before .before in
+    let a = asked .before .before .before .before .before .before .before .args in
+    call-refused (a .s) _ (now (a .v)) (asked .have-room .result) _ _ (asked .have-room .ensures) (c .before .if1 .taken) (c .malformed .ensures)
+
+slice-relend-prefix-append : tie.Need-slice-relend-prefix-append
+slice-relend-prefix-append c =
+    let asked = c .before in
+    let a = asked .before .before .before .before .before .before .before .args in
+    let room = room-found (a .s) _ _ _ _ (asked .have-room .result) (asked .have-room .ensures) (c .if1 .left) in
+    omega (arith, room .slice)
+
 slice-aggregate-append : tie.Need-slice-aggregate-append
 slice-aggregate-append c =
-    let a = c .before .before .before .before .before .before .before .before .before .before .args in
-    sym (length-take-le (a .s .size) (now (a .v)) (omega arith))
+    let asked = c .before .before in
+    let a = asked .before .before .before .before .before .before .before .args in
+    let room = room-found (a .s) _ _ _ _ (asked .have-room .result) (asked .have-room .ensures) (c .before .if1 .left) in
+    sym (length-take-le (a .s .size) (now (a .v)) (room .slice))
 
 slice-aggregate-append-2 : tie.Need-slice-aggregate-append-2
 slice-aggregate-append-2 c =
-    let a = c .before .before .before .before .before .before .before .before .before .before .before .args in
-    sym (length-take-le (a .s .name) (now (a .name)) (omega arith))
+    let asked = c .before .before .before in
+    let a = asked .before .before .before .before .before .before .before .args in
+    let room = room-found (a .s) _ _ _ _ (asked .have-room .result) (asked .have-room .ensures) (c .before .before .if1 .left) in
+    sym (length-take-le (a .s .offered .name) (now (a .name)) (room .name))
 
 slice-aggregate-append-3 : tie.Need-slice-aggregate-append-3
 slice-aggregate-append-3 c =
-    let a = c .before .before .before .before .before .before .before .before .before .before .before .before .args in
-    sym (length-take-le (a .s .chances) (now (a .chances)) (omega arith))
+    let asked = c .before .before .before .before in
+    let a = asked .before .before .before .before .before .before .before .args in
+    let room = room-found (a .s) _ _ _ _ (asked .have-room .result) (asked .have-room .ensures) (c .before .before .before .if1 .left) in
+    sym (length-take-le (a .s .offered .chances) (now (a .chances)) (room .chances))
 
 slice-aggregate-append-4 : tie.Need-slice-aggregate-append-4
 slice-aggregate-append-4 c =
-    let a = c .before .before .before .before .before .before .before .before .before .before .before .before .before .args in
-    sym (length-take-le (a .s .times) (now (a .times)) (omega arith))
+    let asked = c .before .before .before .before .before in
+    let a = asked .before .before .before .before .before .before .before .args in
+    let room = room-found (a .s) _ _ _ _ (asked .have-room .result) (asked .have-room .ensures) (c .before .before .before .before .if1 .left) in
+    sym (length-take-le (a .s .offered .times) (now (a .times)) (room .times))
+
+returns-2 : tie.Need-returns-2
+unfolding appendCalled offerOf
+returns-2 c =
+    let called = c .before .before .before in
+    let asked = called .before .before .before .before .before .before in
+    let a = asked .before .before .before .before .before .before .before .args in
+    call-made (a .s) _ (now (a .v)) (asked .have-room .result) _ _ (asked .have-room .ensures) (called .append .result) _ (called .before .before .before .before .before .if1 .left)
+    (called .append .ensures) (c .answered-by .ensures)
 
 pub append-spec : {M : Type 1} → statement M
 append-spec =
@@ -34,14 +66,9 @@ append-spec =
     (tie.spec
     (λ c. search needs)
     (λ c κs. search needs)
-    (λ c. search needs)
     (λ c κs. search needs)
-    (λ c. search needs)
-    (λ c κs. search needs)
-    (λ c. search needs)
-    (λ c κs. search needs)
-    (λ c. search needs)
-    (λ c. search needs)
+    returns
+    slice-relend-prefix-append
     slice-aggregate-append
     slice-aggregate-append-2
     slice-aggregate-append-3
@@ -49,4 +76,4 @@ append-spec =
     (λ c κs. search needs)
     (λ c κs. search needs)
     (λ c. search needs)
-    (λ c. search needs))
+    returns-2)

@@ -1,17 +1,40 @@
--- `repeat` stays inside the buffer. The measure is how many bytes are left.
+-- `repeat` copies one byte a turn, until none is left, none stands or there is no room. The measure is how many bytes are left.
 -- Assumes nothing.
-use mathlib.Core.Path.{_≡_, refl, _∙_}
+use mathlib.Core.Path.{_≡_, refl, sym, _∙_}
 use native.Mathlib.Omega.{arith}
-use borrow.Author.Needs.{needs}
 use lib.ListN.{length, length-set}
+use Rattle.journal_history.specs.Store.{repeated}
+use Rattle.journal_history.proofs.Storing.{repeat-turn, repeat-none, repeat-full, repeat-end}
 use Rattle.journal_history.proofs.store.repeat.Statement.{statement}
 use Rattle.journal_history.proofs.store.repeat.Tie as tie
 
 abbrev Inv-loop : tie.InvT-loop
-Inv-loop v₀ from₀ left₀ to₀ v from left to = length v ≡ length v₀
+Inv-loop v₀ from₀ left₀ to₀ v from left to = (length v ≡ length v₀) × (repeated left₀ from₀ to₀ v₀ ≡ repeated left from to v)
 
 abbrev μ-loop : tie.MeasureT-loop
 μ-loop v₀ from₀ left₀ to₀ v from left to = left
+
+returns : tie.Need-returns Inv-loop μ-loop
+returns c =
+    let l = c .before .before .loop in
+    sym (l .inv .1 ∙ repeat-none (l .v) (l .from) (l .to) (l .left) (omega arith) (omega arith))
+
+returns-2 : tie.Need-returns-2 Inv-loop μ-loop
+returns-2 c =
+    let l = c .before .before .before .loop in
+    sym (l .inv .1 ∙ repeat-full (l .v) (l .from) (l .to) (l .left) (omega arith) (omega arith) (omega arith))
+
+loop-again : tie.Need-loop-again Inv-loop μ-loop
+loop-again c =
+    let l = c .before .before .before .before .loop in (
+      length-set (l .v) (l .to) _ ∙ l .inv .0,
+      l .inv .1 ∙ repeat-turn (l .v) (l .from) (l .to) (l .left) (omega arith) (omega arith) (omega arith),
+    )
+
+returns-3 : tie.Need-returns-3 Inv-loop μ-loop
+returns-3 c =
+    let l = c .before .loop in
+    sym (l .inv .1 ∙ repeat-end (l .v) (l .from) (l .to) (l .left) (omega arith))
 
 pub repeat-spec : {M : Type 1} → statement M
 repeat-spec =
@@ -19,18 +42,17 @@ repeat-spec =
     (tie.spec
     Inv-loop
     μ-loop
-    (λ c. refl)
-    (λ c. c .before .before .loop .inv)
-    (λ c. search needs)
-    (λ c. c .before .before .before .loop .inv)
-    (λ c. search needs)
+    (λ c. (refl, refl))
+    (λ c. c .before .before .loop .inv .0)
+    returns
+    (λ c. c .before .before .before .loop .inv .0)
+    returns-2
     (λ c. omega arith)
     (λ c. omega arith)
-    (λ c. omega (arith, c .before .before .before .before .loop .inv))
     (λ c. omega arith)
-    (λ c. omega (arith, c .before .before .before .before .loop .inv))
     (λ c. omega arith)
-    (λ c. length-set (c .before .before .before .before .loop .v) (c .before .before .before .before .loop .to) _
-    ∙ c .before .before .before .before .loop .inv)
-    (λ c. c .before .loop .inv)
-    (λ c. search needs))
+    (λ c. omega arith)
+    (λ c. omega arith)
+    loop-again
+    (λ c. c .before .loop .inv .0)
+    returns-3)

@@ -1,44 +1,41 @@
--- `same` passes one byte a turn: those passed are equal. The measure is how many bytes are left.
+-- `same` passes one byte a turn: those passed are equal, so that the rest decides. The measure is how many bytes are left.
 -- Assumes nothing.
+use Prim.Native.Nat.{_-_, _≤_}
 use mathlib.Core.Path.{_≡_, refl, sym, _∙_}
-use Prim.Native.Nat.{ℕ, _+_, _-_, _≤_, _<_}
-use mathlib.Core.Bool.{true, false}
-use mathlib.Core.List.{List}
 use native.Mathlib.Omega.{arith}
-use native.Mathlib.Numerals.{add-one}
-use lib.ListN.{length, take, getD}
-use lib.Seq.{take-suc, take-all}
+use lib.ListN.{length, drop}
 use denote.Ref.{now}
+use Rattle.journal_history.specs.Store.{sameBytes}
+use Rattle.journal_history.proofs.Same.{lengths-differ, same-turn, same-differs, same-ends}
 use Rattle.journal_history.proofs.store.same.Statement.{statement}
 use Rattle.journal_history.proofs.store.same.Tie as tie
 
 abbrev Inv-loop : tie.InvT-loop
-Inv-loop a b i₀ i = (length a ≡ length b) × (i ≤ length a) × (take i a ≡ take i b)
+Inv-loop a b i₀ i = (length a ≡ length b) × (i ≤ length a) × (sameBytes a b ≡ sameBytes (drop i a) (drop i b))
 
 abbrev μ-loop : tie.MeasureT-loop
 μ-loop a b i₀ i = length a - i
 
-no : {A : Type 0} → false ≡ true → A
-no e = let z : _≡_ {A = ℕ} 0 1 = cc in absurd (omega arith)
+returns : tie.Need-returns Inv-loop μ-loop
+returns c = sym (lengths-differ _ _ (c .if1 .taken))
 
-one-more : (a b : List ℕ) (i : ℕ) → i < length a → length a ≡ length b → take i a ≡ take i b → getD a i 0 ≡ getD b i 0
-    → take (i + 1) a ≡ take (i + 1) b
-one-more a b i h n e g = rw (add-one, take-suc a i 0 h, take-suc b i 0 (omega arith), e, g) refl
-
-all-same : (a b : List ℕ) (i : ℕ) → length a ≡ i → length a ≡ length b → take i a ≡ take i b → a ≡ b
-all-same a b i h n e = sym (take-all i a (omega arith)) ∙ e ∙ take-all i b (omega arith)
+returns-2 : tie.Need-returns-2 Inv-loop μ-loop
+returns-2 c =
+    let l = c .before .before .before .before .loop in
+    let p = c .before .before .before .before .before .before .args in
+    sym (l .inv .2 ∙ same-differs (now (p .a)) (now (p .b)) (l .i) (omega arith) (l .inv .0) (c .if2 .taken))
 
 loop-again : tie.Need-loop-again Inv-loop μ-loop
 loop-again c =
     let l = c .before .before .before .before .loop in
     let p = c .before .before .before .before .before .before .args in
-    (l .inv .0, omega arith, one-more (now (p .a)) (now (p .b)) (l .i) (omega arith) (l .inv .0) (l .inv .2) (omega arith))
+    (l .inv .0, omega arith, l .inv .2 ∙ same-turn (now (p .a)) (now (p .b)) (l .i) (omega arith) (l .inv .0) (omega arith))
 
 returns-3 : tie.Need-returns-3 Inv-loop μ-loop
-returns-3 c e =
+returns-3 c =
     let l = c .before .loop in
     let p = c .before .before .before .args in
-    all-same (now (p .a)) (now (p .b)) (l .i) (omega arith) (l .inv .0) (l .inv .2)
+    sym (l .inv .2 ∙ same-ends (now (p .a)) (now (p .b)) (l .i) (omega arith) (l .inv .0))
 
 pub same-spec : {M : Type 1} → statement M
 same-spec =
@@ -46,11 +43,11 @@ same-spec =
     (tie.spec
     Inv-loop
     μ-loop
-    (λ c e. no e)
+    returns
     (λ c. (omega arith, omega arith, refl))
     (λ c. omega arith)
     (λ c. omega arith)
-    (λ c e. no e)
+    returns-2
     (λ c. omega arith)
     (λ c. omega arith)
     loop-again

@@ -4,8 +4,8 @@ use mathlib.Core.Path.{_≡_, refl, _∙_}
 use native.Mathlib.Omega.{arith}
 use borrow.Author.Needs.{needs}
 use lib.ListN.{length}
-use Rattle.journal_history.proofs.replay_all.Statement.{statement}
-use Rattle.journal_history.proofs.replay_all.Tie as tie
+use Rattle.journal_history.proofs.replay.replay_all.Statement.{statement}
+use Rattle.journal_history.proofs.replay.replay_all.Tie as tie
 
 abbrev Inv-loop : tie.InvT-loop
 Inv-loop v₀ expected₀ name₀ chances₀ times₀ turn₀ turns₀ v expected name chances times turn turns =

@@ -1,0 +1,48 @@
+-- What a call leaves: where there is room, the answer's state and the slice's bytes before the rest of the buffer. Assumes nothing.
+use Prim.Native.Nat.{ℕ, _≤_}
+use mathlib.Core.Path.{_≡_, refl, sym, _∙_}
+use mathlib.Core.Bool.{Bool, true, false, not}
+use mathlib.Core.List.{List, _++_}
+use borrow.Author.Tests.{leb-true, not-true, not-false}
+use lib.ListN.{drop}
+use Rattle.journal_spec.specs.Append.{Outcome}
+use Rattle.journal.specs.Answers.{appendMeaning, lengthAfter, outcomeOf}
+use Rattle.journal.specs.declared.Appended.{Appended}
+use Rattle.journal_history.specs.State.{malformedOnce}
+use Rattle.journal_history.specs.Call.{told, fits, calledWith}
+use Rattle.journal_history.specs.declared.state.State.{State}
+use Rattle.journal_history.proofs.Both.{both-hold}
+
+-- each buffer holds what the state says of it
+pub record Room (s : State) (v n c t : ℕ) : Type 0 where
+  pub slice : s .size ≤ v
+  pub name : s .offered .name ≤ n
+  pub chances : s .offered .chances ≤ c
+  pub times : s .offered .times ≤ t
+
+-- the test found room
+pub room-found : (s : State) (v n c t : ℕ) (room : Bool) → room ≡ fits s v n c t → not room ≡ false → Room s v n c t
+unfolding fits
+room-found s v n c t room e h =
+    let first = both-hold _ _ (sym e ∙ not-false room h) in
+    let second = both-hold _ _ (first .1) in
+    let third = both-hold _ _ (second .1) in
+    record {
+      slice = leb-true _ _ (first .0);
+      name = leb-true _ _ (second .0);
+      chances = leb-true _ _ (third .0);
+      times = leb-true _ _ (third .1);
+    }
+
+module _ (s x : State) (v : List ℕ) (room fit : Bool) (o : Outcome) (e : room ≡ fit) where
+  -- a call was made, and the slice is `part` after it
+  pub call-made : (r : Appended) (part : List ℕ) → not room ≡ false → outcomeOf (s .len) r part ≡ o
+      → x ≡ told s (lengthAfter (s .len) r) (appendMeaning r)
+      → (x ≡ calledWith fit s v o .state) × (part ++ drop (s .size) v ≡ calledWith fit s v o .slice)
+  unfolding calledWith outcomeOf
+  call-made r part h made put = rw (← e, not-false room h, ← made) (put, refl)
+
+  -- without room no call is made
+  pub call-refused : not room ≡ true → x ≡ malformedOnce s → (x ≡ calledWith fit s v o .state) × (v ≡ calledWith fit s v o .slice)
+  unfolding calledWith
+  call-refused h put = rw (← e, not-true room h) (put, refl)

@@ -1,0 +1,32 @@
+-- A stored line of the histories: its letter and its three numbers.
+-- Assumes nothing.
+use Prim.Native.Nat.{ℕ}
+use mathlib.Core.Bool.{cond}
+use mathlib.Core.List.{List}
+use lib.Dec.{eqb}
+use lib.ListN.{length, getD}
+use Rattle.hex.specs.Hex.{readHex}
+use Rattle.lines.specs.Lines.{fieldOf}
+use Rattle.lines.specs.declared.field.Field.{Field}
+use Rattle.lines.specs.declared.field.Field.the-variants as F
+use Rattle.journal_history.specs.declared.line.Parsed.{Parsed}
+use Rattle.journal_history.specs.declared.line.Parsed.the-variants as P
+
+-- a number goes on, none makes the line malformed
+unfoldable pub afterField : Field → (ℕ → Parsed) → Parsed
+afterField (F.Value n) next = next n
+afterField F.Nothing next = P.Malformed
+
+-- the three numbers behind a letter, 16 digits each
+unfoldable pub parsedNumbers : List ℕ → ℕ → Parsed
+parsedNumbers s letter =
+    afterField (fieldOf (readHex s 2 16)) (λ x.
+    afterField (fieldOf (readHex s 19 16)) (λ y.
+    afterField (fieldOf (readHex s 36 16)) (λ z. P.Numbers (record { letter = letter; x = x; y = y; z = z }))))
+
+-- a line: 53 bytes, the last one a line end
+unfoldable pub parsedLine : List ℕ → Parsed
+parsedLine s =
+    cond (eqb (length s) 53)
+    (cond (eqb (getD s 52 0) 10) (parsedNumbers s (getD s 0 0)) P.Malformed)
+    P.Malformed

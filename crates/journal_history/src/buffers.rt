@@ -1,0 +1,37 @@
+// The buffers of a replay, all 0 at first.
+// No contract names an element: a history's first line fills the slice, and a call reads only what its lines stored before.
+ghost use mathlib.Core.Path.{_≡_};
+ghost use lib.ListN.{length};
+
+// The longest journal and 32 bytes more.
+pub(crate) fn bytes_buffer() -> [u8; 65568]
+    ensures { λ r. ⌜ 65568 ≡ length r ⌝ }
+{
+    [0; 65568]
+}
+
+// More than a name, the chances and the times of a record may take.
+pub(crate) fn name_buffer() -> [u8; 40]
+    ensures { λ r. ⌜ 40 ≡ length r ⌝ }
+{
+    [0; 40]
+}
+
+pub(crate) fn chances_buffer() -> [u32; 16]
+    ensures { λ r. ⌜ 16 ≡ length r ⌝ }
+{
+    [0; 16]
+}
+
+pub(crate) fn times_buffer() -> [u32; 160]
+    ensures { λ r. ⌜ 160 ≡ length r ⌝ }
+{
+    [0; 160]
+}
+
+// Room for 76 lines.
+pub(crate) fn lines_buffer() -> [u8; 4028]
+    ensures { λ r. ⌜ 4028 ≡ length r ⌝ }
+{
+    [0; 4028]
+}
