@@ -1,72 +1,42 @@
--- The part that an append writes lies inside the slice and inside the longest journal.
--- Assumes nothing.
+-- The part that an append writes is the offered record whole, from the committed length on, and it can be lent.
+-- Where nothing is written it is empty, and the slice is as before. Assumes nothing.
 use mathlib.Core.Path.{_≡_, refl, sym, ap, _∙_}
-use Prim.Native.Nat.{ℕ, zero, suc, _+_, _-_, _≤_, _<_, min}
-use mathlib.Core.Bool.{Bool, true, false, cond}
-use mathlib.Core.List.{List, [], _∷_, _++_}
+use Prim.Native.Nat.{ℕ, zero, suc, _+_, _-_, _*_, _≤_, min}
+use mathlib.Core.List.{List, []}
 use native.Mathlib.Omega.{arith}
-use borrow.Author.Tests.{leb-true, leb-false}
-use lib.Dec.{leb, eqb}
-use lib.ListN.{length, take, length-take, length-drop}
-use Rattle.journal_spec.specs.Reader.{Found, found, fault, short, run}
-use Rattle.journal_spec.specs.Record.{Record, Last, lastOf, recordReader, recordBytes}
-use Rattle.journal_spec.specs.Scan.{maxLength, Placed, recordsOf, Contents, standing, faulty, contentsFrom, contentsOf, statusOf, scanOf, whole, torn}
-use Rattle.journal_spec.specs.Append.{Offer, offered, AppendResult, Outcome, judgeRoom, appendRefusal, appendOf}
-use Rattle.journal_spec.specs.Append.{unchanged, extend, settle, appendTo, appendUpto}
+use borrow.Author.Tests.{leb-true}
+use lib.Dec.{leb}
+use lib.ListN.{length, take, length-map}
+use lib.Seq.{take-all}
+use Rattle.journal_spec.specs.Record.{Last, lastOf, recordBytes}
+use Rattle.journal_spec.specs.Scan.{maxLength, recordsOf, Contents, standing, faulty, contentsOf, ScanResult, statusOf, scanOf}
+use Rattle.journal_spec.specs.Append.{Offer, limitsOf, offered, AppendResult, extended, declined, damaged, Outcome, judgeRoom, appendRefusal}
+use Rattle.journal_spec.specs.Append.{written, unchanged, extend, settle, appendTo, appendUpto, appendOf}
 use Rattle.journal_spec.proofs.Judging.{first-none, unless-none}
-use Rattle.journal_spec.proofs.Reading.{run-left}
-use Rattle.journal_spec.proofs.Scanning.{turn-short, turn-fault, turn-found, contents-fits, contents-long}
-use Rattle.journal.specs.Answers.{meaning, appendMeaning, outcomeOf}
-use Rattle.journal.specs.declared.Status.{Status}
+use Rattle.journal_spec.proofs.Records.{length-record}
+use Rattle.journal_spec.proofs.Writing.{written-nil}
+use Rattle.journal_spec.proofs.Placing.{written-part}
+use Rattle.journal.specs.Answers.{appendMeaning, outcomeOf}
+use Rattle.journal.specs.declared.Fault.{Fault}
 use Rattle.journal.specs.declared.Appended.{Appended}
-use Rattle.append.specs.Extension.{committedIn, endIn, Extends}
+use Rattle.journal.specs.declared.Appended.the-variants as A
+use Rattle.append.specs.Extension.{committedIn, startIn, endIn, partIn, Extends}
+use Rattle.append.proofs.Committed.{committed-inside, committed-found}
 
--- ---- the committed length
+-- ---- an append that extends the journal
 
-standing-not-faulty : (ps : List Placed) (c n p : ℕ) → faulty n p ≡ standing ps c → ⊥
-standing-not-faulty ps c n p e = let z : _≡_ {A = ℕ} 0 1 = cc in omega arith
+-- the length of the offered record, as the code takes it
+pub offered-length : (o : Offer) → length (recordBytes (offered o))
+    ≡ 12 + length (o .name) + 4 * length (o .chances) + 4 * length (o .times) + 8 * length (o .chances)
+unfolding offered limitsOf
+offered-length o = length-record (offered o) ∙ rw length-map refl
 
-committed-within : (more : ℕ) (ps : List Placed) (at : ℕ) (bs : List ℕ) (qs : List Placed) (c : ℕ)
-    → contentsFrom more ps at bs ≡ standing qs c → c ≤ at + length bs
-unfolding contentsFrom
-committed-within zero ps at bs qs c e = let same : at ≡ c = cc in omega arith
-committed-within (suc more) ps at bs qs c e =
-    go (λ r next rest h. committed-within more (ps ++ record { content = r; start = at; size = next - at } ∷ []) next rest qs c h)
-    (run (recordReader (lastOf (recordsOf ps))) at bs) refl
-  where
-    go : ((r : Record) (next : ℕ) (rest : List ℕ)
-        → contentsFrom more (ps ++ record { content = r; start = at; size = next - at } ∷ []) next rest ≡ standing qs c → c ≤ next + length rest)
-        → (f : Found Record) → run (recordReader (lastOf (recordsOf ps))) at bs ≡ f → c ≤ at + length bs
-    go later (found r next rest) h =
-        let l = run-left (recordReader (lastOf (recordsOf ps))) at bs r next rest h in
-        let turn = turn-found (suc more) ps at bs r next rest h (omega arith) in
-        let one : suc more - 1 ≡ more = omega arith in
-        let below = later r next rest (rw one at (sym turn ∙ e)) in
-        let left : length rest ≡ length bs - (next - at) = ap length (l .same) ∙ length-drop (next - at) bs in
-        omega (arith, below, left, l .later, l .there)
-    go later (fault n p) h = absurd (standing-not-faulty qs c n p (sym (turn-fault (suc more) ps at bs n p h (omega arith)) ∙ e))
-    go later short h =
-        let same : at ≡ c = same-place (sym (turn-short (suc more) ps at bs h) ∙ e) in
-        omega arith
-      where
-        same-place : standing ps at ≡ standing qs c → at ≡ c
-        same-place f = cc
-
--- what scan finds committed is inside the slice and the longest journal
-pub committed-inside : (slice : List ℕ) (len : ℕ) (ps : List Placed) (c : ℕ) → contentsOf slice len ≡ standing ps c
-    → c ≤ min (length slice) maxLength
-committed-inside slice len ps c h = go (leb len (min (length slice) maxLength)) refl
-  where
-    go : (t : Bool) → leb len (min (length slice) maxLength) ≡ t → c ≤ min (length slice) maxLength
-    go false e =
-        absurd (standing-not-faulty ps c _ _ (sym (contents-long slice len (leb-false len (min (length slice) maxLength) e)) ∙ h))
-    go true e =
-        let k = leb-true len (min (length slice) maxLength) e in
-        let within = committed-within len [] 0 (take len slice) ps c (sym (contents-fits slice len (omega arith) (omega arith)) ∙ h) in
-        let size = length-take len slice in
-        omega (arith, k, within, size)
-
--- ---- the end
+-- it answers n: the record ends there, inside the slice and the longest journal, and is written from the committed length on
+pub record Extended (slice : List ℕ) (len : ℕ) (o : Offer) (n : ℕ) (after : List ℕ) : Type 0 where
+  pub kept : committedIn (scanOf slice len) ≤ len
+  pub place : n ≡ committedIn (scanOf slice len) + length (recordBytes (offered o))
+  pub room : n ≤ min (length slice) maxLength
+  pub bytes : after ≡ written slice (committedIn (scanOf slice len)) (recordBytes (offered o))
 
 -- an offer that nothing refuses has room
 room-found : (room : ℕ) (last : Last) (c : ℕ) (o : Offer) → appendRefusal room last c o ≡ 0
@@ -76,69 +46,134 @@ room-found room last c o h =
     let second = first-none _ _ (first-none _ _ h .1) .0 in
     leb-true _ _ (unless-none (leb (c + length (recordBytes (offered o))) (min room maxLength)) 8 second)
 
--- where the written part of a journal with c committed bytes ends
-record Ends (slice : List ℕ) (c e : ℕ) : Type 0 where
-  later : c ≤ e
-  inside : e ≤ length slice
+-- an offer that is taken was not refused
+record Taken (refusal : ℕ) (slice : List ℕ) (c : ℕ) (new : List ℕ) (n : ℕ) (after : List ℕ) : Type 0 where
+  none : refusal ≡ 0
+  place : n ≡ c + length new
+  bytes : after ≡ written slice c new
 
-settled : (n : ℕ) (slice : List ℕ) (len c : ℕ) (new : List ℕ) → (n ≡ 0 → c + length new ≤ min (length slice) maxLength)
-    → c ≤ min (length slice) maxLength → Ends slice c (endIn c (settle n slice len c new .answer))
-unfolding settle extend unchanged endIn
-settled zero slice len c new room h = let fits = room refl in record { later = omega arith; inside = omega (arith, fits) }
-settled (suc n) slice len c new room h = record { later = omega arith; inside = omega arith }
+taken : (refusal : ℕ) (slice : List ℕ) (len c : ℕ) (new : List ℕ) (n : ℕ) → settle refusal slice len c new .answer ≡ extended n
+    → Taken refusal slice c new n (settle refusal slice len c new .slice)
+unfolding settle extend unchanged
+taken zero slice len c new n e = record { none = refl; place = cc; bytes = refl }
+taken (suc refusal) slice len c new n e = let z : _≡_ {A = ℕ} 0 1 = cc in absurd (omega arith)
 
--- the start and the end of the part that an append writes
-pub record Inside (slice : List ℕ) (start end : ℕ) : Type 0 where
-  pub later : start ≤ end
-  pub inside : end ≤ length slice
-  pub most : start ≤ maxLength
+pub append-extended : (slice : List ℕ) (len : ℕ) (o : Offer) (n : ℕ) → appendOf slice len o .answer ≡ extended n
+    → Extended slice len o n (appendOf slice len o .slice)
+unfolding appendOf appendUpto appendTo unchanged scanOf
+append-extended slice len o n = go (contentsOf slice len) refl
+  where
+    bytes : List ℕ
+    bytes = recordBytes (offered o)
 
-module _ (slice : List ℕ) (len : ℕ) (o : Offer) (k : ℕ) where
-  by-contents : (x : Contents) → contentsOf slice len ≡ x
-      → Inside slice (committedIn (statusOf len x)) (endIn (committedIn (statusOf len x)) (appendTo x slice len o k .answer))
-  unfolding statusOf appendTo unchanged committedIn endIn
-  by-contents (faulty n p) e = record { later = omega arith; inside = omega arith; most = omega arith }
-  by-contents (standing ps c) e = go (eqb c len)
-    where
-      new : List ℕ
-      new = take k (recordBytes (offered o))
+    go : (x : Contents) → contentsOf slice len ≡ x → appendTo x slice len o (length bytes) .answer ≡ extended n
+        → Extended slice len o n (appendTo x slice len o (length bytes) .slice)
+    go (faulty m p) h e = let z : _≡_ {A = ℕ} 0 1 = cc in absurd (omega arith)
+    go (standing ps c) h e =
+        let t = taken (appendRefusal (length slice) (lastOf (recordsOf ps)) c o) slice len c (take (length bytes) bytes) n e in
+        let all : take (length bytes) bytes ≡ bytes = take-all (length bytes) bytes (omega arith) in
+        let found : committedIn (statusOf len (contentsOf slice len)) ≡ c = rw h (committed-found len ps c) in
+        let ends : n ≡ c + length bytes = t .place ∙ rw all refl in
+        record {
+          kept = omega (arith, found, committed-inside slice len ps c h);
+          place = omega (arith, found, ends);
+          room = omega (arith, ends, room-found (length slice) (lastOf (recordsOf ps)) c o (t .none));
+          bytes = t .bytes ∙ rw (all, found) refl;
+        }
 
-      fits : c ≤ min (length slice) maxLength
-      fits = committed-inside slice len ps c e
+-- ---- an append that writes nothing
 
-      room : appendRefusal (length slice) (lastOf (recordsOf ps)) c o ≡ 0 → c + length new ≤ min (length slice) maxLength
-      room h =
-          let all = room-found (length slice) (lastOf (recordsOf ps)) c o h in
-          let size = length-take k (recordBytes (offered o)) in
-          omega (arith, all, size)
+-- the answer is no new length
+abbrev pub Unwritten : AppendResult → Type 0
+Unwritten a = (n : ℕ) → a ≡ extended n → ⊥
 
-      ends : Ends slice c (endIn c (settle (appendRefusal (length slice) (lastOf (recordsOf ps)) c o) slice len c new .answer))
-      ends = settled _ slice len c new room fits
+settled-unwritten : (refusal : ℕ) (slice : List ℕ) (len c : ℕ) (new : List ℕ) → Unwritten (settle refusal slice len c new .answer)
+    → settle refusal slice len c new .slice ≡ slice
+unfolding settle extend unchanged
+settled-unwritten zero slice len c new u = absurd (u _ refl)
+settled-unwritten (suc refusal) slice len c new u = refl
 
-      go : (t : Bool) → Inside slice (committedIn (cond t (whole (length ps) c) (torn (length ps) c)))
-          (endIn (committedIn (cond t (whole (length ps) c) (torn (length ps) c)))
-          (settle (appendRefusal (length slice) (lastOf (recordsOf ps)) c o) slice len c new .answer))
-      go true = record { later = ends .later; inside = ends .inside; most = omega (arith, fits) }
-      go false = record { later = ends .later; inside = ends .inside; most = omega (arith, fits) }
+pub append-unwritten : (slice : List ℕ) (len : ℕ) (o : Offer) → Unwritten (appendOf slice len o .answer) → appendOf slice len o .slice ≡ slice
+unfolding appendOf appendUpto appendTo unchanged
+append-unwritten slice len o = go (contentsOf slice len)
+  where
+    go : (x : Contents) → Unwritten (appendTo x slice len o (length (recordBytes (offered o))) .answer)
+        → appendTo x slice len o (length (recordBytes (offered o))) .slice ≡ slice
+    go (faulty n p) u = refl
+    go (standing ps c) u = settled-unwritten _ slice len c _ u
 
-pub written-inside : (slice : List ℕ) (len : ℕ) (o : Offer)
-    → Inside slice (committedIn (scanOf slice len)) (endIn (committedIn (scanOf slice len)) (appendOf slice len o .answer))
-unfolding scanOf appendOf appendUpto
-written-inside slice len o = by-contents slice len o _ (contentsOf slice len) refl
+pub declined-unwritten : (answer : Appended) (n : ℕ) → answer ≡ A.Declined n → Unwritten (appendMeaning answer)
+unfolding appendMeaning
+declined-unwritten answer n h m e = let z : _≡_ {A = ℕ} 0 1 = cc (rw h at e) in omega arith
 
--- what the scan and the append answer is the written part, and it can be lent
-pub extends-inside : (slice : List ℕ) (len : ℕ) (o : Offer) (answer : Appended) (status : Status) (start end : ℕ) (after : List ℕ)
-    → outcomeOf len answer after ≡ appendOf slice len o → meaning status ≡ scanOf slice len
-    → start ≡ committedIn (meaning status) → end ≡ endIn start (appendMeaning answer) → length after ≡ length slice
-    → Extends slice len o (record { start = start; end = end; answer = answer }) after
-    × ((start ≤ end) × (end ≤ length after) × (start ≤ maxLength))
-unfolding outcomeOf
-extends-inside slice len o answer status start end after e s f g same =
-    let said : appendMeaning answer ≡ appendOf slice len o .answer = ap (λ (x : Outcome). x .answer) e in
-    let starts : start ≡ committedIn (scanOf slice len) = f ∙ ap committedIn s in
-    let ends : end ≡ endIn (committedIn (scanOf slice len)) (appendOf slice len o .answer) =
-    g ∙ ap (λ (x : AppendResult). endIn start x) said ∙ ap (λ (x : ℕ). endIn x (appendOf slice len o .answer)) starts in
-    let i = written-inside slice len o in (
-      record { outcome = e; starts = starts; ends = ends },
-      (omega (arith, i .later, starts, ends), omega (arith, i .inside, ends, same), omega (arith, i .most, starts)),
-    )
+pub damaged-unwritten : (answer : Appended) (f : Fault) → answer ≡ A.Damaged f → Unwritten (appendMeaning answer)
+unfolding appendMeaning
+damaged-unwritten answer f h m e = let z : _≡_ {A = ℕ} 0 1 = cc (rw h at e) in omega arith
+
+-- the part is empty, at 0
+pub record Empty (s : ScanResult) (o : Offer) (a : AppendResult) : Type 0 where
+  pub starts : startIn s a ≡ 0
+  pub ends : endIn a ≡ 0
+  pub part : partIn o a ≡ []
+
+pub empty : (s : ScanResult) (o : Offer) (a : AppendResult) → Unwritten a → Empty s o a
+unfolding startIn endIn partIn
+empty s o (extended n) u = absurd (u n refl)
+empty s o (declined n) u = record { starts = refl; ends = refl; part = refl }
+empty s o (damaged n p) u = record { starts = refl; ends = refl; part = refl }
+
+-- ---- what the code answers
+
+-- the part can be lent
+abbrev pub Lendable : ℕ → ℕ → List ℕ → Type 0
+Lendable start end after = (start ≤ end) × (end ≤ length after) × (start ≤ maxLength)
+
+module _ (slice : List ℕ) (len : ℕ) (o : Offer) (answer : Appended) (after : List ℕ) (e : outcomeOf len answer after ≡ appendOf slice len o) where
+  said : appendMeaning answer ≡ appendOf slice len o .answer
+  unfolding outcomeOf
+  said = ap (λ (x : Outcome). x .answer) e
+
+  left : after ≡ appendOf slice len o .slice
+  unfolding outcomeOf
+  left = ap (λ (x : Outcome). x .slice) e
+
+  pub extended-said : (n : ℕ) → answer ≡ A.Extended n → Extended slice len o n after
+  unfolding appendMeaning
+  extended-said n h = rw left (append-extended slice len o n (sym said ∙ rw h refl))
+
+  -- the record is as long as the code takes it, so that it starts that long before its end
+  pub extends-record : (n start : ℕ) → answer ≡ A.Extended n
+      → start ≡ n - (12 + length (o .name) + 4 * length (o .chances) + 4 * length (o .times) + 8 * length (o .chances))
+      → length after ≡ length slice
+      → Extends slice len o (record { start = start; end = n; answer = A.Extended n }) after × Lendable start n after
+  unfolding startIn endIn partIn appendMeaning
+  extends-record n start h s same =
+      let x = extended-said n h in
+      let told : appendOf slice len o .answer ≡ extended n = sym said ∙ rw h refl in
+      let size = offered-length o in
+      let c : start ≡ committedIn (scanOf slice len) = omega (arith, x .place, size, s) in
+      let span : n - start ≡ length (recordBytes (offered o)) = omega (arith, x .place, c) in
+      let fits : committedIn (scanOf slice len) + length (recordBytes (offered o)) ≤ length slice = omega (arith, x .place, x .room) in (
+        record {
+          outcome = rw h at e;
+          starts = rw told c;
+          ends = rw told refl;
+          part = rw (told, span, c, x .bytes) (written-part slice _ (recordBytes (offered o)) fits);
+          rest = rw (told, c) (x .bytes);
+        },
+        (omega (arith, x .place, c), omega (arith, x .room, same), omega (arith, x .room, x .place, c)),
+      )
+
+  pub extends-nothing : Unwritten (appendMeaning answer)
+      → Extends slice len o (record { start = 0; end = 0; answer = answer }) after × Lendable 0 0 after
+  extends-nothing u =
+      let none = empty (scanOf slice len) o (appendOf slice len o .answer) (rw said at u) in (
+        record {
+          outcome = e;
+          starts = sym (none .starts);
+          ends = sym (none .ends);
+          part = sym (none .part);
+          rest = rw (none .part) (left ∙ append-unwritten slice len o (rw said at u) ∙ sym (written-nil slice 0));
+        },
+        (omega arith, omega arith, omega arith),
+      )

@@ -1,10 +1,12 @@
--- The part of a slice that an append writes: from the committed length to the new one (document 01, Volume).
--- It is empty where the append is declined or the journal damaged.
+-- The part of a slice that an append writes (document 01, Volume): where it extends the journal, the offered record whole, from the committed
+-- length to the new length; where it is declined or the journal is damaged, no byte.
 use mathlib.Core.Path.{_≡_}
-use Prim.Native.Nat.{ℕ}
-use mathlib.Core.List.{List}
+use Prim.Native.Nat.{ℕ, _-_}
+use mathlib.Core.List.{List, []}
+use lib.ListN.{take, drop}
+use Rattle.journal_spec.specs.Record.{recordBytes}
 use Rattle.journal_spec.specs.Scan.{ScanResult, whole, torn, damaged, scanOf}
-use Rattle.journal_spec.specs.Append.{AppendResult, extended, declined, Offer, appendOf}
+use Rattle.journal_spec.specs.Append.{AppendResult, extended, declined, Offer, offered, written, appendOf}
 use Rattle.journal_spec.specs.Append as Append
 use Rattle.journal.specs.Answers.{outcomeOf}
 use Rattle.append.specs.declared.extend.Extension.{Extension}
@@ -15,14 +17,29 @@ committedIn (whole n committed) = committed
 committedIn (torn n committed) = committed
 committedIn (damaged n p) = 0
 
--- the new length that an append answers; the start where nothing is written
-unfoldable pub endIn : ℕ → AppendResult → ℕ
-endIn start (extended n) = n
-endIn start (declined n) = start
-endIn start (Append.damaged n p) = start
+-- where the part starts, by the scan and the append's answer: at the committed length; at 0 where nothing is written
+unfoldable pub startIn : ScanResult → AppendResult → ℕ
+startIn s (extended n) = committedIn s
+startIn s (declined n) = 0
+startIn s (Append.damaged n p) = 0
 
--- the answer and the slice after it are append's, and start and end are those of the written part
+-- where it ends: at the new length; at 0 where nothing is written
+unfoldable pub endIn : AppendResult → ℕ
+endIn (extended n) = n
+endIn (declined n) = 0
+endIn (Append.damaged n p) = 0
+
+-- its bytes: the offered record's; none where nothing is written
+unfoldable pub partIn : Offer → AppendResult → List ℕ
+partIn o (extended n) = recordBytes (offered o)
+partIn o (declined n) = []
+partIn o (Append.damaged n p) = []
+
+-- The answer and the slice after it are append's; start and end are those of the written part; the part of the slice after from start to
+-- end is the record's bytes, or none; and the slice after is the slice before with these bytes there and no other byte changed.
 pub record Extends (slice : List ℕ) (len : ℕ) (o : Offer) (r : Extension) (after : List ℕ) : Type 0 where
   pub outcome : outcomeOf len (r .answer) after ≡ appendOf slice len o
-  pub starts : r .start ≡ committedIn (scanOf slice len)
-  pub ends : r .end ≡ endIn (committedIn (scanOf slice len)) (appendOf slice len o .answer)
+  pub starts : r .start ≡ startIn (scanOf slice len) (appendOf slice len o .answer)
+  pub ends : r .end ≡ endIn (appendOf slice len o .answer)
+  pub part : take (r .end - r .start) (drop (r .start) after) ≡ partIn o (appendOf slice len o .answer)
+  pub rest : after ≡ written slice (r .start) (partIn o (appendOf slice len o .answer))

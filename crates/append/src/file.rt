@@ -2,6 +2,7 @@
 // behind the committed records, front to back: from then on the file is those records and a prefix of the new one.
 ghost use Prim.Native.Nat.{_≤_};
 ghost use lib.ListN.{length};
+ghost use Rattle.journal_spec.specs.Scan.{maxLength};
 use crate::extend::extend;
 use crate::output::complain;
 use crate::output::fail_file;
@@ -64,7 +65,7 @@ fn append_read(
 
 // Cuts off what stands behind the start, and writes the record there. A missing file is made first.
 fn write_record(path: &[u8], fd: i32, len: usize, start: usize, record: &[u8]) -> bool
-    requires { ⌜ start ≤ 65536 ⌝ }
+    requires { ⌜ start ≤ maxLength ⌝ }
 {
     let file = made(path, fd);
     if file < 0 {

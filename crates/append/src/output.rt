@@ -7,9 +7,7 @@ use journal::Appended;
 pub(crate) fn print_verdict(answer: Appended) {
     let mut out = [0u8; listing::MAX_LINE];
     let size = verdict_line(answer, &mut out);
-    if !io::write_all(1, &out[..size]) {
-        os::fail(b"append: standard output");
-    }
+    arguments::print(&out[..size], b"append: standard output");
 }
 
 // What the last call that failed says of a file.
@@ -43,31 +41,13 @@ pub(crate) fn malformed_tick(before: usize) {
 
 // The help, if it is what the first argument asks for; fewer arguments than are needed are wrong.
 pub(crate) fn usage() {
-    let mut word = [0u8; 6];
-    let size = os::arg(1, &mut word);
-    if arguments::is_help(&word[..size]) {
-        help();
-    } else {
-        complain(b"it takes FILE DAY NAME CHANCE.., or --help");
-    }
-}
-
-fn help() {
-    io::write_all(1, b"usage: append FILE DAY NAME CHANCE.. < TICKS\n");
-    io::write_all(
-        1,
-        b"Appends a record to the volume FILE, which is made if it is missing. The day counts from 1 January 2000,\n",
-    );
-    io::write_all(
-        1,
-        b"a chance is in a million, a tick is ten microseconds; the ticks are decimal, separated by white space.\n",
-    );
-    io::write_all(
-        1,
-        b"The limits are worked out. A torn end is written over. The last line is the verdict: extended with the\n",
-    );
-    io::write_all(
-        1,
-        b"volume's new length, declined with the refusal's number, or damaged with the fault's number and place.\n",
+    arguments::usage(
+        b"usage: append FILE DAY NAME CHANCE.. < TICKS\n\
+        Appends a record to the volume FILE, which is made if it is missing. The day counts from 1 January 2000,\n\
+        a chance is in a million, a tick is ten microseconds; the ticks are decimal, separated by white space.\n\
+        The limits are worked out. A torn end is written over. The last line is the verdict: extended with the\n\
+        volume's new length, declined with the refusal's number, or damaged with the fault's number and place.\n",
+        b"append: it takes FILE DAY NAME CHANCE.., or --help\n",
+        b"append: standard output",
     );
 }

@@ -23,6 +23,9 @@ const ROOM_REFUSAL: u32 = 9;
 // The most chances of a record, which has as many limits.
 const MAX_CHANCES: usize = 8;
 
+// The bytes that every record has, whatever its sections hold: form, day and the four sections' counts, two bytes each.
+pub const FIXED_SIZE: usize = 12;
+
 // The offer after the record `last`, in a journal of that committed length.
 pub(crate) fn extend_by(
     v: &mut [u8],
@@ -68,7 +71,7 @@ fn extend_within(
         (now (v .entry)) len committed
         (take budget (recordBytes (recordFrom day (now (name .entry)) (now (chances .entry)) (now (times .entry)) (now (limits .entry)))))) ⌝ }
 {
-    let size = 12 + name.len() + 4 * chances.len() + 4 * times.len() + 8 * limits.len();
+    let size = FIXED_SIZE + name.len() + 4 * chances.len() + 4 * times.len() + 8 * limits.len();
     if !has_room(v.len(), committed, size) {
         return Appended::Declined(ROOM_REFUSAL);
     }

@@ -21,6 +21,7 @@ mod record;
 mod section;
 mod write;
 
+pub use extend::FIXED_SIZE;
 pub use number::number_in;
 
 // Document 01's number for an i that is not below the number of records.

@@ -5,7 +5,7 @@ use Prim.Native.Nat.{ℕ, zero, suc, _+_, _≤_}
 use mathlib.Core.List.{List, [], _∷_, _++_, append-assoc}
 use native.Mathlib.Omega.{arith}
 use lib.ListN.{length, take, drop, length-append, length-take, length-drop}
-use lib.Seq.{take-at, drop-at, drop-drop}
+use lib.Seq.{take-at, drop-at, drop-drop, length-take-le}
 use Rattle.journal_spec.specs.Bytes.{joined}
 use Rattle.journal_spec.specs.Refusals.{absentRefusal}
 use Rattle.journal_spec.specs.Record.{Record, lastOf, recordBytes, recordsBytes}
@@ -30,6 +30,13 @@ module _ (slice : List ℕ) (at : ℕ) (new : List ℕ) (fits : at + length new 
   pub written-take : take (at + length new) (written slice at new) ≡ take at slice ++ new
   unfolding written
   written-take = rw (← append-assoc) (take-at (take at slice ++ new) (drop (at + length new) slice) (at + length new) front)
+
+  -- the bytes stand there
+  pub written-part : take (length new) (drop at (written slice at new)) ≡ new
+  unfolding written
+  written-part =
+      rw (drop-at (take at slice) (new ++ drop (at + length new) slice) at (length-take-le at slice (omega arith)))
+      (take-at new (drop (at + length new) slice) (length new) refl)
 
   pub written-drop : drop (at + length new) (written slice at new) ≡ drop (at + length new) slice
   unfolding written

@@ -31,10 +31,7 @@ fn print_line(v: &[u8], cursor: Cursor) -> Printed
     let line = listing::next_line(v, cursor, &mut out);
     let size = line.size;
     let next = line.cursor;
-    let written = io::write_all(1, &out[..size]);
-    if !written {
-        os::fail(b"list: standard output");
-    }
+    let written = arguments::print(&out[..size], b"list: standard output");
     Printed {
         written,
         cursor: next,
@@ -43,26 +40,12 @@ fn print_line(v: &[u8], cursor: Cursor) -> Printed
 
 // The help, if it is what the first argument asks for; any other argument is wrong.
 pub(crate) fn usage() {
-    let mut word = [0u8; 6];
-    let size = os::arg(1, &mut word);
-    if arguments::is_help(&word[..size]) {
-        io::write_all(1, b"usage: list < VOLUME\n");
-        io::write_all(
-            1,
-            b"Prints a line for each record of the volume: name, day, mark, then chance:limit for each chance.\n",
-        );
-        io::write_all(
-            1,
-            b"The last line is the end state: whole or torn with records and committed bytes,\n",
-        );
-        io::write_all(
-            1,
-            b"or, alone, damaged with the fault's number and place.\n",
-        );
-    } else {
-        io::write_all(
-            2,
-            b"list: it takes no argument but --help, and a volume on standard input\n",
-        );
-    }
+    arguments::usage(
+        b"usage: list < VOLUME\n\
+        Prints a line for each record of the volume: name, day, mark, then chance:limit for each chance.\n\
+        The last line is the end state: whole or torn with records and committed bytes,\n\
+        or, alone, damaged with the fault's number and place.\n",
+        b"list: it takes no argument but --help, and a volume on standard input\n",
+        b"list: standard output",
+    );
 }

@@ -1,30 +1,80 @@
--- `extend` appends, and answers the part that is written; it lies inside the slice.
+-- `extend` appends, and works out the start of the written part from its end and the record's length.
 -- Assumes nothing.
+use mathlib.Core.Path.{_≡_, refl, sym, _∙_}
+use Prim.Native.Nat.{ℕ, _+_, _*_, _≤_}
 use native.Mathlib.Omega.{arith}
 use borrow.Author.Needs.{needs}
+use lib.ListN.{length}
 use denote.Ref.{now}
+use Rattle.journal_spec.specs.Scan.{maxLength}
+use Rattle.journal_spec.specs.Append.{Offer}
 use Rattle.journal.specs.Offering.{offerFrom}
-use Rattle.append.proofs.WrittenPart.{extends-inside}
+use Rattle.append.proofs.WrittenPart.{offered-length, extended-said, extends-record, declined-unwritten, damaged-unwritten}
+use Rattle.append.proofs.WrittenPart.{extends-nothing}
 use Rattle.append.proofs.extend.extend.Statement.{statement}
 use Rattle.append.proofs.extend.extend.Tie as tie
 
+-- what is offered
+offer : tie.After-append → Offer
+offer c =
+    let a = c .before .before .before .before .before .before .args in
+    offerFrom (a .day) (now (a .name)) (now (a .chances)) (now (a .times))
+
+-- the record ends at the new length, and that is inside the longest journal
+fits : (c : tie.After-known-told)
+    → let a = c .before .before .before .before .before .before .before .before .before .before .before .args in
+    (12 + length (now (a .name)) + 4 * length (now (a .chances)) + 4 * length (now (a .times)) + 8 * length (now (a .chances)) ≤ c .before .answer .given .0 .0)
+    × (c .before .answer .given .0 .0 ≤ maxLength)
+unfolding offer offerFrom
+fits c =
+    let appended = c .before .before .before .before .before in
+    let a = appended .before .before .before .before .before .before .args in
+    let x = extended-said (now (a .v)) (a .len) (offer appended) (appended .append .result) _ (appended .append .ensures) _ (c .before .answer .given .1) in
+    (omega (arith, x .place, offered-length (offer appended)), omega (arith, x .room))
+
 returns : tie.Need-returns
+unfolding offer offerFrom
 returns c =
-    let appended = c .before .before .before .append in
-    let started = c .before .before .before .before .before in
-    let a = c .before .before .before .before .before .before .before .before .before .before .before .before .args in
-    extends-inside (now (a .v)) (a .len) (offerFrom (a .day) (now (a .name)) (now (a .chances)) (now (a .times)))
-    (appended .result) (started .before .scan .result) (started .committed-in .result) (c .end-in .result) _
-    (appended .ensures) (started .before .scan .ensures)
-    (started .committed-in .ensures) (c .end-in .ensures) (omega arith)
+    let appended = c .before .before .before .before .before in
+    let a = appended .before .before .before .before .before .before .args in
+    extends-record (now (a .v)) (a .len) (offer appended) (appended .append .result) _ (appended .append .ensures)
+    _ _ (c .before .answer .given .1) refl (omega arith)
+
+returns-2 : tie.Need-returns-2
+unfolding offer
+returns-2 c =
+    let appended = c .before .before .before .before in
+    let a = appended .before .before .before .before .before .before .args in
+    extends-nothing (now (a .v)) (a .len) (offer appended) (appended .append .result) _ (appended .append .ensures)
+    (declined-unwritten _ _ (c .enum-told .given .1))
+
+returns-3 : tie.Need-returns-3
+unfolding offer
+returns-3 c =
+    let appended = c .before .before .before .before in
+    let a = appended .before .before .before .before .before .before .args in
+    extends-nothing (now (a .v)) (a .len) (offer appended) (appended .append .result) _ (appended .append .ensures)
+    (damaged-unwritten _ _ (c .enum-told2 .given .1))
 
 pub extend-spec : {M : Type 1} → statement M
 extend-spec =
     tie.close
     (tie.spec
     (λ c κs. search needs)
-    (λ c κs. search needs)
-    (λ c κs. search needs)
-    (λ c κs. search needs)
     (λ c. search needs)
-    returns)
+    (λ c. search needs)
+    (λ c. search needs)
+    (λ c. omega (arith, fits c))
+    (λ c. search needs)
+    (λ c. omega (arith, fits c))
+    (λ c. search needs)
+    (λ c. omega (arith, fits c))
+    (λ c. omega (arith, fits c))
+    (λ c. search needs)
+    (λ c. search needs)
+    (λ c. search needs)
+    returns
+    (λ c. search needs)
+    returns-2
+    (λ c. search needs)
+    returns-3)

@@ -10,8 +10,8 @@ use Rattle.list.proofs.output.print_line.Tie as tie
 array-share-prefix-out : tie.Need-array-share-prefix-out
 array-share-prefix-out c = line-inside _ _ _ _ (c .before .before .next-line .ensures)
 
-slice-aggregate-write-all : tie.Need-slice-aggregate-write-all
-slice-aggregate-write-all c =
+slice-aggregate-print : tie.Need-slice-aggregate-print
+slice-aggregate-print c =
     let line = c .before .before .before .next-line in
     sym (length-take-le (line .result .size) _ (line-inside _ _ _ _ (line .ensures)))
 
@@ -22,9 +22,7 @@ print-line-spec =
     (λ c. search needs)
     (λ c κs. search needs)
     array-share-prefix-out
-    slice-aggregate-write-all
-    (λ c κs. search needs)
+    slice-aggregate-print
     (λ c. search needs)
     (λ c κs. search needs)
-    (λ c. search needs)
     (λ c. search needs))

@@ -1,0 +1,53 @@
+-- What `Extends` gives the program: the part that the file gets is the offered record, whole, from the committed length on, and the file with
+-- it is the journal of the new length. Where nothing is written the part is empty and the slice is as before. Assumes nothing.
+use mathlib.Core.Path.{_≡_, refl, sym, ap, _∙_}
+use Prim.Native.Nat.{ℕ, _+_, _-_, _≤_, _<_}
+use mathlib.Core.List.{List, [], _++_}
+use native.Mathlib.Omega.{arith}
+use lib.ListN.{length, take, drop}
+use lib.Seq.{take-take}
+use Rattle.journal_spec.specs.Record.{recordBytes}
+use Rattle.journal_spec.specs.Scan.{scanOf}
+use Rattle.journal_spec.specs.Append.{Offer, offered, extended, Outcome, appendOf}
+use Rattle.journal_spec.proofs.Writing.{written-nil}
+use Rattle.journal_spec.proofs.Placing.{written-take}
+use Rattle.journal.specs.Answers.{outcomeOf}
+use Rattle.append.specs.declared.extend.Extension.{Extension}
+use Rattle.append.specs.Extension.{committedIn, startIn, endIn, partIn, Extends}
+use Rattle.append.proofs.WrittenPart.{Extended, append-extended, offered-length, Unwritten, Empty, empty}
+
+module _ (slice : List ℕ) (len : ℕ) (o : Offer) (r : Extension) (after : List ℕ) (x : Extends slice len o r after) where
+  -- ---- where the append extends the journal
+  module _ (n : ℕ) (told : appendOf slice len o .answer ≡ extended n) where
+    all : Extended slice len o n (appendOf slice len o .slice)
+    all = append-extended slice len o n told
+
+    pub part-starts : r .start ≡ committedIn (scanOf slice len)
+    unfolding startIn
+    part-starts = x .starts ∙ rw told refl
+
+    pub part-ends : r .end ≡ n
+    unfolding endIn
+    part-ends = x .ends ∙ rw told refl
+
+    pub part-is-record : take (r .end - r .start) (drop (r .start) after) ≡ recordBytes (offered o)
+    unfolding partIn
+    part-is-record = x .part ∙ rw told refl
+
+    -- the program writes a part that is not empty: this one is not
+    pub part-not-empty : r .start < r .end
+    part-not-empty = omega (arith, part-starts, part-ends, all .place, offered-length o)
+
+    -- the file held the journal; cut at the part's start, with the part behind it, it holds the journal of the new length
+    pub file-after : take (r .start) (take len slice) ++ take (r .end - r .start) (drop (r .start) after) ≡ take n after
+    unfolding outcomeOf
+    file-after =
+        let same : after ≡ appendOf slice len o .slice = ap (λ (y : Outcome). y .slice) (x .outcome) in
+        rw (part-is-record, part-starts, take-take _ _ slice (all .kept), same ∙ all .bytes, all .place)
+        (sym (written-take slice _ (recordBytes (offered o)) (omega (arith, all .place, all .room))))
+
+  -- ---- where it is declined or the journal is damaged
+  pub nothing-written : Unwritten (appendOf slice len o .answer) → (r .start ≡ r .end) × (after ≡ slice)
+  nothing-written u =
+      let none = empty (scanOf slice len) o (appendOf slice len o .answer) u in
+      (x .starts ∙ none .starts ∙ sym (x .ends ∙ none .ends), x .rest ∙ rw (none .part) (written-nil slice (r .start)))
