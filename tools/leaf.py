@@ -1,0 +1,112 @@
+"""Document 01's Limit, Leaf and mark, for the tools that make volumes: written from that paper alone, and not from our code.
+
+The quantile is not worked out here. Its bits come from the Rust: tools/journal_quantiles has those of eight chances, and the
+list crates/quantile_vectors/stdin, which tools/quantile-vectors makes, those of some more. The rest of a limit is worked out in
+this machine's doubles, whose +, *, / and sqrt round correctly.
+"""
+import functools
+import math
+import pathlib
+import struct
+
+ROOT = pathlib.Path(__file__).resolve().parent.parent
+LONGEST = 65536  # bytes of a volume, at the most
+
+
+def bits_of(x):
+    return struct.unpack("<Q", struct.pack("<d", x))[0]
+
+
+def double_of(bits):
+    return struct.unpack("<d", struct.pack("<Q", bits))[0]
+
+
+# ---- The quantile of a chance, from the Rust.
+
+
+def pairs_of(path):
+    """The two words of every line that is no comment."""
+    with open(ROOT / path, encoding="ascii") as lines:
+        return [line.split() for line in lines if not line.startswith("#")]
+
+
+def quantiles_of_eight():
+    return {int(chance): double_of(int(bits, 16)) for chance, bits in pairs_of("tools/journal_quantiles")}
+
+
+def quantiles_stored():
+    """The lines of the stored list whose argument is chance / 500000 of some chance."""
+    found = {}
+    for argument, result in pairs_of("crates/quantile_vectors/stdin"):
+        x = double_of(int(argument, 16))
+        chance = round(x * 500000) if 0 < x < 2 else 0
+        if chance > 0 and chance / 500000 == x:
+            found[chance] = double_of(int(result, 16))
+    return found
+
+
+QUANTILE = {**quantiles_stored(), **quantiles_of_eight()}
+assert quantiles_stored().items() <= QUANTILE.items(), "the two lists of quantiles differ"
+EIGHT = sorted(quantiles_of_eight())  # the chances of either list
+STORED = sorted(quantiles_stored())
+
+
+# ---- Limit, mark and Leaf.
+
+
+def limit_of(times, chance):
+    """mean + (spread * 1.4142135623730951) * e, one rounding an operation, products from the left."""
+    n, total = len(times), sum(times)
+    d = n * sum(time * time for time in times) - total * total
+    mean = float(total) / float(n)
+    spread = math.sqrt(float(d) / float(n * n))
+    return mean + (spread * 1.4142135623730951) * QUANTILE[chance]
+
+
+def mark_of(times):
+    if len(set(times)) == 1:
+        return "F"
+    return "S" if len(times) < 8 else "N"
+
+
+class Leaf:
+    """A record as its fields, in range or not. Limits that are not given are worked out, as bits, when they are asked for;
+    a count that is not given is the section's own."""
+
+    def __init__(self, day=1, name=b"A", chances=(500000,), times=(100, 100), form=1, limits=None, counts=None):
+        self.form, self.day, self.name = form, day, bytes(name)
+        self.chances, self.times = tuple(chances), tuple(times)
+        self.counts = counts or {}
+        if limits is not None:
+            self.limits = tuple(limits)
+
+    @functools.cached_property
+    def limits(self):
+        return tuple(bits_of(limit_of(self.times, chance)) for chance in self.chances)
+
+    def fields(self):
+        """Each field in byte order: what it is, its width, its value."""
+        yield "form", 2, self.form
+        yield "day", 2, self.day
+        sections = [("name", 1, self.name), ("chance", 4, self.chances), ("time", 4, self.times), ("limit", 8, self.limits)]
+        for kind, width, values in sections:
+            yield kind + " count", 2, self.counts.get(kind, len(values))
+            for i, value in enumerate(values):
+                yield f"{kind} {i}", width, value
+
+    def bytes(self):
+        return b"".join(value.to_bytes(width, "little") for _, width, value in self.fields())
+
+    def place(self, wanted):
+        """The first byte of a field, and its width."""
+        at = 0
+        for kind, width, _ in self.fields():
+            if kind == wanted:
+                return at, width
+            at += width
+        raise KeyError(wanted)
+
+    def line(self):
+        """The record's line of the listing."""
+        pairs = [f"{chance}:{limit:016x}" for chance, limit in zip(self.chances, self.limits)]
+        return " ".join([self.name.decode("ascii"), str(self.day), mark_of(self.times), *pairs]) + "\n"
