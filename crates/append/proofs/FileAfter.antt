@@ -1,10 +1,10 @@
 -- What `Extends` gives the program: the part that the file gets is the offered record, whole, from the committed length on, and the file with
 -- it is the journal of the new length. Where nothing is written the part is empty and the slice is as before. Assumes nothing.
 use mathlib.Core.Path.{_≡_, refl, sym, ap, _∙_}
-use Prim.Native.Nat.{ℕ, _+_, _-_, _≤_, _<_}
-use mathlib.Core.List.{List, [], _++_}
+use Prim.Native.Nat.{ℕ, _-_, _<_}
+use mathlib.Core.List.{List, _++_}
 use native.Mathlib.Omega.{arith}
-use lib.ListN.{length, take, drop}
+use lib.ListN.{take, drop}
 use lib.Seq.{take-take}
 use Rattle.journal_spec.specs.Record.{recordBytes}
 use Rattle.journal_spec.specs.Scan.{scanOf}
@@ -14,7 +14,7 @@ use Rattle.journal_spec.proofs.Placing.{written-take}
 use Rattle.journal.specs.Answers.{outcomeOf}
 use Rattle.append.specs.declared.extend.Extension.{Extension}
 use Rattle.append.specs.Extension.{committedIn, startIn, endIn, partIn, Extends}
-use Rattle.append.proofs.WrittenPart.{Extended, append-extended, offered-length, Unwritten, Empty, empty}
+use Rattle.append.proofs.WrittenPart.{Extended, append-extended, offered-length, Unwritten, empty}
 
 module _ (slice : List ℕ) (len : ℕ) (o : Offer) (r : Extension) (after : List ℕ) (x : Extends slice len o r after) where
   -- ---- where the append extends the journal

@@ -31,6 +31,7 @@ pub fn extend(
     let answer = journal::append(v, len, day, name, chances, times);
     match answer {
         Appended::Extended(end) => {
+            // The record's length: it has as many limits as chances.
             let size = journal::FIXED_SIZE
                 + name.len()
                 + 4 * chances.len()
