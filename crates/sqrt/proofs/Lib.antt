@@ -1,3 +1,5 @@
+-- The laws behind the root's proofs, one idea to a file, in the order in which they build on each other, and worked cases.
+-- `Nearest` has the theorem that the root is the nearest double, `Negative` that no negative one is nearer.
 pub mod Squares
 pub mod Extending
 pub mod Checking

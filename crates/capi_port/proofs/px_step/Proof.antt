@@ -1,3 +1,5 @@
+-- `px_step`: the equation of `step` rewrites what is stored, the low part's pattern and then the high part's.
+-- Assumes nothing.
 use Rattle.pxfm.proofs.Calls.{ok}
 use Rattle.capi_port.proofs.px_step.Statement.{statement}
 use Rattle.capi_port.proofs.px_step.Tie as tie

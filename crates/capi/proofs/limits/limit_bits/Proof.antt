@@ -1,3 +1,5 @@
+-- `limit_bits`: the equation of `limit` says what its answer means; each arm knows which answer that is, and writes its two words.
+-- Assumes nothing.
 use mathlib.Core.Path.{_∙_, sym, ap}
 use borrow.Author.Needs.{needs}
 use Rattle.limit.specs.Answer.{meaning}

@@ -1,3 +1,5 @@
+-- `core`: the test that the high part is below 1 is what `erf_core` requires; each branch is the definition's.
+-- Assumes nothing.
 use borrow.Author.Needs.{needs}
 use Rattle.pxfm.specs.Checked.{checkedErfCore}
 use Rattle.pxfm.proofs.Calls.{ok}

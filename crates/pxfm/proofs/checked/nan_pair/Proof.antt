@@ -1,3 +1,5 @@
+-- `nan_pair`: 0 / 0 is computed to be the NaN, and `new` makes the pair.
+-- Assumes nothing.
 use lib.Ieee.{div, ofBits}
 use Rattle.pxfm.proofs.Calls.{ok}
 use Rattle.pxfm.proofs.checked.nan_pair.Statement.{statement}

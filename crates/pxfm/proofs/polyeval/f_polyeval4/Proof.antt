@@ -1,3 +1,5 @@
+-- `f_polyeval4`: the equations of its three calls, the last one first, rewrite the result to the definition's.
+-- Assumes nothing.
 use Rattle.pxfm.specs.Polyeval.{fPolyeval4}
 use Rattle.pxfm.proofs.Calls.{ok}
 use Rattle.pxfm.proofs.polyeval.f_polyeval4.Statement.{statement}

@@ -1,3 +1,5 @@
+-- `f_polyeval5`: the equations of its four calls, the last one first, rewrite the result to the definition's.
+-- Assumes nothing.
 use Rattle.pxfm.specs.Polyeval.{fPolyeval5}
 use Rattle.pxfm.proofs.Calls.{ok}
 use Rattle.pxfm.proofs.polyeval.f_polyeval5.Statement.{statement}

@@ -1,3 +1,5 @@
+-- `polyeval_mla`: the result is that of its one call, `f_fmla`, with the arguments in the same order.
+-- Assumes nothing.
 use borrow.Author.Needs.{needs}
 use Rattle.pxfm.proofs.Calls.{ok}
 use Rattle.pxfm.proofs.polyeval.polyeval_mla.Statement.{statement}

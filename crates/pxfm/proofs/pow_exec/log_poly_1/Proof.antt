@@ -1,3 +1,5 @@
+-- `log_poly_1`: the six coefficients are computed not to be a NaN's patterns, and are those of the definition's list;
+-- the equations of its eight calls, the last one first, rewrite the result to the definition's. Assumes nothing.
 use lib.Ieee.{nanBits}
 use borrow.Author.Needs.{needs}
 use Rattle.pxfm.specs.PowExec.{logPoly1, p1}

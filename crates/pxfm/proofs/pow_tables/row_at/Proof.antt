@@ -1,3 +1,5 @@
+-- `row_at`: in each of the 182 arms the three constants are computed to be the definition's entries at that number.
+-- In the last arm the index is past the lists' end, where the definition gives 0 as the code does. Assumes nothing.
 use mathlib.Core.Path.{_≡_, refl}
 use Rattle.pxfm.specs.PowTables.{powInverse}
 use Rattle.pxfm.specs.LogTable.{fastLogDdInvLo, fastLogDdInvHi, RowAt}

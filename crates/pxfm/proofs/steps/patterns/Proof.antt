@@ -1,3 +1,5 @@
+-- `patterns`: both parts by the equation of `bits_of`.
+-- Assumes nothing.
 use borrow.Author.Needs.{needs}
 use Rattle.pxfm.proofs.steps.patterns.Statement.{statement}
 use Rattle.pxfm.proofs.steps.patterns.Tie as tie

@@ -1,3 +1,5 @@
+-- `result`: the arm with number k calls the function whose definition stands at k in the list `results`, and its equations rewrite the result.
+-- Assumes nothing.
 use mathlib.Core.Path.{ap}
 use Rattle.pxfm.specs.Checked.{nanPair}
 use Rattle.pxfm.specs.Steps.{patternsOf, results, resultOf}

@@ -1,3 +1,5 @@
+-- `step`: the equations of the six `of_bits` and of `result` rewrite the result to the definition's.
+-- Assumes nothing.
 use borrow.Author.Needs.{needs}
 use Rattle.pxfm.specs.Steps.{stepOf}
 use Rattle.pxfm.proofs.Calls.{ok}

@@ -1,3 +1,5 @@
+-- `dd_f64_mul_add`: the equations of its three calls, the product's pair, the sum with c and `to_f64`, rewrite the result to the definition's.
+-- Assumes nothing.
 use Rattle.pxfm.specs.DoubleDouble.{ddF64MulAdd}
 use Rattle.pxfm.proofs.Calls.{ok}
 use Rattle.pxfm.proofs.double_double.DoubleDouble.dd_f64_mul_add.Statement.{statement}

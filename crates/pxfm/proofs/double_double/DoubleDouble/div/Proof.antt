@@ -1,3 +1,5 @@
+-- `div`: the equations of the two exact products with the negated quotient and of `new` rewrite the result to the definition's.
+-- Assumes nothing.
 use Rattle.pxfm.specs.DoubleDouble.{divOf}
 use Rattle.pxfm.proofs.Calls.{ok}
 use Rattle.pxfm.proofs.double_double.DoubleDouble.div.Statement.{statement}

@@ -1,3 +1,5 @@
+-- `f64_add`: the equation of its one call, `from_exact_add`, rewrites the result to the definition's.
+-- Assumes nothing.
 use Rattle.pxfm.specs.DoubleDouble.{f64Add}
 use Rattle.pxfm.proofs.Calls.{ok}
 use Rattle.pxfm.proofs.double_double.DoubleDouble.f64_add.Statement.{statement}

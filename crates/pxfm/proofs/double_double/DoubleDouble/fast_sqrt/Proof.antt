@@ -1,3 +1,5 @@
+-- `fast_sqrt`: the equations of `sqrt` and of the root's exact square rewrite the result to the definition's; the correction's steps are the same operations.
+-- Assumes nothing.
 use Rattle.pxfm.specs.DoubleDouble.{fastSqrt}
 use Rattle.pxfm.proofs.Calls.{ok}
 use Rattle.pxfm.proofs.double_double.DoubleDouble.fast_sqrt.Statement.{statement}

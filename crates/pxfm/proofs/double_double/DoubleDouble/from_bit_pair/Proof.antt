@@ -1,3 +1,5 @@
+-- `from_bit_pair`: what it requires, that neither pattern is a NaN's, is what `f64::from_bits` asks; the result is the definition itself.
+-- Assumes nothing.
 use mathlib.Core.Path.{refl}
 use borrow.Author.Needs.{needs}
 use Rattle.pxfm.specs.DoubleDouble.{fromBitPair}

@@ -1,3 +1,5 @@
+-- `from_exact_add`: its three operations are the definition's, and `new` makes the pair.
+-- Assumes nothing.
 use Rattle.pxfm.specs.DoubleDouble.{fromExactAdd}
 use Rattle.pxfm.proofs.Calls.{ok}
 use Rattle.pxfm.proofs.double_double.DoubleDouble.from_exact_add.Statement.{statement}

@@ -1,3 +1,5 @@
+-- `from_exact_mult`: the equations of both splits and of `new` rewrite the result to the definition's; the steps between them are the same operations.
+-- Assumes nothing.
 use Rattle.pxfm.specs.DoubleDouble.{fromExactMult}
 use Rattle.pxfm.proofs.Calls.{ok}
 use Rattle.pxfm.proofs.double_double.DoubleDouble.from_exact_mult.Statement.{statement}

@@ -1,3 +1,5 @@
+-- `from_full_exact_add`: its six operations are the definition's, and `new` makes the pair.
+-- Assumes nothing.
 use Rattle.pxfm.specs.DoubleDouble.{fromFullExactAdd}
 use Rattle.pxfm.proofs.Calls.{ok}
 use Rattle.pxfm.proofs.double_double.DoubleDouble.from_full_exact_add.Statement.{statement}

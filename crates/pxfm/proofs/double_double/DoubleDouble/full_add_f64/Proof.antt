@@ -1,3 +1,5 @@
+-- `full_add_f64`: the equation of its one call, `from_full_exact_add`, rewrites the result to the definition's.
+-- Assumes nothing.
 use Rattle.pxfm.specs.DoubleDouble.{fullAddF64}
 use Rattle.pxfm.proofs.Calls.{ok}
 use Rattle.pxfm.proofs.double_double.DoubleDouble.full_add_f64.Statement.{statement}

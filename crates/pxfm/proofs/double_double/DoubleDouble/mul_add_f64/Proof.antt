@@ -1,3 +1,5 @@
+-- `mul_add_f64`: the equations of the product, of the sum of c and its high part and of `new` rewrite the result to the definition's.
+-- Assumes nothing.
 use Rattle.pxfm.specs.DoubleDouble.{mulAddF64}
 use Rattle.pxfm.proofs.Calls.{ok}
 use Rattle.pxfm.proofs.double_double.DoubleDouble.mul_add_f64.Statement.{statement}

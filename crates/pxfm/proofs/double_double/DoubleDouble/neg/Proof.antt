@@ -1,3 +1,5 @@
+-- `neg`: both parts with the other sign, which is the definition itself.
+-- Assumes nothing.
 use mathlib.Core.Path.{refl}
 use Rattle.pxfm.specs.DoubleDouble.{negOf}
 use Rattle.pxfm.proofs.double_double.DoubleDouble.neg.Statement.{statement}

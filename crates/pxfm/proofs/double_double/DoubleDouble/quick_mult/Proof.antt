@@ -1,3 +1,5 @@
+-- `quick_mult`: the equations of the high parts' exact product and of `new` rewrite the result to the definition's.
+-- The two cross products are summed first in both: in another order the two sides would not be the same term. Assumes nothing.
 use Rattle.pxfm.specs.DoubleDouble.{quickMult}
 use Rattle.pxfm.proofs.Calls.{ok}
 use Rattle.pxfm.proofs.double_double.DoubleDouble.quick_mult.Statement.{statement}

@@ -1,3 +1,5 @@
+-- `quick_mult_f64`: the equations of the high part's exact product and of `new` rewrite the result to the definition's.
+-- Assumes nothing.
 use Rattle.pxfm.specs.DoubleDouble.{quickMultF64}
 use Rattle.pxfm.proofs.Calls.{ok}
 use Rattle.pxfm.proofs.double_double.DoubleDouble.quick_mult_f64.Statement.{statement}

@@ -1,3 +1,5 @@
+-- `recip`: the equations of the two exact products with 1 / hi and of `new` rewrite the result to the definition's.
+-- Assumes nothing.
 use Rattle.pxfm.specs.DoubleDouble.{recipOf}
 use Rattle.pxfm.proofs.Calls.{ok}
 use Rattle.pxfm.proofs.double_double.DoubleDouble.recip.Statement.{statement}

@@ -1,3 +1,5 @@
+-- `to_f64`: the sum of the two parts, which is the definition itself.
+-- Assumes nothing.
 use mathlib.Core.Path.{refl}
 use Rattle.pxfm.specs.DoubleDouble.{toF64}
 use Rattle.pxfm.proofs.double_double.DoubleDouble.to_f64.Statement.{statement}

@@ -1,3 +1,5 @@
+-- `asymptotic`: the equations of the steps that both branches share, and of the rational that `short` chooses, rewrite the result to the definition's.
+-- Assumes nothing.
 use Rattle.pxfm.specs.Inverfc.{asymptotic}
 use Rattle.pxfm.proofs.Calls.{ok}
 use Rattle.pxfm.proofs.err.inverfc.asymptotic.Statement.{statement}

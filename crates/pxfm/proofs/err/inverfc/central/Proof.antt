@@ -1,3 +1,5 @@
+-- `central`: that the pair's high part is below 1 is the law `argument-below-one`, from the three requirements;
+-- the equations of its four calls rewrite the result to the definition's. Assumes nothing.
 use borrow.Author.Needs.{needs}
 use Rattle.pxfm.specs.Inverfc.{central}
 use Rattle.pxfm.proofs.Argument.{argument-below-one}

@@ -1,3 +1,5 @@
+-- `centred`: the equations of the square and of the sum with -0.5625 rewrite the result to the definition's.
+-- Assumes nothing.
 use Rattle.pxfm.specs.Rationals.{centred}
 use Rattle.pxfm.proofs.Calls.{ok}
 use Rattle.pxfm.proofs.err.inverfc.centred.Statement.{statement}

@@ -1,3 +1,5 @@
+-- `core_argument`: the equations of its four calls, the last one first, rewrite the result to the definition's.
+-- Assumes nothing.
 use Rattle.pxfm.specs.Argument.{coreArgument, complement}
 use Rattle.pxfm.proofs.Calls.{ok}
 use Rattle.pxfm.proofs.err.inverfc.core_argument.Statement.{statement}

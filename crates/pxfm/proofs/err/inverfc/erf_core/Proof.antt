@@ -1,3 +1,5 @@
+-- `erf_core`: each return is rewritten by its piece's equation and the outcomes of the tests before it; `tail` requires what the last test left.
+-- Assumes nothing.
 use mathlib.Core.Path.{_≡_}
 use mathlib.Core.Bool.{true, false}
 use lib.Ieee.{binary64, ofBits, le}

@@ -1,3 +1,5 @@
+-- `f_erfcinv_bits`: the equations of its three calls, the last one first, rewrite the result to the definition's.
+-- Assumes nothing.
 use Rattle.pxfm.proofs.Calls.{ok}
 use Rattle.pxfm.proofs.err.inverfc.f_erfcinv_bits.Statement.{statement}
 use Rattle.pxfm.proofs.err.inverfc.f_erfcinv_bits.Tie as tie

@@ -1,3 +1,5 @@
+-- `inverf_0p06_to_0p75`: the equations of its eight calls, from the product with x back to the centred square, rewrite the result to the definition's.
+-- Assumes nothing.
 use Rattle.pxfm.specs.Rationals.{inverf0p06To0p75}
 use Rattle.pxfm.proofs.Calls.{ok}
 use Rattle.pxfm.proofs.err.inverfc.inverf_0p06_to_0p75.Statement.{statement}

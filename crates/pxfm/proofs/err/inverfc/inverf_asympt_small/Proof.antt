@@ -1,3 +1,5 @@
+-- `inverf_asympt_small`: the equations of its seven calls, from the product with the root of zeta back to z's square, rewrite the result.
+-- Assumes nothing.
 use Rattle.pxfm.specs.Rationals.{inverfAsymptSmall}
 use Rattle.pxfm.proofs.Calls.{ok}
 use Rattle.pxfm.proofs.err.inverfc.inverf_asympt_small.Statement.{statement}

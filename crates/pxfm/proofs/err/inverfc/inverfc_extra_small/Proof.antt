@@ -1,3 +1,5 @@
+-- `inverfc_extra_small`: the logarithm asks what is required here; the equations of its two calls rewrite the result to the definition's.
+-- Assumes nothing.
 use borrow.Author.Needs.{needs}
 use Rattle.pxfm.specs.Inverfc.{inverfcExtraSmall}
 use Rattle.pxfm.proofs.Calls.{ok}

@@ -1,3 +1,5 @@
+-- `long_num`: the code's coefficients are computed to be the entries of the definition's list;
+-- the equations of its thirteen `mul_add`, the last one first, rewrite the result to the definition's. Assumes nothing.
 use Rattle.pxfm.specs.Rationals.{paired14, pAsymptLong}
 use Rattle.pxfm.specs.DoubleDouble.{fromBitPair}
 use Rattle.pxfm.proofs.Calls.{ok}

@@ -1,3 +1,5 @@
+-- `middle`: the definition's condition is turned into the answers that the two calls gave, so that the branch taken decides it;
+-- the other branch adds the equation of the slower rational. Assumes nothing.
 use Rattle.pxfm.specs.Inverfc.{middle}
 use Rattle.pxfm.proofs.Calls.{ok}
 use Rattle.pxfm.proofs.err.inverfc.middle.Statement.{statement}

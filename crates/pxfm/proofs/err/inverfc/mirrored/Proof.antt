@@ -1,3 +1,5 @@
+-- `mirrored`: its test is the definition's; each branch is rewritten by the equation of its one call.
+-- Assumes nothing.
 use Rattle.pxfm.specs.Argument.{mirrored}
 use Rattle.pxfm.proofs.Calls.{ok}
 use Rattle.pxfm.proofs.err.inverfc.mirrored.Statement.{statement}

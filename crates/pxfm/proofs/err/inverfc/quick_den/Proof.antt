@@ -1,3 +1,5 @@
+-- `quick_den`: the code's coefficients are computed to be the entries of the definition's list, of the upper five the high parts;
+-- the equations of its six calls, the last one first, rewrite the result to the definition's. Assumes nothing.
 use Rattle.pxfm.specs.Inverfc.{horner10}
 use Rattle.pxfm.specs.Rationals.{q0p06To0p75}
 use Rattle.pxfm.specs.DoubleDouble.{fromBitPair}

@@ -1,3 +1,5 @@
+-- `quick_rational`: the equations of its five calls, from the product with x back to the centred square, rewrite the result to the definition's.
+-- Assumes nothing.
 use Rattle.pxfm.specs.Inverfc.{quickRational}
 use Rattle.pxfm.proofs.Calls.{ok}
 use Rattle.pxfm.proofs.err.inverfc.quick_rational.Statement.{statement}

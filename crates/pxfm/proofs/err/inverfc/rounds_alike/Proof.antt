@@ -1,3 +1,5 @@
+-- `rounds_alike`: its two constants are no NaN's patterns, by computation; the equation of the error's `f_fmla` makes the comparison the definition's.
+-- Assumes nothing.
 use lib.Ieee.{nanBits}
 use Rattle.pxfm.specs.Inverfc.{roundsAlike}
 use Rattle.pxfm.proofs.Calls.{ok}

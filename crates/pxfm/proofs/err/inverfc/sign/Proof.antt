@@ -1,3 +1,5 @@
+-- `sign`: its test is the definition's; -1.0 and 1.0 are computed to be the definition's two doubles.
+-- Assumes nothing.
 use lib.Ieee.{neg, ofBits}
 use Rattle.pxfm.specs.Inverfc.{signOf}
 use Rattle.pxfm.proofs.err.inverfc.sign.Statement.{statement}

@@ -1,3 +1,5 @@
+-- `small_den`: the code's coefficients are computed to be the entries of the definition's list, and 1.0 its `one`;
+-- the equations of its ten calls, the last one first, rewrite the result to the definition's. Assumes nothing.
 use Rattle.pxfm.specs.Rationals.{paired11, qAsymptSmall}
 use Rattle.pxfm.specs.DoubleDouble.{fromBitPair}
 use Rattle.pxfm.proofs.Calls.{ok}

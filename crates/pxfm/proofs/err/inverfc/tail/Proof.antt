@@ -1,3 +1,5 @@
+-- `tail`: that the logarithm's argument is positive and finite is the law `log-argument`, from the two requirements;
+-- the equations of its four calls rewrite the result to the definition's. Assumes nothing.
 use borrow.Author.Needs.{needs}
 use Rattle.pxfm.specs.Inverfc.{tail}
 use Rattle.pxfm.proofs.Argument.{log-argument}

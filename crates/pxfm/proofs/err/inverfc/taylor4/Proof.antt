@@ -1,3 +1,5 @@
+-- `taylor4`: its two constants are no NaN's patterns, by computation; the equations of its seven calls, the last one first, rewrite the result.
+-- Assumes nothing.
 use lib.Ieee.{nanBits}
 use Rattle.pxfm.specs.Inverfc.{taylor4}
 use Rattle.pxfm.proofs.Calls.{ok}

@@ -1,3 +1,5 @@
+-- `taylor7`: its six constants are no NaN's patterns, by computation; the equations of its nine calls, the last one first, rewrite the result.
+-- Assumes nothing.
 use lib.Ieee.{nanBits}
 use Rattle.pxfm.specs.Inverfc.{taylor7}
 use Rattle.pxfm.proofs.Calls.{ok}

@@ -1,3 +1,5 @@
+-- `carry`: its test is the definition's, and the answer 1 or 0 is at most 1.
+-- Assumes nothing.
 use native.Mathlib.Omega.{arith}
 use borrow.Author.Tests.{le-leb, lt-leb}
 use Rattle.pxfm.specs.FastLogDd.{carryOf}

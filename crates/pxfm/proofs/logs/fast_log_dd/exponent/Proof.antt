@@ -1,3 +1,5 @@
+-- `exponent`: the exponent is at most 2097 and the carry at most 1, so the sum does not wrap;
+-- the law `exponent-signed` turns the double of the biased sum less 1074 into the double of the signed exponent. Assumes nothing.
 use mathlib.Core.Path.{_≡_}
 use Prim.Native.Nat.{_+_}
 use native.Mathlib.Omega.{arith}

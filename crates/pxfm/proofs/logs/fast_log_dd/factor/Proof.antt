@@ -1,3 +1,5 @@
+-- `factor`: its test is the definition's; 0.5 and 1.0 are computed to be the definition's two doubles.
+-- Assumes nothing.
 use lib.Ieee.{ofBits}
 use borrow.Author.Tests.{le-leb, lt-leb}
 use Rattle.pxfm.specs.FastLogDd.{factorOf}

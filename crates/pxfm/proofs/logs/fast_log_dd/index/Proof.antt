@@ -1,3 +1,5 @@
+-- `index`: the test is the definition's, and in each branch the bounds on m put m shifted down between 181 and 362.
+-- Assumes nothing.
 use native.Mathlib.Omega.{arith}
 use borrow.Author.Needs.{needs}
 use borrow.Author.Tests.{le-leb, lt-leb}

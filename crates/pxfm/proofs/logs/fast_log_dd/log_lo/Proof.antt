@@ -1,3 +1,5 @@
+-- `log_lo`: each return is rewritten by the outcomes of the tests before it; its three tests are the definition's, taken one by one.
+-- Assumes nothing.
 use lib.Ieee.{nanBits}
 use Rattle.pxfm.specs.FastLogDd.{logLo}
 use Rattle.pxfm.proofs.logs.fast_log_dd.log_lo.Statement.{statement}

@@ -1,3 +1,5 @@
+-- `log_parts`: x is no NaN since its pattern is below an infinity's, and no entry of the tables is one;
+-- the equations of its calls, the last one first, rewrite the result to the definition's. Assumes nothing.
 use borrow.Author.Needs.{needs}
 use Rattle.pxfm.specs.DoubleDouble.{log2Dd, fromBitPair}
 use Rattle.pxfm.specs.FastLogDd.{partsOf}

@@ -1,3 +1,5 @@
+-- `reduced`: the pattern with the exponent's field 1023 is below an infinity's, so it is no NaN's; then the equation of `factor` rewrites the result.
+-- Assumes nothing.
 use native.Mathlib.Omega.{arith}
 use borrow.Author.Needs.{needs}
 use Rattle.pxfm.specs.FastLogDd.{reducedOf}

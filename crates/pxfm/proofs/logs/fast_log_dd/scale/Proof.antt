@@ -1,3 +1,5 @@
+-- `scale`: a subnormal's shift is that of the law `shifted`, by which nothing is lost above and the significand has 53 bits;
+-- for the others the bounds on the pattern give those on significand and exponent. Assumes nothing.
 use mathlib.Core.Path.{ap}
 use Prim.Native.Nat.{ℕ, _-_}
 use native.Mathlib.Omega.{arith}
