@@ -11,7 +11,6 @@ use crate::words::put_record;
 use crate::words::put_state;
 use journal::Status;
 
-mod mark;
 mod spans;
 mod text;
 mod words;
