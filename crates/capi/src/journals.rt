@@ -6,6 +6,7 @@ ghost use Rattle.journal_spec.specs.Read.{partPlace, readMark};
 ghost use Rattle.capi.specs.Journal.{scanWords, partWords, markWord};
 use journal::Marked;
 use journal::Status;
+use journal::marks::letter_of;
 
 // 0 whole or 1 torn, with the number of records and the committed length; or 2, with the fault's number and place.
 #[no_mangle]
@@ -42,9 +43,7 @@ pub extern "C" fn journal_mark(v: &[u8], len: usize, i: usize) -> u64
 {
     let m = journal::mark(v, len, i);
     match m {
-        Marked::Flat => 0x46,
-        Marked::Few => 0x53,
-        Marked::Normal => 0x4e,
+        Marked::As(mark) => letter_of(mark) as u64,
         Marked::Refused(n) => n as u64,
     }
 }

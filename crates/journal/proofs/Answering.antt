@@ -11,7 +11,7 @@ use Rattle.journal_spec.specs.Refusals.{lengthRefusal, absentRefusal}
 use Rattle.journal_spec.specs.Record.{Last, lastOf, recordBytes}
 use Rattle.journal_spec.specs.Scan.{maxLength, Placed, recordsOf, standing, faulty, contentsOf, whole, torn, damaged, statusOf, scanOf}
 use Rattle.journal_spec.specs.Scan as Scan
-use Rattle.journal_spec.specs.Read.{noPart, partAt, partOf, partPlace, marked, unmarked, markOf, markAt, markIn, readMark}
+use Rattle.journal_spec.specs.Read.{noPart, partAt, partOf, partPlace, marked, unmarked, markFrom, markOf, markAt, markIn, readMark}
 use Rattle.journal_spec.specs.Append.{Offer, offered, appendRefusal, unchanged, settle, appendTo, appendUpto}
 use Rattle.journal_spec.proofs.Scanning.{contents-long}
 use Rattle.journal_spec.proofs.RecordsLoop.{contents-part, mark-beyond}
@@ -23,7 +23,7 @@ use Rattle.journal.specs.declared.contents.Contents.the-variants as C
 use Rattle.journal.specs.declared.Appended.the-variants as A
 use Rattle.journal.specs.Records.{asLast}
 use Rattle.journal.specs.Contents.{headOf, shownOf, noneShown, shownAt, contentsRead, recordsRead}
-use Rattle.journal.specs.Answers.{markFrom, appendMeaning, lengthAfter, outcomeOf}
+use Rattle.journal.specs.Answers.{appendMeaning, lengthAfter, outcomeOf}
 
 -- ---- the length
 

@@ -14,6 +14,8 @@ pub mod Flat
 pub mod Parts
 pub mod LimitsPart
 pub mod Heads
+-- the mark
+pub mod Equal
 -- the pass over the records, and the answers
 pub mod Counting
 pub mod Inside

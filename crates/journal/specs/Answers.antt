@@ -2,16 +2,16 @@
 -- The contracts of the public functions cite these.
 use Prim.Native.Nat.{ℕ}
 use mathlib.Core.List.{List}
-use mathlib.Core.Bool.{Bool, cond}
-use lib.Dec.{ltb}
 use Rattle.journal_spec.specs.Scan.{ScanResult, whole, torn, damaged}
-use Rattle.journal_spec.specs.Read.{Mark, flat, few, normal, fewTimes, MarkResult, marked, unmarked}
+use Rattle.journal_spec.specs.Read.{flat, few, normal, MarkResult, marked, unmarked}
 use Rattle.journal_spec.specs.Read as Read
 use Rattle.journal_spec.specs.Append.{AppendResult, extended, declined, Outcome}
 use Rattle.journal_spec.specs.Append as Append
 use Rattle.journal.specs.declared.Status.{Status}
 use Rattle.journal.specs.declared.Status.the-variants as S
 use Rattle.journal.specs.declared.Part.{Part}
+use Rattle.journal.specs.declared.marks.Mark.{Mark}
+use Rattle.journal.specs.declared.marks.Mark.the-variants as K
 use Rattle.journal.specs.declared.Marked.{Marked}
 use Rattle.journal.specs.declared.Marked.the-variants as M
 use Rattle.journal.specs.declared.Appended.{Appended}
@@ -27,16 +27,16 @@ meaning (S.Damaged f) = damaged (f .number) (f .place)
 unfoldable pub partMeaning : Part → Read.Part
 partMeaning p = record { start = p .start; size = p .size }
 
+-- document 01's mark for each case
+unfoldable pub asMark : Mark → Read.Mark
+asMark K.Flat = flat
+asMark K.Few = few
+asMark K.Normal = normal
+
 -- document 01's mark, or the refusal's number, for each case of the mark's answer
 unfoldable pub markMeaning : Marked → MarkResult
-markMeaning M.Flat = marked flat
-markMeaning M.Few = marked few
-markMeaning M.Normal = marked normal
+markMeaning (M.As mark) = marked (asMark mark)
 markMeaning (M.Refused n) = unmarked n
-
--- the mark of so many times, by whether they are all equal
-unfoldable pub markFrom : Bool → ℕ → Mark
-markFrom equal times = cond equal flat (cond (ltb times fewTimes) few normal)
 
 -- document 01's answer of an append for each case
 unfoldable pub appendMeaning : Appended → AppendResult

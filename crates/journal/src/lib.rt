@@ -2,19 +2,22 @@
 // Each goes over the journal's bytes once; nothing is assumed of the slice, the length or what is offered.
 ghost use mathlib.Core.Path.{_≡_};
 ghost use Rattle.journal_spec.specs.Scan.{scanOf};
-ghost use Rattle.journal_spec.specs.Read.{partPlace, readPart, marked, readMark};
+ghost use Rattle.journal_spec.specs.Read.{partPlace, readPart, readMark};
 ghost use Rattle.journal_spec.specs.Append.{appendUpto, appendOf};
 ghost use Rattle.journal.specs.Offering.{offerFrom};
-ghost use Rattle.journal.specs.Answers.{meaning, partMeaning, markMeaning, markFrom, outcomeOf};
+ghost use Rattle.journal.specs.Answers.{meaning, partMeaning, markMeaning, outcomeOf};
 use crate::contents::Contents;
 use crate::contents::MAX_LENGTH;
 use crate::contents::contents_of;
 use crate::extend::extend_by;
+use crate::marks::Mark;
+use crate::marks::mark_from;
 
 mod contents;
 mod extend;
 mod field;
 mod limits;
+pub mod marks;
 mod number;
 mod offer;
 mod record;
@@ -26,9 +29,6 @@ pub use number::number_in;
 
 // Document 01's number for an i that is not below the number of records.
 pub const ABSENT_REFUSAL: u32 = 10;
-
-// Below so many times, not all equal, the mark is S.
-const FEW_TIMES: u64 = 8;
 
 // A refusal's number, and the place of the field that is refused.
 pub struct Fault {
@@ -50,11 +50,9 @@ pub struct Part {
     pub size: usize,
 }
 
-// Document 01's marks F, S and N, or the refusal's number.
+// A record's mark, or the refusal's number.
 pub enum Marked {
-    Flat,
-    Few,
-    Normal,
+    As(Mark),
     Refused(u32),
 }
 
@@ -131,23 +129,10 @@ pub fn mark(v: &[u8], len: usize, i: usize) -> Marked
             if records <= i {
                 return Marked::Refused(ABSENT_REFUSAL);
             }
-            mark_from(shown.flat, shown.times)
+            Marked::As(mark_from(shown.flat, shown.times))
         }
         Contents::Damaged(f) => Marked::Refused(f.number),
     }
-}
-
-// The mark of so many times, by whether they are all equal.
-fn mark_from(flat: bool, times: u64) -> Marked
-    ensures { λ r. ⌜ markMeaning r ≡ marked (markFrom flat times) ⌝ }
-{
-    if flat {
-        return Marked::Flat;
-    }
-    if times < FEW_TIMES {
-        return Marked::Few;
-    }
-    Marked::Normal
 }
 
 // Appends a record of what is offered, its limits worked out from the times. Where it answers a length that is the journal's new length,

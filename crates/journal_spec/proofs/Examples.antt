@@ -17,7 +17,7 @@ use Rattle.journal_spec.specs.Section.{items, section, numberBytes, sect
 use Rattle.journal_spec.specs.Record.{Record, lastOf, judgeForm, judgeDay, nameSection, lastChance, judgeChance, chanceSection, timeSection}
 use Rattle.journal_spec.specs.Record.{limitSection, recordReader, recordBytes, recordsBytes}
 use Rattle.journal_spec.specs.Scan.{recordsOf, contentsFrom, contentsOf, whole, torn, damaged, statusOf, scanOf}
-use Rattle.journal_spec.specs.Read.{flat, few, normal, letterOf, allEqual, areEqual, markOf}
+use Rattle.journal_spec.specs.Read.{flat, few, normal, letterOf, allEqual, areEqual, markFrom, markOf}
 use Rattle.journal_spec.specs.Append.{Offer, declined, offerRefusal, appendRefusal, unchanged, settle, appendTo, appendUpto, appendOf}
 use Rattle.journal_spec.specs.Append as A
 use Rattle.journal_spec.specs.Model.{workedOut}
@@ -206,7 +206,7 @@ pub record Marks : Type 0 where
   pub letterN : letterOf normal ≡ 0x4e
 
 pub marks : Marks
-unfolding markOf areEqual allEqual letterOf
+unfolding markFrom markOf areEqual allEqual letterOf
 marks = record {
   equal = refl;
   equalMany = refl;

@@ -1,10 +1,11 @@
 -- Reading record i of a journal, by two calls: one answers its part of the slice, the other its mark.
 -- Both refuse as scan does, and then an i that is not below the number of records.
-use Prim.Native.Nat.{ℕ, zero, suc}
+use Prim.Native.Nat.{ℕ, zero, suc, _/_}
 use mathlib.Core.List.{List, [], _∷_}
 use mathlib.Core.Bool.{Bool, true, cond, _&&_}
 use lib.ListN.{length, take, drop}
 use lib.Dec.{ltb, eqb}
+use Rattle.journal_spec.specs.Bytes.{numbersIn}
 use Rattle.journal_spec.specs.Refusals.{absentRefusal}
 use Rattle.journal_spec.specs.Scan.{Placed, Contents, standing, faulty, contentsOf}
 
@@ -70,9 +71,17 @@ unfoldable pub areEqual : List ℕ → Bool
 areEqual [] = true
 areEqual (x ∷ xs) = allEqual x xs
 
--- the mark of a set of times: F if all are equal, else S if there are fewer than 8, else N
+-- the mark of so many times, by whether they are all equal: F if they are, else S if there are fewer than 8, else N
+unfoldable pub markFrom : Bool → ℕ → Mark
+markFrom equal times = cond equal flat (cond (ltb times fewTimes) few normal)
+
+-- the mark of a set of times
 unfoldable pub markOf : List ℕ → Mark
-markOf times = cond (areEqual times) flat (cond (ltb (length times) fewTimes) few normal)
+markOf times = markFrom (areEqual times) (length times)
+
+-- the times that some bytes hold, each a u32; bytes behind the last whole one are none
+unfoldable pub timesIn : List ℕ → List ℕ
+timesIn bytes = numbersIn 4 (length bytes / 4) 0 bytes
 
 -- the mark, or the refusal's number
 pub data MarkResult : Type 0 where

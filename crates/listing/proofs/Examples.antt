@@ -18,7 +18,7 @@ use Rattle.journal_spec.specs.Section.{items, section}
 use Rattle.journal_spec.specs.Record.{lastOf, judgeForm, judgeDay, nameSection, lastChance, judgeChance, chanceSection, timeSection}
 use Rattle.journal_spec.specs.Record.{judgeLimit, limitSection, recordReader}
 use Rattle.journal_spec.specs.Scan.{recordsOf, contentsFrom, contentsOf, statusOf}
-use Rattle.journal_spec.specs.Read.{letterOf, allEqual, areEqual, markOf}
+use Rattle.journal_spec.specs.Read.{letterOf, allEqual, areEqual, markFrom, markOf}
 use Rattle.listing.specs.Listing.{spaced, lineOf, quotedLimit, quotedLimits, recordLine, wordWhole, wordTorn, wordDamaged}
 use Rattle.listing.specs.Listing.{stateLine, recordLines, listingOf}
 
@@ -51,6 +51,6 @@ unfolding ofInt ofBits toBits isNan eq add mul div sqrtIn fErfcinv
     chanceInRange finiteOrRefused judge limitOf glyphOf digits orMore placesIn placesOf decimalDigits
     valueOf joined unless outside run then items section
     lastOf judgeForm judgeDay nameSection lastChance judgeChance chanceSection timeSection judgeLimit limitSection recordReader
-    recordsOf contentsFrom contentsOf statusOf letterOf allEqual areEqual markOf
+    recordsOf contentsFrom contentsOf statusOf letterOf allEqual areEqual markFrom markOf
     spaced lineOf quotedLimit quotedLimits recordLine wordWhole wordTorn wordDamaged stateLine recordLines listingOf
 listed-examples = record { whole-listed = refl; cut-listed = refl; fault-listed = refl; empty-listed = refl }

@@ -10,7 +10,7 @@ use lib.Seq.{length-paste}
 use Rattle.hex.specs.Text.{roomFor}
 use Rattle.journal_spec.specs.Reader.{Found, found, fault, short}
 use Rattle.journal_spec.specs.Record.{Record}
-use Rattle.listing.specs.Plain.{recordAt}
+use Rattle.listing.specs.Plain.{plainRecordAt}
 use Rattle.listing.specs.Lines.{Position, Step, endOf, noLine, recordStep, stepBy, step, Writes}
 use Rattle.listing.specs.declared.Line.{Line}
 
@@ -27,7 +27,7 @@ step-falls p b pos = go (p .ended) (p .left) pos
     go : (t : Bool) (k : ℕ) → 0 < k → cond t (noLine p) (stepBy k p b) .position .left < k
     go t zero pos = absurd (omega arith)
     go true (suc k) pos = omega arith
-    go false (suc k) pos = record-falls p k (recordAt (p .at) b)
+    go false (suc k) pos = record-falls p k (plainRecordAt (p .at) b)
 
 pub line-inside : (s : Step) (out : List ℕ) (line : Line) (after : List ℕ) → Writes s out line after → line .size ≤ length after
 unfolding roomFor

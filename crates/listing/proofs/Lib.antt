@@ -10,7 +10,6 @@ pub mod Rooms
 pub mod Putting
 pub mod Texts
 pub mod Pairs
-pub mod Equal
 -- the calls
 pub mod Steps
 pub mod Falling

@@ -6,12 +6,11 @@ use mathlib.Core.List.{List, _∷_, _++_}
 use native.Mathlib.Omega.{arith}
 use lib.ListN.{length}
 use Rattle.hex.specs.Text.{Put}
-use Rattle.journal_spec.specs.Bytes.{numberAt}
+use Rattle.journal_spec.specs.Bytes.{numberAt, numbersIn}
 use Rattle.journal.specs.Numbers.{numberIn}
 use Rattle.journal.proofs.NumbersIn.{number-stands}
 use Rattle.listing.specs.Listing.{space, quotedLimit, quotedLimits}
 use Rattle.listing.specs.Spaced.{eachSpaced}
-use Rattle.listing.specs.Spans.{numbersIn}
 use Rattle.listing.proofs.Putting.{put-nothing, put-put}
 
 -- n pairs, each behind a space

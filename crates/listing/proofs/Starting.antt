@@ -16,7 +16,7 @@ use Rattle.journal_spec.proofs.Records.{Good, reads-record}
 use Rattle.journal_spec.proofs.Scanning.{Follow, recordsOf-placed, length-placed}
 use Rattle.journal_spec.proofs.Explained.{holding}
 use Rattle.listing.specs.Listing.{recordLine, recordLines, stateLine, listingOf}
-use Rattle.listing.specs.Plain.{plain, recordAt}
+use Rattle.listing.specs.Plain.{plain, plainRecordAt}
 use Rattle.listing.specs.Lines.{Position, listedOf, before, startOf, recordStep, stepBy, step}
 use Rattle.listing.proofs.Plainly.{plain-finds}
 
@@ -29,8 +29,8 @@ plain-same last other = refl
 
 -- a record that nothing refuses is found again behind any bytes
 record-there : (last : Last) (r : Record) (pre post : List ℕ) → Good last r
-    → recordAt (length pre) (pre ++ (recordBytes r ++ post)) ≡ found r (length pre + length (recordBytes r)) post
-unfolding recordAt
+    → plainRecordAt (length pre) (pre ++ (recordBytes r ++ post)) ≡ found r (length pre + length (recordBytes r)) post
+unfolding plainRecordAt
 record-there last r pre post good =
     let bytes : drop (length pre) (pre ++ (recordBytes r ++ post)) ≡ recordBytes r ++ post = drop-at pre (recordBytes r ++ post) (length pre) refl in
     let read = reads-record last r good .on (length pre) post in
@@ -46,8 +46,8 @@ pub step-next : (last : Last) (r : Record) (rs : List Record) (pre more b : List
     → step (leaving pre (r ∷ rs) state) b ≡ record { text = recordLine r; position = leaving (pre ++ recordBytes r) rs state }
 unfolding step stepBy recordStep
 step-next last r rs pre more b state good e =
-    let there : recordAt (length pre) b ≡ found r (length pre + length (recordBytes r)) more =
-    ap (recordAt (length pre)) e ∙ record-there last r pre more good in
+    let there : plainRecordAt (length pre) b ≡ found r (length pre + length (recordBytes r)) more =
+    ap (plainRecordAt (length pre)) e ∙ record-there last r pre more good in
     rw (there, recordStep) (rw length-append refl)
 
 -- ---- the start

@@ -7,7 +7,7 @@ use mathlib.Core.Bool.{Bool, true, false, cond}
 use native.Mathlib.Omega.{arith}
 use Rattle.journal.specs.Answers.{meaning}
 use Rattle.listing.specs.Listing.{recordLine, stateLine}
-use Rattle.listing.specs.Plain.{recordAt}
+use Rattle.listing.specs.Plain.{plainRecordAt}
 use Rattle.listing.specs.Spans.{spansAt, recordIn}
 use Rattle.listing.specs.Lines.{Position, positionOf, endOf, noLine, recordStep, stepBy, step, Writes}
 use Rattle.listing.specs.declared.spans.Spans.{Spans}
@@ -22,12 +22,12 @@ writes-none p out c e = record { bytes = put-nothing out 0; position = e }
 
 module _ (p : Position) (left at : ℕ) (b : List ℕ) (s : Spans) (e : s ≡ spansAt at b) where
   -- no record stands there
-  pub step-short : s .limits .stands ≡ false → recordStep p left (recordAt at b) ≡ noLine p
+  pub step-short : s .limits .stands ≡ false → recordStep p left (plainRecordAt at b) ≡ noLine p
   unfolding recordStep
   step-short h = rw (record-short at b (rw e at h)) refl
 
   -- the record that stands there
-  pub step-stands : s .limits .stands ≡ true → recordStep p left (recordAt at b)
+  pub step-stands : s .limits .stands ≡ true → recordStep p left (plainRecordAt at b)
       ≡ record { text = recordLine (recordIn at s b); position = record { at = s .limits .next; left = left; ended = false; state = p .state } }
   unfolding recordStep
   step-stands h = rw (record-stands at b (rw e at h), e) refl
@@ -51,10 +51,10 @@ module _ (c : Cursor) (b : List ℕ) where
 
   -- records are left
   pub step-record : c .ended ≡ false → 0 < c .left
-      → step (positionOf c) b ≡ recordStep (positionOf c) (c .left - 1) (recordAt (c .at) b)
+      → step (positionOf c) b ≡ recordStep (positionOf c) (c .left - 1) (plainRecordAt (c .at) b)
   unfolding positionOf
   step-record h pos = step-on (positionOf c) b h ∙ go (c .left) pos
     where
-      go : (k : ℕ) → 0 < k → stepBy k (positionOf c) b ≡ recordStep (positionOf c) (k - 1) (recordAt (c .at) b)
+      go : (k : ℕ) → 0 < k → stepBy k (positionOf c) b ≡ recordStep (positionOf c) (k - 1) (plainRecordAt (c .at) b)
       go zero pos = absurd (omega arith)
       go (suc k) pos = let z : suc k - 1 ≡ k = omega arith in rw z (unfold stepBy in refl)

@@ -1,22 +1,22 @@
 -- Parts of lines as the code puts them one behind another, and the lines of the definition that they make up.
 -- Assumes nothing.
 use mathlib.Core.Path.{_≡_, refl, sym, ap, _∙_}
-use Prim.Native.Nat.{ℕ, zero, suc, _+_, _*_, _-_, _≤_, min}
+use Prim.Native.Nat.{ℕ, zero, suc, _+_, _*_, _-_, _/_, _≤_, min}
 use mathlib.Core.List.{List, [], _∷_, _++_, append-assoc, append-nil}
 use native.Mathlib.Omega.{arith}
-use native.Mathlib.Nat.{zero-min, min-zero, suc-min-suc}
+use native.Mathlib.Nat.{zero-min, min-zero, suc-min-suc, suc-mul, add-assoc, add-zero}
 use native.Mathlib.Numerals.{add-one}
-use lib.ListN.{length, take, drop, getD, replicate}
-use lib.Seq.{take-at, drop-cons}
+use lib.ListN.{length, take, drop, getD, replicate, length-take, length-drop}
+use lib.Seq.{take-at, drop-cons, take-take, drop-drop}
 use Rattle.hex.specs.Hex.{placesOf, decimalDigits, decimalOf}
 use Rattle.hex.specs.declared.write.Decimal.{Decimal}
 use Rattle.hex.proofs.Writing.{length-digits}
-use Rattle.journal_spec.specs.Bytes.{valueOf, numberAt}
+use Rattle.journal_spec.specs.Bytes.{valueOf, numberAt, numbersIn}
 use Rattle.journal_spec.specs.Record.{Record}
-use Rattle.journal_spec.specs.Read.{letterOf, markOf}
+use Rattle.journal_spec.specs.Read.{letterOf, markOf, timesIn}
+use Rattle.journal_spec.proofs.Reading.{drop-take}
 use Rattle.listing.specs.Listing.{space, newline, spaced, lineOf, quotedLimits, recordLine}
 use Rattle.listing.specs.Spaced.{eachSpaced}
-use Rattle.listing.specs.Spans.{numbersIn}
 
 -- the digits that stand at the front of a decimal's array
 pub decimal-text : (n : ℕ) (d : Decimal) → d ≡ decimalOf n → take (d .count) (d .digits) ≡ decimalDigits n
@@ -31,6 +31,25 @@ bytes-in (suc n) at b h =
     let first : drop at b ≡ getD b at 0 ∷ drop (suc at) b = drop-cons b at 0 (omega arith) in
     let rest : numbersIn 1 n (at + 1) b ≡ take n (drop (suc at) b) = bytes-in n (at + 1) b (omega arith) ∙ rw add-one refl in
     rw (first, rest) (ap (λ (x : ℕ). x ∷ take n (drop (suc at) b)) (omega arith))
+
+-- numbers that stand in a part of the bytes stand behind its start
+numbers-part : (w n at from size : ℕ) (b : List ℕ) → at + n * w ≤ size → from + size ≤ length b
+    → numbersIn w n at (take size (drop from b)) ≡ numbersIn w n (from + at) b
+unfolding numbersIn numberAt
+numbers-part w zero at from size b h k = refl
+numbers-part w (suc n) at from size b h k =
+    let more : suc n * w ≡ w + n * w = rw (suc-mul n w) (omega arith) in
+    let start = drop-take at size (drop from b) (rw length-drop (omega arith)) (omega arith) in
+    let here : take w (drop at (take size (drop from b))) ≡ take w (drop (from + at) b) =
+    ap (take w) start ∙ take-take w (size - at) (drop at (drop from b)) (omega arith) ∙ ap (take w) (drop-drop at from b) in
+    rw (here, numbers-part w n (at + w) from size b (omega arith) k, add-assoc) refl
+
+-- the times of a section are those that its part of the bytes holds
+pub times-part : (n from : ℕ) (b : List ℕ) → from + n * 4 ≤ length b → timesIn (take (n * 4) (drop from b)) ≡ numbersIn 4 n from b
+unfolding timesIn
+times-part n from b h =
+    let count : length (take (n * 4) (drop from b)) / 4 ≡ n = rw (length-take, length-drop) (omega arith) in
+    rw count (numbers-part 4 n 0 from (n * 4) b (omega arith) h ∙ rw add-zero refl)
 
 -- pairs of n chances and m limits: as many as the fewer of them
 pub pairs-fewer : (b : List ℕ) (n m c l : ℕ)

@@ -11,7 +11,7 @@ use Rattle.journal_spec.specs.Record.{Record}
 use Rattle.journal_spec.specs.Scan.{ScanResult, whole, torn, damaged, scanOf}
 use Rattle.journal.specs.Answers.{meaning}
 use Rattle.listing.specs.Listing.{recordLine, stateLine}
-use Rattle.listing.specs.Plain.{recordAt}
+use Rattle.listing.specs.Plain.{plainRecordAt}
 use Rattle.listing.specs.declared.Cursor.{Cursor}
 use Rattle.listing.specs.declared.Line.{Line}
 
@@ -63,7 +63,7 @@ recordStep p left short = noLine p
 -- a record's line if records are left, else the line of the end state
 unfoldable pub stepBy : ℕ → Position → List ℕ → Step
 stepBy zero p b = record { text = stateLine (p .state); position = endOf p }
-stepBy (suc left) p b = recordStep p left (recordAt (p .at) b)
+stepBy (suc left) p b = recordStep p left (plainRecordAt (p .at) b)
 
 -- the next line; none after the end state's
 unfoldable pub step : Position → List ℕ → Step

@@ -11,6 +11,6 @@ unfoldable pub plain : {A : Type 0} → Reader A → Reader A
 plain (done a) = done a
 plain (field w refusal next) = field w (λ v. 0) (λ v. plain (next v))
 
--- the record that stands at a place, whatever its values; the record before it does not matter
-unfoldable pub recordAt : ℕ → List ℕ → Found Record
-recordAt at b = run (plain (recordReader (lastOf []))) at (drop at b)
+-- the record that stands at a place, whatever its values: nothing is judged, so that the record before it does not matter
+unfoldable pub plainRecordAt : ℕ → List ℕ → Found Record
+plainRecordAt at b = run (plain (recordReader (lastOf []))) at (drop at b)

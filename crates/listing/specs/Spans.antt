@@ -1,19 +1,14 @@
 -- Where the sections of a record stand in some bytes, by their counts alone, and the record that stands in such places.
 -- The code finds the places first and writes the line from them.
-use Prim.Native.Nat.{ℕ, zero, suc, _+_, _*_, _≤_}
-use mathlib.Core.List.{List, [], _∷_}
+use Prim.Native.Nat.{ℕ, _+_, _*_, _≤_}
+use mathlib.Core.List.{List}
 use mathlib.Core.Bool.{true, false, cond}
 use lib.ListN.{length}
 use lib.Dec.{leb}
-use Rattle.journal_spec.specs.Bytes.{numberAt}
+use Rattle.journal_spec.specs.Bytes.{numberAt, numbersIn}
 use Rattle.journal_spec.specs.Record.{Record}
 use Rattle.listing.specs.declared.spans.Span.{Span}
 use Rattle.listing.specs.declared.spans.Spans.{Spans}
-
--- n numbers of w bytes, from a place on
-unfoldable pub numbersIn : ℕ → ℕ → ℕ → List ℕ → List ℕ
-numbersIn w zero at b = []
-numbersIn w (suc n) at b = numberAt w at b ∷ numbersIn w n (at + w) b
 
 -- a section that does not stand
 unfoldable pub noSpan : Span

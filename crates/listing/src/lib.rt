@@ -5,13 +5,12 @@ ghost use mathlib.Core.Bool.{false};
 ghost use Prim.Native.Nat.{_-_, _<_};
 ghost use Rattle.listing.specs.Lines.{positionOf, listedOf, startOf, step, recordStep, endOf, Writes};
 ghost use Rattle.journal.specs.Answers.{meaning};
-ghost use Rattle.listing.specs.Plain.{recordAt};
+ghost use Rattle.listing.specs.Plain.{plainRecordAt};
 use crate::spans::spans_at;
 use crate::words::put_record;
 use crate::words::put_state;
 use journal::Status;
 
-mod mark;
 mod spans;
 mod text;
 mod words;
@@ -89,7 +88,7 @@ pub fn next_line(v: &[u8], cursor: Cursor, out: &mut [u8]) -> Line
 // Writes the line of the record at the cursor's place. Where no record stands there the listing ends.
 fn record_line(v: &[u8], cursor: Cursor, out: &mut [u8]) -> Line
     requires { ⌜ 0 < cursor .left ⌝ }
-    ensures { λ r. ⌜ Writes (recordStep (positionOf cursor) (cursor .left - 1) (recordAt (cursor .at) (now (v .entry))))
+    ensures { λ r. ⌜ Writes (recordStep (positionOf cursor) (cursor .left - 1) (plainRecordAt (cursor .at) (now (v .entry))))
         (now (out .entry)) r (now (out .exit)) ⌝ }
 {
     let at = cursor.at;

@@ -12,13 +12,14 @@ ghost use Rattle.journal_spec.specs.Bytes.{numberAt};
 ghost use Rattle.journal_spec.specs.Read.{letterOf, markOf};
 ghost use Rattle.listing.specs.Listing.{space, lineOf, recordLine, stateLine};
 ghost use Rattle.listing.specs.Spans.{Inside, numbersOf, recordIn, spansAt};
-use crate::mark::letter;
 use crate::spans::Span;
 use crate::spans::Spans;
 use crate::text::put_decimal;
 use crate::text::put_limits;
 use hex::put;
 use journal::Status;
+use journal::marks::letter_of;
+use journal::marks::mark_of;
 use journal::number_in;
 
 // The line of the record at a place, whose sections stand.
@@ -52,9 +53,11 @@ fn put_mark(b: &[u8], times: Span, out: &mut [u8], at: usize) -> usize
     ensures { λ r. ⌜ Put (now (out .entry)) at
         (space ∷ letterOf (markOf (numbersOf 4 times (now (b .entry)))) ∷ []) (now (out .exit)) r ⌝ }
 {
-    let mark = [letter(b, times); 1];
+    let first = times.first;
+    let end = first + times.count * 4;
+    let letter = [letter_of(mark_of(&b[first..end])); 1];
     let p = put(out, at, b" ");
-    put(out, p, &mark)
+    put(out, p, &letter)
 }
 
 // The line of the end state.

@@ -1,8 +1,9 @@
 -- `mark` refuses as scan does, then an i that is not below the number of records; else the mark is that of what was kept.
 -- Assumes nothing.
-use mathlib.Core.Path.{_∙_}
+use mathlib.Core.Path.{ap, _∙_}
 use borrow.Author.Needs.{needs}
 use denote.Ref.{now}
+use Rattle.journal_spec.specs.Read.{marked}
 use Rattle.journal.specs.Answers.{markMeaning}
 use Rattle.journal.proofs.Answering.{mark-stands, mark-absent, mark-damaged}
 use Rattle.journal.proofs.mark.Statement.{statement}
@@ -18,11 +19,12 @@ returns c =
     (x .0 .0) (x .0 .1 .0) (x .0 .1 .1 .0) (x .0 .1 .1 .1 .0) (x .1) (c .if1 .taken)
 
 returns-2 : tie.Need-returns-2
+unfolding markMeaning
 returns-2 c =
     let x = c .before .before .before .x .given in
     let read = c .before .before .before .before .before in
     let a = read .before .before .args in
-    c .mark-from .ensures
+    ap marked (c .mark-from .ensures)
     ∙ mark-stands (now (a .v)) (a .len) (a .i) (read .contents-of .result) (read .contents-of .ensures)
     (x .0 .0) (x .0 .1 .0) (x .0 .1 .1 .0) (x .0 .1 .1 .1 .0) (x .1) (c .before .if1 .left)
 

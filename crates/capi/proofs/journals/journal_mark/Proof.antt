@@ -1,30 +1,23 @@
--- `journal_mark` answers the letter of each mark, or the refusal's number.
+-- `journal_mark` answers the letter of the mark, or the refusal's number.
 -- Assumes nothing.
 use mathlib.Core.Path.{_∙_, sym, ap}
 use borrow.Author.Needs.{needs}
-use Rattle.journal_spec.specs.Read.{letterOf}
 use Rattle.journal.specs.Answers.{markMeaning}
 use Rattle.capi.specs.Journal.{markWord}
 use Rattle.capi.proofs.journals.journal_mark.Statement.{statement}
 use Rattle.capi.proofs.journals.journal_mark.Tie as tie
 
 returns : tie.Need-returns
-unfolding markWord markMeaning letterOf
-returns c = rw (sym (c .before .before .mark .ensures) ∙ ap markMeaning (c .enum-told .given .1))
+unfolding markWord markMeaning
+returns c =
+    let told = c .before .before in
+    rw (sym (told .before .before .mark .ensures) ∙ ap markMeaning (told .m .given .1), ← c .letter-of .ensures)
 
 returns-2 : tie.Need-returns-2
-unfolding markWord markMeaning letterOf
-returns-2 c = rw (sym (c .before .before .mark .ensures) ∙ ap markMeaning (c .enum-told2 .given .1))
-
-returns-3 : tie.Need-returns-3
-unfolding markWord markMeaning letterOf
-returns-3 c = rw (sym (c .before .before .mark .ensures) ∙ ap markMeaning (c .enum-told3 .given .1))
-
-returns-4 : tie.Need-returns-4
 unfolding markWord markMeaning
-returns-4 c =
+returns-2 c =
     let told = c .before in
-    rw (sym (told .before .before .mark .ensures) ∙ ap markMeaning (told .m .given .1))
+    rw (sym (told .before .before .mark .ensures) ∙ ap markMeaning (told .m2 .given .1))
 
 pub journal-mark-spec : {M : Type 1} → statement M
 journal-mark-spec =
@@ -32,11 +25,9 @@ journal-mark-spec =
     (tie.spec
     (λ c κs. search needs)
     (λ c. search needs)
-    (λ c. search needs)
+    (λ c κs. search needs)
     (λ c. search needs)
     (λ c. search needs)
     (λ c. search needs)
     returns
-    returns-2
-    returns-3
-    returns-4)
+    returns-2)

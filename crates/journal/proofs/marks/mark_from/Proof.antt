@@ -1,21 +1,21 @@
 -- `mark_from` is its definition by the three ways of its tests.
 -- Assumes nothing.
 use borrow.Author.Tests.{lt-ltb, le-ltb}
-use Rattle.journal_spec.specs.Read.{fewTimes}
-use Rattle.journal.specs.Answers.{markMeaning, markFrom}
-use Rattle.journal.proofs.mark_from.Statement.{statement}
-use Rattle.journal.proofs.mark_from.Tie as tie
+use Rattle.journal_spec.specs.Read.{fewTimes, markFrom}
+use Rattle.journal.specs.Answers.{asMark}
+use Rattle.journal.proofs.marks.mark_from.Statement.{statement}
+use Rattle.journal.proofs.marks.mark_from.Tie as tie
 
 returns : tie.Need-returns
-unfolding markMeaning markFrom
+unfolding asMark markFrom
 returns c = rw (c .if1 .taken)
 
 returns-2 : tie.Need-returns-2
-unfolding markMeaning markFrom
+unfolding asMark markFrom
 returns-2 c = rw (c .before .if1 .left, lt-ltb (c .before .before .args .times) fewTimes (c .if2 .taken))
 
 returns-3 : tie.Need-returns-3
-unfolding markMeaning markFrom
+unfolding asMark markFrom
 returns-3 c = rw (c .before .if1 .left, le-ltb (c .before .before .args .times) fewTimes (c .if2 .left))
 
 pub mark-from-spec : {M : Type 1} → statement M
