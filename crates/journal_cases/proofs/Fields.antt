@@ -1,15 +1,11 @@
--- What a line's fields lead to, case by case. Assumes nothing.
+-- What a line's three numbers lead to, case by case. Assumes nothing.
 use Prim.Native.Nat.{ℕ}
-use mathlib.Core.Path.{_≡_, refl}
-use mathlib.Core.Bool.{Bool, false}
+use mathlib.Core.Path.{_≡_}
 use mathlib.Core.List.{List}
-use lib.Dec.{eqb}
 use Rattle.hex.specs.Hex.{readHex}
-use Rattle.lines.specs.Lines.{fieldOf}
-use Rattle.lines.specs.declared.field.Field.{Field}
+use Rattle.lines.specs.Lines.{fieldOf, afterField}
 use Rattle.lines.specs.declared.field.Field.the-variants as F
-use Rattle.journal_cases.specs.Line.{caseNumbers, caseKind, afterField, holds}
-use Rattle.journal_cases.specs.declared.line.Case.{Case}
+use Rattle.journal_cases.specs.Line.{caseNumbers, caseKind}
 use Rattle.journal_cases.specs.declared.line.Case.the-variants as A
 
 -- three numbers lead to what the letter makes of them
@@ -34,13 +30,3 @@ second-missing s letter place e f = rw (e, f)
 pub first-missing : (s : List ℕ) (letter : ℕ) → fieldOf (readHex s 2 5) ≡ F.Nothing → A.Malformed ≡ caseNumbers s letter
 unfolding caseNumbers afterField
 first-missing s letter e = rw e
-
--- a field that holds a number is compared with it
-pub holds-number : (f : Field) (x n : ℕ) → f ≡ F.Value x → eqb x n ≡ holds f n
-unfolding holds
-holds-number f x n e = rw (e, holds)
-
--- a field that holds none is no number's
-pub holds-none : (f : Field) (n : ℕ) → f ≡ F.Nothing → _≡_ {A = Bool} false (holds f n)
-unfolding holds
-holds-none f n e = rw (e, holds)

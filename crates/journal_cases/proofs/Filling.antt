@@ -6,12 +6,12 @@ use native.Mathlib.Omega.{arith}
 use borrow.Author.Tests.{le-leb, lt-leb}
 use lib.ListN.{length, take, drop, set, length-append, length-take, length-drop, length-set}
 use lib.Seq.{drop-cons, drop-drop, drop-set-lt, getD-set-same}
-use Rattle.journal_cases.specs.Store.{bytesOf, storedAt}
+use Rattle.journal_cases.specs.Store.{bigEndianBytes, storedAt}
 
 -- a turn that writes puts one byte before those that stand
 pub bytes-turn : (i rest : ℕ) (out : List ℕ) → i < length out
-    → bytesOf (suc i) rest ++ drop (suc i) out ≡ bytesOf i (rest / 256) ++ drop i (set out i (rest % 256))
-unfolding bytesOf
+    → bigEndianBytes (suc i) rest ++ drop (suc i) out ≡ bigEndianBytes i (rest / 256) ++ drop i (set out i (rest % 256))
+unfolding bigEndianBytes
 bytes-turn i rest out h =
     let x = rest % 256 in
     let inside : i < length (set out i x) = simp length-set h in
@@ -19,14 +19,14 @@ bytes-turn i rest out h =
 
 -- the same where the place falls by one
 pub bytes-before : (i rest : ℕ) (out : List ℕ) → 0 < i → i ≤ length out
-    → bytesOf i rest ++ drop i out ≡ bytesOf (i - 1) (rest / 256) ++ drop (i - 1) (set out (i - 1) (rest % 256))
+    → bigEndianBytes i rest ++ drop i out ≡ bigEndianBytes (i - 1) (rest / 256) ++ drop (i - 1) (set out (i - 1) (rest % 256))
 bytes-before i rest out l h =
     let one : i ≡ suc (i - 1) = omega arith in
-    ap (λ (k : ℕ). bytesOf k rest ++ drop k out) one ∙ bytes-turn (i - 1) rest out (omega arith)
+    ap (λ (k : ℕ). bigEndianBytes k rest ++ drop k out) one ∙ bytes-turn (i - 1) rest out (omega arith)
 
 -- where no place is left, the bytes stand
-pub bytes-done : (i rest : ℕ) (out whole : List ℕ) → i ≡ 0 → whole ≡ bytesOf i rest ++ drop i out → out ≡ whole
-unfolding bytesOf
+pub bytes-done : (i rest : ℕ) (out whole : List ℕ) → i ≡ 0 → whole ≡ bigEndianBytes i rest ++ drop i out → out ≡ whole
+unfolding bigEndianBytes
 bytes-done i rest out whole z e = sym (e ∙ rw z)
 
 -- without room the buffer stays
@@ -36,7 +36,7 @@ no-room place n v h = rw (lt-leb (place + 8) (length v) h)
 
 -- eight bytes of the buffer that were lent and filled
 pub part-filled : (place n end : ℕ) (v part : List ℕ) → end ≡ place + 8 → end ≤ length v
-    → part ≡ bytesOf (length (take (end - place) (drop place v))) n
+    → part ≡ bigEndianBytes (length (take (end - place) (drop place v))) n
     → take place v ++ (part ++ drop (end - place) (drop place v)) ≡ storedAt place n v
 unfolding storedAt
 part-filled place n end v part e h filled =

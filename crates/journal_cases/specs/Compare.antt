@@ -35,12 +35,12 @@ unfoldable pub verdictOf : Bool → Compared
 verdictOf same = cond same C.Same C.Differs
 
 -- eight bytes have room from a place on, or the line is malformed
-unfoldable pub roomFor : ℕ → ℕ → Compared
-roomFor place size = cond (leb (place + 8) size) C.Stored C.Malformed
+unfoldable pub storedIfRoom : ℕ → ℕ → Compared
+storedIfRoom place size = cond (leb (place + 8) size) C.Stored C.Malformed
 
 -- a line, by what it asks, against the journal in the buffer's first bytes
 unfoldable pub comparedWith : List ℕ → Case → List ℕ → Compared
-comparedWith s (A.Bytes place n) v = roomFor place (length v)
+comparedWith s (A.Bytes place n) v = storedIfRoom place (length v)
 comparedWith s (A.Scan size len) v = verdictOf (scanAgrees s (take size v) len)
 comparedWith s (A.Part size len i) v = verdictOf (partAgrees s (take size v) len i)
 comparedWith s (A.Mark size len i) v = verdictOf (markAgrees s (take size v) len i)

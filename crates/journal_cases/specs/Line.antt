@@ -6,16 +6,9 @@ use mathlib.Core.List.{List}
 use lib.Dec.{eqb}
 use lib.ListN.{length, getD}
 use Rattle.hex.specs.Hex.{readHex}
-use Rattle.lines.specs.Lines.{fieldOf}
-use Rattle.lines.specs.declared.field.Field.{Field}
-use Rattle.lines.specs.declared.field.Field.the-variants as F
+use Rattle.lines.specs.Lines.{fieldOf, afterField}
 use Rattle.journal_cases.specs.declared.line.Case.{Case}
 use Rattle.journal_cases.specs.declared.line.Case.the-variants as A
-
--- a number goes on, none makes the line malformed
-unfoldable pub afterField : Field → (ℕ → Case) → Case
-afterField (F.Value n) next = next n
-afterField F.Nothing next = A.Malformed
 
 -- b puts bytes, s asks for a scan, p for a part, m for a mark
 unfoldable pub caseKind : ℕ → ℕ → ℕ → ℕ → Case
@@ -29,9 +22,9 @@ caseKind letter place n i =
 -- the three numbers behind a letter: 5, 16 and 16 digits
 unfoldable pub caseNumbers : List ℕ → ℕ → Case
 caseNumbers s letter =
-    afterField (fieldOf (readHex s 2 5)) (λ place.
-    afterField (fieldOf (readHex s 8 16)) (λ n.
-    afterField (fieldOf (readHex s 25 16)) (λ i. caseKind letter place n i)))
+    afterField A.Malformed (fieldOf (readHex s 2 5)) (λ place.
+    afterField A.Malformed (fieldOf (readHex s 8 16)) (λ n.
+    afterField A.Malformed (fieldOf (readHex s 25 16)) (λ i. caseKind letter place n i)))
 
 -- a line: 56 bytes, the last one a line end
 unfoldable pub caseOf : List ℕ → Case
@@ -40,14 +33,9 @@ caseOf s =
     (cond (eqb (getD s 55 0) 10) (caseNumbers s (getD s 0 0)) A.Malformed)
     A.Malformed
 
--- whether a field holds a number
-unfoldable pub holds : Field → ℕ → Bool
-holds (F.Value x) n = eqb x n
-holds F.Nothing n = false
-
 -- whether a number stands in so many digits at a place
 unfoldable pub stands : List ℕ → ℕ → ℕ → ℕ → Bool
-stands s place width n = holds (fieldOf (readHex s place width)) n
+stands s place width n = afterField false (fieldOf (readHex s place width)) (λ x. eqb x n)
 
 -- whether a line expects these three words: 1, 5 and 5 digits
 unfoldable pub agrees : List ℕ → ℕ → ℕ → ℕ → Bool

@@ -9,13 +9,13 @@ use Rattle.journal_cases.specs.declared.line.Case.{Case}
 use Rattle.journal_cases.specs.declared.line.Case.the-variants as A
 
 -- the last k bytes of n, the most significant first
-unfoldable pub bytesOf : ℕ → ℕ → List ℕ
-bytesOf zero n = []
-bytesOf (suc k) n = bytesOf k (n / 256) ++ (n % 256 ∷ [])
+unfoldable pub bigEndianBytes : ℕ → ℕ → List ℕ
+bigEndianBytes zero n = []
+bigEndianBytes (suc k) n = bigEndianBytes k (n / 256) ++ (n % 256 ∷ [])
 
 -- eight bytes from a place on, where there is room for them
 unfoldable pub storedAt : ℕ → ℕ → List ℕ → List ℕ
-storedAt place n v = cond (leb (place + 8) (length v)) (take place v ++ (bytesOf 8 n ++ drop (place + 8) v)) v
+storedAt place n v = cond (leb (place + 8) (length v)) (take place v ++ (bigEndianBytes 8 n ++ drop (place + 8) v)) v
 
 -- the same for a line that puts bytes; another leaves the buffer as it is
 unfoldable pub storedBy : Case → List ℕ → List ℕ

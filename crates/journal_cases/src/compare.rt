@@ -2,7 +2,7 @@
 // The journal stands in a buffer, and a line says how much of the buffer the slice is.
 ghost use mathlib.Core.Path.{_≡_};
 ghost use lib.ListN.{take};
-ghost use Rattle.journal_cases.specs.Compare.{comparedWith, roomFor, verdictOf, scanAgrees, partAgrees, markAgrees};
+ghost use Rattle.journal_cases.specs.Compare.{comparedWith, storedIfRoom, verdictOf, scanAgrees, partAgrees, markAgrees};
 use crate::line::Case;
 use crate::line::agree;
 use capi::journals::journal_mark;
@@ -10,7 +10,7 @@ use capi::journals::journal_part;
 use capi::journals::journal_scan;
 
 // What a line tells: its bytes go into the buffer, or the answer is as expected or not, or it is no such line.
-pub enum Compared {
+pub(crate) enum Compared {
     Stored,
     Same,
     Differs,
@@ -18,11 +18,11 @@ pub enum Compared {
 }
 
 // The line against the journal in the buffer.
-pub fn compare(line: &[u8], a: Case, v: &[u8]) -> Compared
+pub(crate) fn compare(line: &[u8], a: Case, v: &[u8]) -> Compared
     ensures { λ r. ⌜ r ≡ comparedWith (now (line .entry)) a (now (v .entry)) ⌝ }
 {
     match a {
-        Case::Bytes { place, n: _ } => room_for(place, v.len()),
+        Case::Bytes { place, n: _ } => stored_if_room(place, v.len()),
         Case::Scan { size, len } => verdict(scan_agrees(line, front(v, size), len)),
         Case::Part { size, len, i } => verdict(part_agrees(line, front(v, size), len, i)),
         Case::Mark { size, len, i } => verdict(mark_agrees(line, front(v, size), len, i)),
@@ -30,9 +30,9 @@ pub fn compare(line: &[u8], a: Case, v: &[u8]) -> Compared
     }
 }
 
-// Whether eight bytes have room in a buffer of a size from a place on.
-fn room_for(place: usize, size: usize) -> Compared
-    ensures { λ r. ⌜ r ≡ roomFor place size ⌝ }
+// Stored where eight bytes have room in a buffer of a size from a place on, and malformed elsewhere.
+fn stored_if_room(place: usize, size: usize) -> Compared
+    ensures { λ r. ⌜ r ≡ storedIfRoom place size ⌝ }
 {
     if size < 8 {
         return Compared::Malformed;

@@ -6,7 +6,7 @@ use lines::Field;
 use lines::number_at;
 
 // What a line asks: eight bytes put into the buffer, or an answer about the journal in the buffer's first `size` bytes.
-pub enum Case {
+pub(crate) enum Case {
     Bytes { place: usize, n: u64 },
     Scan { size: usize, len: usize },
     Part { size: usize, len: usize, i: usize },
@@ -15,7 +15,7 @@ pub enum Case {
 }
 
 // The line's letter and numbers.
-pub fn case_of(line: &[u8]) -> Case
+pub(crate) fn case_of(line: &[u8]) -> Case
     ensures { λ r. ⌜ r ≡ caseOf (now (line .entry)) ⌝ }
 {
     if line.len() != 56 {
@@ -66,7 +66,7 @@ fn case_kind(letter: u8, place: u64, n: u64, i: u64) -> Case
 }
 
 // Whether a line expects these three words.
-pub fn agree(line: &[u8], a: u64, b: u64, c: u64) -> bool
+pub(crate) fn agree(line: &[u8], a: u64, b: u64, c: u64) -> bool
     ensures { λ r. ⌜ r ≡ agrees (now (line .entry)) a b c ⌝ }
 {
     if !expects(line, 42, 1, a) {

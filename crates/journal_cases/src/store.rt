@@ -2,11 +2,11 @@
 // The digits stand as the bytes do: the first two digits are the first byte.
 ghost use mathlib.Core.Path.{_≡_};
 ghost use lib.ListN.{length};
-ghost use Rattle.journal_cases.specs.Store.{bytesOf, storedBy, storedAt};
+ghost use Rattle.journal_cases.specs.Store.{bigEndianBytes, storedBy, storedAt};
 use crate::line::Case;
 
 // The buffer with the bytes that a line puts there; without room for them, or for another line, it stays.
-pub fn store(a: Case, v: &mut [u8])
+pub(crate) fn store(a: Case, v: &mut [u8])
     ensures { λ _. ⌜ now (v .exit) ≡ storedBy a (now (v .entry)) ⌝ }
 {
     match a {
@@ -42,7 +42,7 @@ fn store_at(place: usize, n: u64, v: &mut [u8])
 
 // Fills out with the last bytes of n, the most significant first.
 fn fill(n: u64, out: &mut [u8])
-    ensures { λ _. ⌜ now (out .exit) ≡ bytesOf (length (now (out .entry))) n ⌝ }
+    ensures { λ _. ⌜ now (out .exit) ≡ bigEndianBytes (length (now (out .entry))) n ⌝ }
 {
     let mut i = out.len();
     let mut rest = n;

@@ -11,14 +11,14 @@ use crate::store::store;
 use lines::line_end;
 use lines::one_more;
 
-pub struct Tally {
-    pub compared: u64,
-    pub differ: u64,
-    pub malformed: u64,
+pub(crate) struct Tally {
+    pub(crate) compared: u64,
+    pub(crate) differ: u64,
+    pub(crate) malformed: u64,
 }
 
 // The lines of a chunk, one after another; the last may be cut short, and is malformed then.
-pub fn tally_chunk(chunk: &[u8], v: &mut [u8], t: Tally) -> Tally
+pub(crate) fn tally_chunk(chunk: &[u8], v: &mut [u8], t: Tally) -> Tally
     ensures { λ r. ⌜ r ≡ replayed (now (chunk .entry)) (now (v .entry)) t .tally ⌝ }
     ensures { λ r. ⌜ now (v .exit) ≡ replayed (now (chunk .entry)) (now (v .entry)) t .bytes ⌝ }
 {
@@ -38,7 +38,7 @@ pub fn tally_chunk(chunk: &[u8], v: &mut [u8], t: Tally) -> Tally
 }
 
 // A tally with one line more.
-pub fn count(t: Tally, c: Compared) -> Tally
+pub(crate) fn count(t: Tally, c: Compared) -> Tally
     ensures { λ r. ⌜ r ≡ counted t c ⌝ }
 {
     match c {

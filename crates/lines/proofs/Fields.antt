@@ -1,4 +1,4 @@
--- A field that holds a number was read, and the number fits its digits. Assumes nothing.
+-- A field that holds a number was read, and the number fits its digits; what a field leads to, case by case. Assumes nothing.
 use Prim.Native.Nat.{ℕ, _^_, _<_}
 use mathlib.Core.Path.{_≡_, refl}
 use mathlib.Core.List.{List}
@@ -7,7 +7,8 @@ use Rattle.hex.specs.Hex.{readHex}
 use Rattle.hex.specs.declared.read.Number.{Number}
 use Rattle.hex.specs.declared.read.Number.the-variants as N
 use Rattle.hex.proofs.Reading.{read-hex-below}
-use Rattle.lines.specs.Lines.{fieldOf}
+use Rattle.lines.specs.Lines.{fieldOf, afterField}
+use Rattle.lines.specs.declared.field.Field.{Field}
 use Rattle.lines.specs.declared.field.Field.the-variants as F
 
 -- a field holds a number only where reading found it
@@ -21,3 +22,13 @@ field-read (N.NoDigit place) v e = let z : _≡_ {A = ℕ} 0 1 = cc in absurd (o
 -- the number of a field fits its digits
 pub field-below : (s : List ℕ) (place width v : ℕ) → fieldOf (readHex s place width) ≡ F.Value v → v < 16 ^ width
 field-below s place width v e = read-hex-below s place width v (field-read (readHex s place width) v e)
+
+-- a field that holds a number goes on with it
+pub field-good : {A : Type 0} (none : A) (f : Field) (n : ℕ) (next : ℕ → A) → f ≡ F.Value n → next n ≡ afterField none f next
+unfolding afterField
+field-good none f n next e = rw (e, afterField)
+
+-- a field that holds none leads to the answer without a number
+pub field-bad : {A : Type 0} (none : A) (f : Field) (next : ℕ → A) → f ≡ F.Nothing → none ≡ afterField none f next
+unfolding afterField
+field-bad none f next e = rw (e, afterField)

@@ -17,6 +17,11 @@ fieldOf N.TooWide = F.Nothing
 fieldOf N.Short = F.Nothing
 fieldOf (N.NoDigit place) = F.Nothing
 
+-- a field's number goes on; where there is none, the answer is the first argument
+unfoldable pub afterField : {A : Type 0} → A → Field → (ℕ → A) → A
+afterField none (F.Value n) next = next n
+afterField none F.Nothing next = none
+
 -- the end of a line of so many bytes from a place on, or of the bytes
 abbrev pub lineEnd : ℕ → ℕ → ℕ → ℕ
 lineEnd at width len = at + min width (len - at)

@@ -1,23 +1,16 @@
 -- A stored line against f_erfcinv, and the tally of many lines.
 -- Assumes nothing.
-use Prim.Native.Nat.{ℕ, zero, suc}
+use Prim.Native.Nat.{ℕ}
 use mathlib.Core.Bool.{cond}
 use mathlib.Core.List.{List, [], _∷_, _++_}
 use lib.Dec.{eqb}
-use lib.ListN.{length, getD, take, drop}
+use lib.ListN.{length, getD}
 use Rattle.hex.specs.Hex.{hexDigits, readHex}
-use Rattle.lines.specs.Lines.{fieldOf, oneMore}
-use Rattle.lines.specs.declared.field.Field.{Field}
-use Rattle.lines.specs.declared.field.Field.the-variants as F
+use Rattle.lines.specs.Lines.{fieldOf, afterField, oneMore, replayOf}
 use Rattle.pxfm.specs.Inverfc.{fErfcinvBits}
 use Rattle.quantile_vectors.specs.declared.line.Compared.{Compared}
 use Rattle.quantile_vectors.specs.declared.line.Compared.the-variants as C
 use Rattle.quantile_vectors.specs.declared.tally.Tally.{Tally}
-
--- a number goes on, none makes the line malformed
-unfoldable pub afterField : Field → (ℕ → Compared) → Compared
-afterField (F.Value n) next = next n
-afterField F.Nothing next = C.Malformed
 
 -- the quantile at x against the result that is expected
 unfoldable pub comparedAt : ℕ → ℕ → Compared
@@ -25,11 +18,11 @@ comparedAt x expected = cond (eqb (fErfcinvBits x) expected) C.Same (C.Differs x
 
 -- the result that a line expects of x, from its byte 17 on
 unfoldable pub comparedResult : List ℕ → ℕ → Compared
-comparedResult s x = afterField (fieldOf (readHex s 17 16)) (λ expected. comparedAt x expected)
+comparedResult s x = afterField C.Malformed (fieldOf (readHex s 17 16)) (λ expected. comparedAt x expected)
 
 -- the argument, from a line's first byte on, and the result
 unfoldable pub comparedFields : List ℕ → Compared
-comparedFields s = afterField (fieldOf (readHex s 0 16)) (λ x. comparedResult s x)
+comparedFields s = afterField C.Malformed (fieldOf (readHex s 0 16)) (λ x. comparedResult s x)
 
 -- a line: sixteen digits, a space, sixteen digits and a line end
 unfoldable pub comparedLine : List ℕ → Compared
@@ -46,15 +39,13 @@ counted t C.Same = record { compared = oneMore (t .compared); differ = t .differ
 counted t (C.Differs x e g) = record { compared = oneMore (t .compared); differ = oneMore (t .differ); malformed = t .malformed }
 counted t C.Malformed = record { compared = t .compared; differ = t .differ; malformed = oneMore (t .malformed) }
 
--- a tally with the lines of some bytes more, at most so many; a last line may be cut short
-unfoldable pub talliedIn : ℕ → List ℕ → Tally → Tally
-talliedIn zero s t = t
-talliedIn (suc most) s t =
-    cond (eqb (length s) 0) t (talliedIn most (drop 34 s) (counted t (comparedLine (take 34 s))))
+-- the same from the line's bytes
+abbrev pub stepped : List ℕ → Tally → Tally
+stepped s t = counted t (comparedLine s)
 
 -- a tally with all lines of some bytes more
 unfoldable pub tallied : List ℕ → Tally → Tally
-tallied s t = talliedIn (length s) s t
+tallied s t = replayOf 34 stepped s t
 
 -- the line that says where the results differ: argument, expected, got
 unfoldable pub differenceLine : ℕ → ℕ → ℕ → List ℕ

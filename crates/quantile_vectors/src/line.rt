@@ -6,14 +6,14 @@ use lines::Field;
 use pxfm::err::inverfc::f_erfcinv_bits;
 
 // What a line says of the port.
-pub enum Compared {
+pub(crate) enum Compared {
     Same,
     Differs { x: u64, expected: u64, got: u64 },
     Malformed,
 }
 
 // The line against the port.
-pub fn compare(line: &[u8]) -> Compared
+pub(crate) fn compare(line: &[u8]) -> Compared
     ensures { λ r. ⌜ r ≡ comparedLine (now (line .entry)) ⌝ }
 {
     if line.len() != 34 {
@@ -60,7 +60,7 @@ fn compare_at(x: u64, expected: u64) -> Compared
 }
 
 // The line that says where the results differ.
-pub fn difference(x: u64, expected: u64, got: u64) -> [u8; 51]
+pub(crate) fn difference(x: u64, expected: u64, got: u64) -> [u8; 51]
     ensures { λ r. ⌜ r ≡ differenceLine x expected got ⌝ }
 {
     let mut out = [b' '; 51];

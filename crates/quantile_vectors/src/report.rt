@@ -2,7 +2,7 @@
 // What cannot be written is said on standard error.
 
 // A number in decimal.
-pub fn print_number(n: u64) {
+pub(crate) fn print_number(n: u64) {
     let d = hex::decimal_of(n);
     let digits = d.digits;
     let count = d.count;
@@ -10,7 +10,7 @@ pub fn print_number(n: u64) {
 }
 
 // Writes a text to standard output, or says that it cannot.
-pub fn print(text: &[u8]) {
+pub(crate) fn print(text: &[u8]) {
     if !io::write_all(1, text) {
         io::write_all(2, b"quantile_vectors: standard output cannot be written\n");
     }

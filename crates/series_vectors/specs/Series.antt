@@ -1,14 +1,12 @@
 -- A stored true value against f_erfcinv, and the tally of many.
 -- Assumes nothing.
-use Prim.Native.Nat.{ℕ, zero, suc, _+_, _-_, _*_, _/_, _^_, max}
+use Prim.Native.Nat.{ℕ, _+_, _-_, _*_, _/_, _^_, max}
 use mathlib.Core.Bool.{cond}
 use mathlib.Core.List.{List, [], _∷_, _++_}
 use lib.Dec.{eqb, leb, ltb}
-use lib.ListN.{length, getD, take, drop}
+use lib.ListN.{length, getD}
 use Rattle.hex.specs.Hex.{readHex}
-use Rattle.lines.specs.Lines.{fieldOf, oneMore}
-use Rattle.lines.specs.declared.field.Field.{Field}
-use Rattle.lines.specs.declared.field.Field.the-variants as F
+use Rattle.lines.specs.Lines.{fieldOf, afterField, oneMore, replayOf}
 use Rattle.pxfm.specs.Inverfc.{fErfcinvBits}
 use Rattle.series_vectors.specs.declared.line.Measured.{Measured}
 use Rattle.series_vectors.specs.declared.line.Measured.the-variants as M
@@ -42,26 +40,21 @@ tenThousandths distance = (distance * 10000 + (2 ^ 32 - 1)) / 2 ^ 32
 
 -- ---- one line
 
--- a number goes on, none makes the line malformed
-unfoldable pub afterField : Field → (ℕ → Measured) → Measured
-afterField (F.Value n) next = next n
-afterField F.Nothing next = M.Malformed
-
 -- the quantile at x against the true value
 unfoldable pub measuredAt : ℕ → ℕ → ℕ → ℕ → Measured
 measuredAt letter x below part = M.Distance letter x (distanceOf (fErfcinvBits x) below part)
 
 -- the rest of the way, from a line's byte 36 on
 unfoldable pub measuredBelow : List ℕ → ℕ → ℕ → ℕ → Measured
-measuredBelow s letter x below = afterField (fieldOf (readHex s 36 8)) (λ part. measuredAt letter x below part)
+measuredBelow s letter x below = afterField M.Malformed (fieldOf (readHex s 36 8)) (λ part. measuredAt letter x below part)
 
 -- the double below the true value, from byte 19 on, and the rest
 unfoldable pub measuredFrom : List ℕ → ℕ → ℕ → Measured
-measuredFrom s letter x = afterField (fieldOf (readHex s 19 16)) (λ below. measuredBelow s letter x below)
+measuredFrom s letter x = afterField M.Malformed (fieldOf (readHex s 19 16)) (λ below. measuredBelow s letter x below)
 
 -- the argument, from byte 2 on, and the rest
 unfoldable pub measuredFields : List ℕ → ℕ → Measured
-measuredFields s letter = afterField (fieldOf (readHex s 2 16)) (λ x. measuredFrom s letter x)
+measuredFields s letter = afterField M.Malformed (fieldOf (readHex s 2 16)) (λ x. measuredFrom s letter x)
 
 -- a line: a letter, sixteen digits, sixteen digits, eight digits and a line end, with single spaces
 unfoldable pub measuredLine : List ℕ → Measured
@@ -128,12 +121,10 @@ unfoldable pub counted : Tally → Measured → Tally
 counted t (M.Distance letter x d) = countedAt t letter x d
 counted t M.Malformed = malformedOne t
 
--- a tally with the lines of some bytes more, at most so many; a last line may be cut short
-unfoldable pub talliedIn : ℕ → List ℕ → Tally → Tally
-talliedIn zero s t = t
-talliedIn (suc most) s t =
-    cond (eqb (length s) 0) t (talliedIn most (drop 45 s) (counted t (measuredLine (take 45 s))))
+-- the same from the line's bytes
+abbrev pub stepped : List ℕ → Tally → Tally
+stepped s t = counted t (measuredLine s)
 
 -- a tally with all lines of some bytes more
 unfoldable pub tallied : List ℕ → Tally → Tally
-tallied s t = talliedIn (length s) s t
+tallied s t = replayOf 45 stepped s t

@@ -45,7 +45,7 @@ fn steps_above(steps: u64, part: u64) -> u64
 }
 
 // A distance in ten-thousandths of a unit, rounded up.
-pub fn ten_thousandths(distance: u64) -> u64
+pub(crate) fn ten_thousandths(distance: u64) -> u64
     ensures { λ r. ⌜ r ≡ tenThousandths distance ⌝ }
 {
     let units = distance / 0x100000000;

@@ -9,20 +9,20 @@ ghost use Rattle.series_vectors.specs.Series.{emptyGroup, grouped};
 use crate::distance::ten_thousandths;
 use lines::one_more;
 
-pub struct Group {
-    pub count: u64,
+pub(crate) struct Group {
+    pub(crate) count: u64,
     // how many results are within half a unit, and so the nearest double
-    pub nearest: u64,
-    pub greatest: u64,
+    pub(crate) nearest: u64,
+    pub(crate) greatest: u64,
     // the bits of x at the greatest distance
-    pub at: u64,
-    pub bound: u64,
-    pub beyond: u64,
+    pub(crate) at: u64,
+    pub(crate) bound: u64,
+    pub(crate) beyond: u64,
 }
 
 impl Group {
     // A group with no line yet.
-    pub fn within(bound: u64) -> Group
+    pub(crate) fn within(bound: u64) -> Group
         ensures { λ r. ⌜ r ≡ emptyGroup bound ⌝ }
     {
         Group {
@@ -37,7 +37,7 @@ impl Group {
 }
 
 // The group with one distance more.
-pub fn group_with(g: Group, x: u64, distance: u64) -> Group
+pub(crate) fn group_with(g: Group, x: u64, distance: u64) -> Group
     ensures { λ r. ⌜ r ≡ grouped g x distance ⌝ }
 {
     Group {

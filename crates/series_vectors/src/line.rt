@@ -9,13 +9,13 @@ use lines::number_at;
 use pxfm::err::inverfc::f_erfcinv_bits;
 
 // What a line tells of the port.
-pub enum Measured {
+pub(crate) enum Measured {
     Distance { letter: u8, x: u64, distance: u64 },
     Malformed,
 }
 
 // The line against the port.
-pub fn measure(line: &[u8]) -> Measured
+pub(crate) fn measure(line: &[u8]) -> Measured
     ensures { λ r. ⌜ r ≡ measuredLine (now (line .entry)) ⌝ }
 {
     if line.len() != 45 {

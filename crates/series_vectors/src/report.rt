@@ -4,7 +4,7 @@ use crate::distance::ten_thousandths;
 use crate::group::Group;
 
 // The line of a group.
-pub fn print_group(name: &[u8], g: Group) {
+pub(crate) fn print_group(name: &[u8], g: Group) {
     print(name);
     print(b": ");
     print_number(g.count);
@@ -30,7 +30,7 @@ fn print_bound(bound: u64, beyond: u64) {
 }
 
 // Ten-thousandths of a unit as units with four decimals.
-pub fn print_units(n: u64) {
+pub(crate) fn print_units(n: u64) {
     print_number(n / 10000);
     let mut decimals = [0u8; 4];
     hex::decimal_into(n % 10000, &mut decimals);
@@ -39,7 +39,7 @@ pub fn print_units(n: u64) {
 }
 
 // A number in decimal.
-pub fn print_number(n: u64) {
+pub(crate) fn print_number(n: u64) {
     let d = hex::decimal_of(n);
     let digits = d.digits;
     let count = d.count;
@@ -47,7 +47,7 @@ pub fn print_number(n: u64) {
 }
 
 // Writes a text to standard output, or says that it cannot.
-pub fn print(text: &[u8]) {
+pub(crate) fn print(text: &[u8]) {
     if !io::write_all(1, text) {
         io::write_all(2, b"series_vectors: standard output cannot be written\n");
     }

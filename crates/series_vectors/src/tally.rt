@@ -12,16 +12,16 @@ use crate::report::print_units;
 use lines::line_end;
 use lines::one_more;
 
-pub struct Tally {
-    pub chances: Group,
-    pub others: Group,
-    pub small: Group,
-    pub far: Group,
-    pub malformed: u64,
+pub(crate) struct Tally {
+    pub(crate) chances: Group,
+    pub(crate) others: Group,
+    pub(crate) small: Group,
+    pub(crate) far: Group,
+    pub(crate) malformed: u64,
 }
 
 // The lines of a chunk, one after another; the last may be cut short, and is malformed then.
-pub fn tally_chunk(chunk: &[u8], t: Tally) -> Tally
+pub(crate) fn tally_chunk(chunk: &[u8], t: Tally) -> Tally
     ensures { λ r. ⌜ r ≡ tallied (now (chunk .entry)) t ⌝ }
 {
     let mut tally = t;
@@ -37,7 +37,7 @@ pub fn tally_chunk(chunk: &[u8], t: Tally) -> Tally
 }
 
 // A tally with one line more.
-pub fn count(t: Tally, m: Measured) -> Tally
+pub(crate) fn count(t: Tally, m: Measured) -> Tally
     ensures { λ r. ⌜ r ≡ counted t m ⌝ }
 {
     match m {

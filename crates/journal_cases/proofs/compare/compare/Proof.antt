@@ -7,7 +7,7 @@ use Rattle.journal_cases.proofs.compare.compare.Tie as tie
 
 returns : tie.Need-returns
 unfolding comparedWith
-returns c = rw (c .before .before .a .given .1) (c .room-for .ensures)
+returns c = rw (c .before .before .a .given .1) (c .stored-if-room .ensures)
 
 returns-2 : tie.Need-returns-2
 unfolding comparedWith

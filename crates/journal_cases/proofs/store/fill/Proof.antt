@@ -6,14 +6,14 @@ use mathlib.Core.List.{_++_, append-nil}
 use native.Mathlib.Omega.{arith}
 use lib.ListN.{length, drop, length-set}
 use lib.Seq.{drop-length}
-use Rattle.journal_cases.specs.Store.{bytesOf}
+use Rattle.journal_cases.specs.Store.{bigEndianBytes}
 use Rattle.journal_cases.proofs.Filling.{bytes-before, bytes-done}
 use Rattle.journal_cases.proofs.store.fill.Statement.{statement}
 use Rattle.journal_cases.proofs.store.fill.Tie as tie
 
 abbrev Inv-loop : tie.InvT-loop
 Inv-loop n out₀ i₀ rest₀ out i rest =
-    (i ≤ length out) × (length out ≡ length out₀) × (bytesOf (length out₀) n ≡ bytesOf i rest ++ drop i out)
+    (i ≤ length out) × (length out ≡ length out₀) × (bigEndianBytes (length out₀) n ≡ bigEndianBytes i rest ++ drop i out)
 
 abbrev μ-loop : tie.MeasureT-loop
 μ-loop n out₀ i₀ rest₀ out i rest = i

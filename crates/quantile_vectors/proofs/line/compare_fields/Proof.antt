@@ -5,41 +5,35 @@ use Rattle.hex.specs.Hex.{readHex}
 use Rattle.lines.specs.Lines.{fieldOf}
 use Rattle.quantile_vectors.specs.Replay.{comparedFields, comparedResult}
 use Rattle.lines.specs.declared.field.Field.the-variants as F
-use Rattle.quantile_vectors.proofs.Fields.{field-good, field-bad}
+use Rattle.lines.proofs.Fields.{field-good, field-bad}
 use Rattle.quantile_vectors.proofs.line.compare_fields.Statement.{statement}
 use Rattle.quantile_vectors.proofs.line.compare_fields.Tie as tie
 
--- src/line.rt:42:11
 number-at-requires : tie.Need-number-at-requires
 number-at-requires c κs = search needs
 
--- src/line.rt:43:22
 enum-known-x : tie.Need-enum-known-x
 enum-known-x c = search needs
 
--- src/line.rt:43:28
 compare-result-requires : tie.Need-compare-result-requires
 compare-result-requires c κs = search needs
 
--- src/line.rt:44:27
 enum-told : tie.Need-enum-told
 enum-told c = search needs
 
--- src/line.rt:39:1
 returns : tie.Need-returns
 unfolding comparedFields
 returns c =
     let args = c .before .before .before .before .before .before .args in
     let read : fieldOf (readHex (args .line .now) 0 16) ≡ F.Value (c .before .before .x .given .0 .0) = cc in
-    c .compare-result .ensures ∙ field-good _ _ (comparedResult (args .line .now)) read
+    c .compare-result .ensures ∙ field-good _ _ _ (comparedResult (args .line .now)) read
 
--- src/line.rt:39:1
 returns-2 : tie.Need-returns-2
 unfolding comparedFields
 returns-2 c =
     let args = c .before .before .before .before .args in
     let read : fieldOf (readHex (args .line .now) 0 16) ≡ F.Nothing = cc in
-    field-bad _ (comparedResult (args .line .now)) read
+    field-bad _ _ (comparedResult (args .line .now)) read
 
 pub compare-fields-spec : {M : Type 1} → statement M
 compare-fields-spec =

@@ -5,41 +5,35 @@ use Rattle.hex.specs.Hex.{readHex}
 use Rattle.lines.specs.Lines.{fieldOf}
 use Rattle.quantile_vectors.specs.Replay.{comparedResult, comparedAt}
 use Rattle.lines.specs.declared.field.Field.the-variants as F
-use Rattle.quantile_vectors.proofs.Fields.{field-good, field-bad}
+use Rattle.lines.proofs.Fields.{field-good, field-bad}
 use Rattle.quantile_vectors.proofs.line.compare_result.Statement.{statement}
 use Rattle.quantile_vectors.proofs.line.compare_result.Tie as tie
 
--- src/line.rt:52:11
 number-at-requires : tie.Need-number-at-requires
 number-at-requires c κs = search needs
 
--- src/line.rt:53:22
 enum-known-expected : tie.Need-enum-known-expected
 enum-known-expected c = search needs
 
--- src/line.rt:53:35
 compare-at-requires : tie.Need-compare-at-requires
 compare-at-requires c κs = search needs
 
--- src/line.rt:54:27
 enum-told : tie.Need-enum-told
 enum-told c = search needs
 
--- src/line.rt:49:1
 returns : tie.Need-returns
 unfolding comparedResult
 returns c =
     let args = c .before .before .before .before .before .before .args in
     let read : fieldOf (readHex (args .line .now) 17 16) ≡ F.Value (c .before .before .expected .given .0 .0) = cc in
-    c .compare-at .ensures ∙ field-good _ _ (comparedAt (args .x)) read
+    c .compare-at .ensures ∙ field-good _ _ _ (comparedAt (args .x)) read
 
--- src/line.rt:49:1
 returns-2 : tie.Need-returns-2
 unfolding comparedResult
 returns-2 c =
     let args = c .before .before .before .before .args in
     let read : fieldOf (readHex (args .line .now) 17 16) ≡ F.Nothing = cc in
-    field-bad _ (comparedAt (args .x)) read
+    field-bad _ _ (comparedAt (args .x)) read
 
 pub compare-result-spec : {M : Type 1} → statement M
 compare-result-spec =

@@ -5,18 +5,19 @@ use mathlib.Core.Path.{_≡_}
 use native.Mathlib.Omega.{arith}
 use borrow.Author.Needs.{needs}
 use lib.ListN.{length}
-use Rattle.quantile_vectors.proofs.Chunk.{Replayed, replay-starts, replay-turn, replay-ends}
+use Rattle.lines.proofs.Replay.{Replayed, replay-starts, replay-turn, replay-ends}
+use Rattle.quantile_vectors.specs.Replay.{stepped, tallied}
 use Rattle.quantile_vectors.proofs.tally.tally_chunk.Statement.{statement}
 use Rattle.quantile_vectors.proofs.tally.tally_chunk.Tie as tie
 
 abbrev Inv-loop : tie.InvT-loop
-Inv-loop chunk tally₀ at₀ tally at = (at ≤ length chunk) × Replayed chunk tally₀ at tally
+Inv-loop chunk tally₀ at₀ tally at = (at ≤ length chunk) × Replayed 34 stepped chunk tally₀ at tally
 
 abbrev μ-loop : tie.MeasureT-loop
 μ-loop chunk tally₀ at₀ tally at = length chunk - at
 
 loop-holds : tie.Need-loop-holds Inv-loop μ-loop
-loop-holds c = (omega arith, replay-starts _ _)
+loop-holds c = (omega arith, replay-starts 34 stepped _ _)
 
 line-end-requires : tie.Need-line-end-requires Inv-loop μ-loop
 line-end-requires c κs = omega arith
@@ -47,13 +48,14 @@ loop-again c =
     let ended = c .before .before .before .before in
     let head = ended .before .before in
     let args = head .before .before .args in
-    let turn = replay-turn (args .chunk .now) (args .t) (head .loop .at) (ended .line-end .result) (head .loop .tally)
-    (omega arith) (ended .line-end .ensures) (head .loop .inv .1)
+    let turn = replay-turn 34 stepped (args .chunk .now) (args .t) (head .loop .at) (ended .line-end .result) (head .loop .tally)
+    (omega arith) (ended .line-end .ensures) (omega arith) (head .loop .inv .1)
     in
     (omega arith, rw (c .before .count .ensures, c .before .before .compare .ensures) turn)
 
 returns : tie.Need-returns Inv-loop μ-loop
-returns c = replay-ends _ _ _ _ (c .loop-test .left) (c .before .loop .inv .1)
+unfolding tallied
+returns c = replay-ends 34 stepped _ _ _ _ (c .loop-test .left) (c .before .loop .inv .1)
 
 pub tally-chunk-spec : {M : Type 1} → statement M
 tally-chunk-spec =

@@ -3,9 +3,8 @@ use mathlib.Core.Path.{_≡_, _∙_}
 use Rattle.hex.specs.Hex.{readHex}
 use Rattle.lines.specs.Lines.{fieldOf}
 use Rattle.lines.specs.declared.field.Field.the-variants as F
-use Rattle.lines.proofs.Fields.{field-below}
+use Rattle.lines.proofs.Fields.{field-below, field-good, field-bad}
 use Rattle.series_vectors.specs.Series.{measuredBelow, measuredAt}
-use Rattle.series_vectors.proofs.Fields.{field-good, field-bad}
 use borrow.Author.Needs.{needs}
 use Rattle.series_vectors.proofs.line.measure_below.Statement.{statement}
 use Rattle.series_vectors.proofs.line.measure_below.Tie as tie
@@ -30,14 +29,14 @@ unfolding measuredBelow
 returns c =
     let args = c .before .before .before .before .before .before .args in
     let read : fieldOf (readHex (args .line .now) 36 8) ≡ F.Value (c .before .before .part .given .0 .0) = cc in
-    c .measure-at .ensures ∙ field-good _ _ (measuredAt (args .letter) (args .x) (args .below)) read
+    c .measure-at .ensures ∙ field-good _ _ _ (measuredAt (args .letter) (args .x) (args .below)) read
 
 returns-2 : tie.Need-returns-2
 unfolding measuredBelow
 returns-2 c =
     let args = c .before .before .before .before .args in
     let read : fieldOf (readHex (args .line .now) 36 8) ≡ F.Nothing = cc in
-    field-bad _ (measuredAt (args .letter) (args .x) (args .below)) read
+    field-bad _ _ (measuredAt (args .letter) (args .x) (args .below)) read
 
 pub measure-below-spec : {M : Type 1} → statement M
 measure-below-spec =

@@ -3,8 +3,8 @@ use mathlib.Core.Path.{_≡_, _∙_}
 use Rattle.hex.specs.Hex.{readHex}
 use Rattle.lines.specs.Lines.{fieldOf}
 use Rattle.lines.specs.declared.field.Field.the-variants as F
+use Rattle.lines.proofs.Fields.{field-good, field-bad}
 use Rattle.series_vectors.specs.Series.{measuredFields, measuredFrom}
-use Rattle.series_vectors.proofs.Fields.{field-good, field-bad}
 use borrow.Author.Needs.{needs}
 use Rattle.series_vectors.proofs.line.measure_fields.Statement.{statement}
 use Rattle.series_vectors.proofs.line.measure_fields.Tie as tie
@@ -26,14 +26,14 @@ unfolding measuredFields
 returns c =
     let args = c .before .before .before .before .before .before .args in
     let read : fieldOf (readHex (args .line .now) 2 16) ≡ F.Value (c .before .before .x .given .0 .0) = cc in
-    c .measure-from .ensures ∙ field-good _ _ (measuredFrom (args .line .now) (args .letter)) read
+    c .measure-from .ensures ∙ field-good _ _ _ (measuredFrom (args .line .now) (args .letter)) read
 
 returns-2 : tie.Need-returns-2
 unfolding measuredFields
 returns-2 c =
     let args = c .before .before .before .before .args in
     let read : fieldOf (readHex (args .line .now) 2 16) ≡ F.Nothing = cc in
-    field-bad _ (measuredFrom (args .line .now) (args .letter)) read
+    field-bad _ _ (measuredFrom (args .line .now) (args .letter)) read
 
 pub measure-fields-spec : {M : Type 1} → statement M
 measure-fields-spec =

@@ -3,8 +3,8 @@ use mathlib.Core.Path.{_≡_, _∙_}
 use Rattle.hex.specs.Hex.{readHex}
 use Rattle.lines.specs.Lines.{fieldOf}
 use Rattle.lines.specs.declared.field.Field.the-variants as F
+use Rattle.lines.proofs.Fields.{field-good, field-bad}
 use Rattle.series_vectors.specs.Series.{measuredFrom, measuredBelow}
-use Rattle.series_vectors.proofs.Fields.{field-good, field-bad}
 use borrow.Author.Needs.{needs}
 use Rattle.series_vectors.proofs.line.measure_from.Statement.{statement}
 use Rattle.series_vectors.proofs.line.measure_from.Tie as tie
@@ -26,14 +26,14 @@ unfolding measuredFrom
 returns c =
     let args = c .before .before .before .before .before .before .args in
     let read : fieldOf (readHex (args .line .now) 19 16) ≡ F.Value (c .before .before .below .given .0 .0) = cc in
-    c .measure-below .ensures ∙ field-good _ _ (measuredBelow (args .line .now) (args .letter) (args .x)) read
+    c .measure-below .ensures ∙ field-good _ _ _ (measuredBelow (args .line .now) (args .letter) (args .x)) read
 
 returns-2 : tie.Need-returns-2
 unfolding measuredFrom
 returns-2 c =
     let args = c .before .before .before .before .args in
     let read : fieldOf (readHex (args .line .now) 19 16) ≡ F.Nothing = cc in
-    field-bad _ (measuredBelow (args .line .now) (args .letter) (args .x)) read
+    field-bad _ _ (measuredBelow (args .line .now) (args .letter) (args .x)) read
 
 pub measure-from-spec : {M : Type 1} → statement M
 measure-from-spec =
