@@ -5,6 +5,7 @@ use mathlib.Core.List.{List}
 use native.Mathlib.Omega.{arith}
 use lib.ListN.{length, take, drop}
 use Rattle.lines.specs.Lines.{lineEnd}
+use Rattle.lines.specs.declared.tally.Tally.{Tally}
 use Rattle.lines.proofs.Replay.{Replayed, replay-turn}
 use Rattle.journal_cases.specs.Line.{caseOf}
 use Rattle.journal_cases.specs.Compare.{comparedWith}
@@ -12,7 +13,6 @@ use Rattle.journal_cases.specs.Store.{storedBy}
 use Rattle.journal_cases.specs.Replay.{State, counted, stepped}
 use Rattle.journal_cases.specs.declared.line.Case.{Case}
 use Rattle.journal_cases.specs.declared.compare.Compared.{Compared}
-use Rattle.journal_cases.specs.declared.tally.Tally.{Tally}
 
 -- a turn's parts make the state after its line
 pub line-replayed : (s : List ℕ) (start : State) (at end : ℕ) (t u : Tally) (b d : List ℕ) (a : Case) (c : Compared)

@@ -1,21 +1,23 @@
 -- The replay of many lines: the tally, and the buffer that they leave.
 -- Assumes nothing.
 use Prim.Native.Nat.{ℕ}
+use mathlib.Core.Bool.{true, false}
 use mathlib.Core.List.{List}
-use Rattle.lines.specs.Lines.{oneMore, replayOf}
+use Rattle.lines.specs.Lines.{replayOf}
+use Rattle.lines.specs.Tally.{comparedMore, malformedMore}
+use Rattle.lines.specs.declared.tally.Tally.{Tally}
 use Rattle.journal_cases.specs.Line.{caseOf}
 use Rattle.journal_cases.specs.Compare.{comparedWith}
 use Rattle.journal_cases.specs.Store.{storedBy}
 use Rattle.journal_cases.specs.declared.compare.Compared.{Compared}
 use Rattle.journal_cases.specs.declared.compare.Compared.the-variants as C
-use Rattle.journal_cases.specs.declared.tally.Tally.{Tally}
 
 -- a tally with one line more; one that puts bytes compares nothing
 unfoldable pub counted : Tally → Compared → Tally
 counted t C.Stored = t
-counted t C.Same = record { compared = oneMore (t .compared); differ = t .differ; malformed = t .malformed }
-counted t C.Differs = record { compared = oneMore (t .compared); differ = oneMore (t .differ); malformed = t .malformed }
-counted t C.Malformed = record { compared = t .compared; differ = t .differ; malformed = oneMore (t .malformed) }
+counted t C.Same = comparedMore t true
+counted t C.Differs = comparedMore t false
+counted t C.Malformed = malformedMore t
 
 -- the tally and the buffer's bytes
 pub record State : Type 0 where

@@ -2,18 +2,17 @@
 // expect an answer, and compares each answer. The output's last line is the verdict.
 mod compare;
 mod line;
-mod report;
 mod store;
 mod tally;
 
 ghost use mathlib.Core.Path.{_≡_};
 ghost use lib.ListN.{length};
-use compare::Compared;
-use report::print;
-use report::print_number;
-use tally::Tally;
-use tally::count;
+use lines::Tally;
+use lines::print;
+use lines::print_verdict;
 use tally::tally_chunk;
+
+pub(crate) const PROGRAM: [u8; 13] = *b"journal_cases";
 
 // What one read leads to: the tally, and whether more may come.
 struct Turn {
@@ -23,24 +22,21 @@ struct Turn {
 
 fn main() {
     if os::arg_count() > 1 {
-        print(b"usage: journal_cases < CASES\n");
+        print(&PROGRAM, b"usage: journal_cases < CASES\n");
         print(
+            &PROGRAM,
             b"A line is as tools/journal_cases writes it: bytes for the buffer, or a question and its answer.\n",
         );
         return;
     }
-    verdict(finished(replay()));
+    print_verdict(&PROGRAM, replay());
 }
 
 // Reads to the end of the input. A proved loop has to end, and nothing says that an input does:
 // the turns count down from a number that no run uses up.
 fn replay() -> Tally {
     let mut turn = Turn {
-        tally: Tally {
-            compared: 0,
-            differ: 0,
-            malformed: 0,
-        },
+        tally: Tally::ZERO,
         more: true,
     };
     let mut v = journal_buffer();
@@ -51,18 +47,6 @@ fn replay() -> Tally {
         turns -= 1;
     }
     turn.tally
-}
-
-// What cannot be read counts as a malformed line.
-fn finished(t: Tally) -> Tally {
-    if lines::input_ended() {
-        return t;
-    }
-    io::write_all(
-        2,
-        b"journal_cases: standard input cannot be read to its end\n",
-    );
-    count(t, Compared::Malformed)
 }
 
 // Reads as many lines as the buffer holds, all but the last time.
@@ -88,19 +72,4 @@ fn journal_buffer() -> [u8; 65568]
     ensures { λ r. ⌜ 65568 ≡ length r ⌝ }
 {
     [0; 65568]
-}
-
-// The last line of the output.
-fn verdict(t: Tally) {
-    print(b"journal_cases: ");
-    print_number(t.compared);
-    print(b" compared, ");
-    print_number(t.differ);
-    print(b" differ");
-    if t.malformed > 0 {
-        print(b", ");
-        print_number(t.malformed);
-        print(b" malformed");
-    }
-    print(b"\n");
 }

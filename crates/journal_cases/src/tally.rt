@@ -1,21 +1,18 @@
-// How many answers were compared, how many differ, how many lines are malformed.
-// A line that differs or is malformed is written out as it is met.
+// The tally of the lines, and the buffer that they leave. A line that differs or is malformed is written out as it is met.
+// Lines have one length, so a chunk holds whole ones, but for the last.
 ghost use mathlib.Core.Path.{_≡_};
 ghost use Rattle.journal_cases.specs.Replay.{counted, replayed};
+use crate::PROGRAM;
 use crate::compare::Compared;
 use crate::compare::compare;
 use crate::line::case_of;
-use crate::report::print;
-use crate::report::print_number;
 use crate::store::store;
+use lines::Tally;
+use lines::compared_more;
 use lines::line_end;
-use lines::one_more;
-
-pub(crate) struct Tally {
-    pub(crate) compared: u64,
-    pub(crate) differ: u64,
-    pub(crate) malformed: u64,
-}
+use lines::malformed_more;
+use lines::print;
+use lines::print_malformed;
 
 // The lines of a chunk, one after another; the last may be cut short, and is malformed then.
 pub(crate) fn tally_chunk(chunk: &[u8], v: &mut [u8], t: Tally) -> Tally
@@ -38,26 +35,14 @@ pub(crate) fn tally_chunk(chunk: &[u8], v: &mut [u8], t: Tally) -> Tally
 }
 
 // A tally with one line more.
-pub(crate) fn count(t: Tally, c: Compared) -> Tally
+fn count(t: Tally, c: Compared) -> Tally
     ensures { λ r. ⌜ r ≡ counted t c ⌝ }
 {
     match c {
         Compared::Stored => t,
-        Compared::Same => Tally {
-            compared: one_more(t.compared),
-            differ: t.differ,
-            malformed: t.malformed,
-        },
-        Compared::Differs => Tally {
-            compared: one_more(t.compared),
-            differ: one_more(t.differ),
-            malformed: t.malformed,
-        },
-        Compared::Malformed => Tally {
-            compared: t.compared,
-            differ: t.differ,
-            malformed: one_more(t.malformed),
-        },
+        Compared::Same => compared_more(t, true),
+        Compared::Differs => compared_more(t, false),
+        Compared::Malformed => malformed_more(t),
     }
 }
 
@@ -67,13 +52,11 @@ fn show(t: Tally, line: &[u8], c: Compared) {
         Compared::Stored => {}
         Compared::Same => {}
         Compared::Differs => {
-            print(b"differs: ");
-            print(line);
+            print(&PROGRAM, b"differs: ");
+            print(&PROGRAM, line);
         }
         Compared::Malformed => {
-            print(b"malformed line after ");
-            print_number(t.compared);
-            print(b" compared\n");
+            print_malformed(&PROGRAM, t);
         }
     }
 }

@@ -1,2 +1,3 @@
 -- What the contracts of the shared parts of a replay cite.
 pub mod Lines
+pub mod Tally

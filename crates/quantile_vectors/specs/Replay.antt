@@ -1,16 +1,17 @@
 -- A stored line against f_erfcinv, and the tally of many lines.
 -- Assumes nothing.
 use Prim.Native.Nat.{ℕ}
-use mathlib.Core.Bool.{cond}
+use mathlib.Core.Bool.{true, false, cond}
 use mathlib.Core.List.{List, [], _∷_, _++_}
 use lib.Dec.{eqb}
 use lib.ListN.{length, getD}
 use Rattle.hex.specs.Hex.{hexDigits, readHex}
-use Rattle.lines.specs.Lines.{fieldOf, afterField, oneMore, replayOf}
+use Rattle.lines.specs.Lines.{fieldOf, afterField, replayOf}
+use Rattle.lines.specs.Tally.{comparedMore, malformedMore}
+use Rattle.lines.specs.declared.tally.Tally.{Tally}
 use Rattle.pxfm.specs.Inverfc.{fErfcinvBits}
 use Rattle.quantile_vectors.specs.declared.line.Compared.{Compared}
 use Rattle.quantile_vectors.specs.declared.line.Compared.the-variants as C
-use Rattle.quantile_vectors.specs.declared.tally.Tally.{Tally}
 
 -- the quantile at x against the result that is expected
 unfoldable pub comparedAt : ℕ → ℕ → Compared
@@ -35,9 +36,9 @@ comparedLine s =
 
 -- a tally with one line more
 unfoldable pub counted : Tally → Compared → Tally
-counted t C.Same = record { compared = oneMore (t .compared); differ = t .differ; malformed = t .malformed }
-counted t (C.Differs x e g) = record { compared = oneMore (t .compared); differ = oneMore (t .differ); malformed = t .malformed }
-counted t C.Malformed = record { compared = t .compared; differ = t .differ; malformed = oneMore (t .malformed) }
+counted t C.Same = comparedMore t true
+counted t (C.Differs x e g) = comparedMore t false
+counted t C.Malformed = malformedMore t
 
 -- the same from the line's bytes
 abbrev pub stepped : List ℕ → Tally → Tally

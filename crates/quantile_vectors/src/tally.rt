@@ -1,20 +1,17 @@
-// How many lines were compared, how many differ, how many are malformed.
-// A line that differs or is malformed is written out as it is met.
+// The tally of the lines. A line that differs or is malformed is written out as it is met.
+// Lines have one length, so a chunk holds whole ones, but for the last.
 ghost use mathlib.Core.Path.{_≡_};
 ghost use Rattle.quantile_vectors.specs.Replay.{counted, tallied};
+use crate::PROGRAM;
 use crate::line::Compared;
 use crate::line::compare;
 use crate::line::difference;
-use crate::report::print;
-use crate::report::print_number;
+use lines::Tally;
+use lines::compared_more;
 use lines::line_end;
-use lines::one_more;
-
-pub(crate) struct Tally {
-    pub(crate) compared: u64,
-    pub(crate) differ: u64,
-    pub(crate) malformed: u64,
-}
+use lines::malformed_more;
+use lines::print;
+use lines::print_malformed;
 
 // The lines of a chunk, one after another; the last may be cut short, and is malformed then.
 pub(crate) fn tally_chunk(chunk: &[u8], t: Tally) -> Tally
@@ -33,29 +30,17 @@ pub(crate) fn tally_chunk(chunk: &[u8], t: Tally) -> Tally
 }
 
 // A tally with one line more.
-pub(crate) fn count(t: Tally, c: Compared) -> Tally
+fn count(t: Tally, c: Compared) -> Tally
     ensures { λ r. ⌜ r ≡ counted t c ⌝ }
 {
     match c {
-        Compared::Same => Tally {
-            compared: one_more(t.compared),
-            differ: t.differ,
-            malformed: t.malformed,
-        },
+        Compared::Same => compared_more(t, true),
         Compared::Differs {
             x: _,
             expected: _,
             got: _,
-        } => Tally {
-            compared: one_more(t.compared),
-            differ: one_more(t.differ),
-            malformed: t.malformed,
-        },
-        Compared::Malformed => Tally {
-            compared: t.compared,
-            differ: t.differ,
-            malformed: one_more(t.malformed),
-        },
+        } => compared_more(t, false),
+        Compared::Malformed => malformed_more(t),
     }
 }
 
@@ -64,12 +49,10 @@ fn show(t: Tally, c: Compared) {
     match c {
         Compared::Same => {}
         Compared::Differs { x, expected, got } => {
-            print(&difference(x, expected, got));
+            print(&PROGRAM, &difference(x, expected, got));
         }
         Compared::Malformed => {
-            print(b"malformed line after ");
-            print_number(t.compared);
-            print(b" compared\n");
+            print_malformed(&PROGRAM, t);
         }
     }
 }

@@ -1,4 +1,4 @@
--- A stored true value against f_erfcinv, and the tally of many.
+-- A stored true value against f_erfcinv, and the groups of many.
 -- Assumes nothing.
 use Prim.Native.Nat.{ℕ, _+_, _-_, _*_, _/_, _^_, max}
 use mathlib.Core.Bool.{cond}
@@ -11,7 +11,7 @@ use Rattle.pxfm.specs.Inverfc.{fErfcinvBits}
 use Rattle.series_vectors.specs.declared.line.Measured.{Measured}
 use Rattle.series_vectors.specs.declared.line.Measured.the-variants as M
 use Rattle.series_vectors.specs.declared.group.Group.{Group}
-use Rattle.series_vectors.specs.declared.tally.Tally.{Tally}
+use Rattle.series_vectors.specs.declared.tally.Groups.{Groups}
 
 -- ---- distances, 2^32 to a unit of the last place
 
@@ -76,7 +76,7 @@ abbrev pub emptyGroup : ℕ → Group
 emptyGroup bound = record { count = 0; nearest = 0; greatest = 0; at = 0; bound = bound; beyond = 0 }
 
 -- no line yet: 0.53 units for the chances and for every x from 1.4e-11 up, 1.1 from 1e-20 up, and none below
-abbrev pub noLines : Tally
+abbrev pub noLines : Groups
 noLines =
     record {
       chances = emptyGroup 5300;
@@ -98,13 +98,13 @@ grouped g x distance =
       beyond = cond (ltb (g .bound) (tenThousandths distance)) (oneMore (g .beyond)) (g .beyond);
     }
 
--- a tally with one malformed line more
-unfoldable pub malformedOne : Tally → Tally
+-- the groups with one malformed line more
+unfoldable pub malformedOne : Groups → Groups
 malformedOne t =
     record { chances = t .chances; others = t .others; small = t .small; far = t .far; malformed = oneMore (t .malformed) }
 
--- a tally with one distance more, in the group of its letter: c, o, s or f
-unfoldable pub countedAt : Tally → ℕ → ℕ → ℕ → Tally
+-- the groups with one distance more, in the group of its letter: c, o, s or f
+unfoldable pub countedAt : Groups → ℕ → ℕ → ℕ → Groups
 countedAt t letter x d =
     cond (eqb letter 99)
     (record { chances = grouped (t .chances) x d; others = t .others; small = t .small; far = t .far; malformed = t .malformed })
@@ -116,15 +116,15 @@ countedAt t letter x d =
     (record { chances = t .chances; others = t .others; small = t .small; far = grouped (t .far) x d; malformed = t .malformed })
     (malformedOne t))))
 
--- a tally with one line more
-unfoldable pub counted : Tally → Measured → Tally
+-- the groups with one line more
+unfoldable pub counted : Groups → Measured → Groups
 counted t (M.Distance letter x d) = countedAt t letter x d
 counted t M.Malformed = malformedOne t
 
 -- the same from the line's bytes
-abbrev pub stepped : List ℕ → Tally → Tally
+abbrev pub stepped : List ℕ → Groups → Groups
 stepped s t = counted t (measuredLine s)
 
--- a tally with all lines of some bytes more
-unfoldable pub tallied : List ℕ → Tally → Tally
+-- the groups with all lines of some bytes more
+unfoldable pub tallied : List ℕ → Groups → Groups
 tallied s t = replayOf 45 stepped s t

@@ -10,14 +10,14 @@ use crate::distance::ten_thousandths;
 use lines::one_more;
 
 pub(crate) struct Group {
-    pub(crate) count: u64,
+    pub count: u64,
     // how many results are within half a unit, and so the nearest double
-    pub(crate) nearest: u64,
-    pub(crate) greatest: u64,
+    pub nearest: u64,
+    pub greatest: u64,
     // the bits of x at the greatest distance
-    pub(crate) at: u64,
-    pub(crate) bound: u64,
-    pub(crate) beyond: u64,
+    pub at: u64,
+    pub bound: u64,
+    pub beyond: u64,
 }
 
 impl Group {

@@ -10,17 +10,16 @@ ghost use mathlib.Core.Path.{_≡_};
 ghost use lib.ListN.{length};
 ghost use Rattle.series_vectors.specs.Series.{noLines};
 use group::Group;
-use line::Measured;
 use report::print;
 use report::print_group;
 use report::print_number;
-use tally::Tally;
-use tally::count;
+use tally::Groups;
+use tally::one_malformed;
 use tally::tally_chunk;
 
 // What one read leads to: the tally, and whether more may come.
 struct Turn {
-    tally: Tally,
+    tally: Groups,
     more: bool,
 }
 
@@ -38,7 +37,7 @@ fn main() {
 
 // Reads to the end of the input. A proved loop has to end, and nothing says that an input does:
 // the turns count down from a number that no run uses up.
-fn replay() -> Tally {
+fn replay() -> Groups {
     let mut turn = Turn {
         tally: start(),
         more: true,
@@ -53,10 +52,10 @@ fn replay() -> Tally {
 }
 
 // No line yet. The bounds are in ten-thousandths of a unit of the last place.
-fn start() -> Tally
+fn start() -> Groups
     ensures { λ r. ⌜ r ≡ noLines ⌝ }
 {
-    Tally {
+    Groups {
         chances: Group::within(5300),
         others: Group::within(5300),
         small: Group::within(11000),
@@ -66,7 +65,7 @@ fn start() -> Tally
 }
 
 // Reads as many lines as the buffer holds, all but the last time.
-fn replay_some(t: Tally) -> Turn {
+fn replay_some(t: Groups) -> Turn {
     let mut buf = lines_buffer();
     let n = io::read_full(0, &mut buf);
     let tally = tally_chunk(&buf[..n], t);
@@ -84,19 +83,15 @@ fn lines_buffer() -> [u8; 4050]
 }
 
 // What cannot be read counts as a malformed line.
-fn finished(t: Tally) -> Tally {
-    if lines::input_ended() {
+fn finished(t: Groups) -> Groups {
+    if lines::read_to_end(b"series_vectors") {
         return t;
     }
-    io::write_all(
-        2,
-        b"series_vectors: standard input cannot be read to its end\n",
-    );
-    count(t, Measured::Malformed)
+    one_malformed(t)
 }
 
 // The groups, and the last line of the output.
-fn verdict(t: Tally) {
+fn verdict(t: Groups) {
     let chances = t.chances;
     let others = t.others;
     let small = t.small;

@@ -1,5 +1,5 @@
-// Text for people: numbers, distances, and the line of a group.
-// What cannot be written is said on standard error.
+// Text for people: the line of a group, distances, numbers.
+// What cannot be written is said on standard error, with this program's name.
 use crate::distance::ten_thousandths;
 use crate::group::Group;
 
@@ -40,15 +40,10 @@ pub(crate) fn print_units(n: u64) {
 
 // A number in decimal.
 pub(crate) fn print_number(n: u64) {
-    let d = hex::decimal_of(n);
-    let digits = d.digits;
-    let count = d.count;
-    print(&digits[..count]);
+    lines::print_number(b"series_vectors", n);
 }
 
-// Writes a text to standard output, or says that it cannot.
+// A text.
 pub(crate) fn print(text: &[u8]) {
-    if !io::write_all(1, text) {
-        io::write_all(2, b"series_vectors: standard output cannot be written\n");
-    }
+    lines::print(b"series_vectors", text);
 }

@@ -12,16 +12,16 @@ use crate::report::print_units;
 use lines::line_end;
 use lines::one_more;
 
-pub(crate) struct Tally {
-    pub(crate) chances: Group,
-    pub(crate) others: Group,
-    pub(crate) small: Group,
-    pub(crate) far: Group,
-    pub(crate) malformed: u64,
+pub(crate) struct Groups {
+    pub chances: Group,
+    pub others: Group,
+    pub small: Group,
+    pub far: Group,
+    pub malformed: u64,
 }
 
 // The lines of a chunk, one after another; the last may be cut short, and is malformed then.
-pub(crate) fn tally_chunk(chunk: &[u8], t: Tally) -> Tally
+pub(crate) fn tally_chunk(chunk: &[u8], t: Groups) -> Groups
     ensures { λ r. ⌜ r ≡ tallied (now (chunk .entry)) t ⌝ }
 {
     let mut tally = t;
@@ -36,8 +36,8 @@ pub(crate) fn tally_chunk(chunk: &[u8], t: Tally) -> Tally
     tally
 }
 
-// A tally with one line more.
-pub(crate) fn count(t: Tally, m: Measured) -> Tally
+// The groups with one line more.
+fn count(t: Groups, m: Measured) -> Groups
     ensures { λ r. ⌜ r ≡ counted t m ⌝ }
 {
     match m {
@@ -50,8 +50,8 @@ pub(crate) fn count(t: Tally, m: Measured) -> Tally
     }
 }
 
-// A tally with one distance more, in the group of its letter.
-fn count_at(t: Tally, letter: u8, x: u64, distance: u64) -> Tally
+// The groups with one distance more, in the group of its letter.
+fn count_at(t: Groups, letter: u8, x: u64, distance: u64) -> Groups
     ensures { λ r. ⌜ r ≡ countedAt t letter x distance ⌝ }
 {
     let mut r = t;
@@ -74,8 +74,8 @@ fn count_at(t: Tally, letter: u8, x: u64, distance: u64) -> Tally
     one_malformed(t)
 }
 
-// A tally with one malformed line more.
-fn one_malformed(t: Tally) -> Tally
+// The groups with one malformed line more.
+pub(crate) fn one_malformed(t: Groups) -> Groups
     ensures { λ r. ⌜ r ≡ malformedOne t ⌝ }
 {
     let mut r = t;

@@ -10,15 +10,15 @@ returns c = rw (c .enum-told .given .1)
 
 returns-2 : tie.Need-returns-2
 unfolding counted
-returns-2 c = rw (c .before .enum-told2 .given .1, c .one-more .ensures)
+returns-2 c = rw (c .before .enum-told2 .given .1) (c .compared-more .ensures)
 
 returns-3 : tie.Need-returns-3
 unfolding counted
-returns-3 c = rw (c .before .before .enum-told3 .given .1, c .before .one-more2 .ensures, c .one-more3 .ensures)
+returns-3 c = rw (c .before .enum-told3 .given .1) (c .compared-more2 .ensures)
 
 returns-4 : tie.Need-returns-4
 unfolding counted
-returns-4 c = rw (c .before .enum-told4 .given .1, c .one-more4 .ensures)
+returns-4 c = rw (c .before .enum-told4 .given .1) (c .malformed-more .ensures)
 
 pub count-spec : {M : Type 1} → statement M
 count-spec =
@@ -28,7 +28,6 @@ count-spec =
     (λ c. search needs)
     (λ c κs. search needs)
     (λ c. search needs)
-    (λ c κs. search needs)
     (λ c κs. search needs)
     (λ c. search needs)
     (λ c κs. search needs)
