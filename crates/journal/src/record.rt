@@ -168,7 +168,7 @@ fn limits_part(b: &[u8], at: usize, head: Head, chances: usize, n: u64, sums: Su
 {
     let form = head.form;
     let day = head.day;
-    let flat = all_equal(sums);
+    let flat = flat_by(sums);
     let times = sums.count;
     let x = limit_section_at(b, at, n, chances, sums);
     match x {
@@ -185,7 +185,7 @@ fn limits_part(b: &[u8], at: usize, head: Head, chances: usize, n: u64, sums: Su
 }
 
 // Whether times with these sums are all equal: exactly then document 01's D is 0.
-fn all_equal(s: Sums) -> bool
+fn flat_by(s: Sums) -> bool
     requires { ⌜ isPlausible s ≡ true ⌝ }
     ensures { λ r. ⌜ r ≡ eqb (s .count * s .squares) (s .sum * s .sum) ⌝ }
 {

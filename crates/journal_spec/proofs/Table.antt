@@ -1,11 +1,11 @@
 -- Every refusal is a number of document 01's table: scan's are 1 to 8 and an append declines by 3 to 9, whatever the bytes and the offer.
 -- Assumes nothing.
-use mathlib.Core.Path.{_≡_, refl, sym, _∙_}
+use mathlib.Core.Path.{_≡_, refl, sym, ap, _∙_}
 use Prim.Native.Nat.{ℕ, zero, suc, _+_, _-_, _≤_, min}
 use mathlib.Core.List.{List, [], _∷_, _++_}
 use mathlib.Core.Bool.{Bool, true, false, cond}
 use native.Mathlib.Omega.{arith}
-use lib.ListN.{length, take, drop, getD}
+use lib.ListN.{length, take, drop, getD, length-drop}
 use lib.Dec.{leb}
 use Rattle.limit.specs.Answer.{LimitResult, limited, refused}
 use Rattle.limit.specs.Limit.{limitOf}
@@ -20,7 +20,7 @@ use Rattle.journal_spec.specs.Scan as S
 use Rattle.journal_spec.specs.Append.{Offer, declined, judgeWorked, limitsRefusal, judgeRoom, offerRefusal, appendRefusal, unchanged, extend}
 use Rattle.journal_spec.specs.Append.{settle, appendTo, appendUpto}
 use Rattle.journal_spec.specs.Model.{nameGood, chancesGood, timesGood}
-use Rattle.journal_spec.proofs.Reading.{field-cases}
+use Rattle.journal_spec.proofs.Reading.{field-cases, run-left}
 use Rattle.journal_spec.proofs.Scanning.{turn-short, turn-fault, turn-found}
 use Rattle.journal_spec.proofs.Refused.{standing-not-damaged}
 use Rattle.journal_spec.proofs.Offers.{name-refused, chance-refused, time-refused}
@@ -103,26 +103,49 @@ record-faults last = (
 
 -- ---- scan's
 
-by-found : (more : ℕ) (ps : List Placed) (at : ℕ) (bs : List ℕ) (n p : ℕ)
-    → ((qs : List Placed) (e : ℕ) (rest : List ℕ) (m q : ℕ) → contentsFrom more qs e rest ≡ faulty m q → OfRecord m)
-    → (f : Found Record) → run (recordReader (lastOf (recordsOf ps))) at bs ≡ f → contentsFrom (suc more) ps at bs ≡ faulty n p → OfRecord n
-by-found more ps at bs n p later (found r e rest) ran h =
-    let z : suc more - 1 ≡ more = omega arith in
-    later _ e rest n p (rw z at (sym (turn-found (suc more) ps at bs r e rest ran (omega arith)) ∙ h))
-by-found more ps at bs n p later (fault m q) ran h =
-    let e : faulty m q ≡ faulty n p = sym (turn-fault (suc more) ps at bs m q ran (omega arith)) ∙ h in
-    let same : m ≡ n = cc in
-    rw same at (fault-known OfRecord (recordReader (lastOf (recordsOf ps))) (record-faults (lastOf (recordsOf ps))) at bs m q ran)
-by-found more ps at bs n p later short ran h =
-    let e : standing ps at ≡ faulty n p = sym (turn-short (suc more) ps at bs ran) ∙ h in
-    let z : _≡_ {A = ℕ} 0 1 = cc in
-    absurd (omega arith)
+-- a fault that the scan finds is that of a record's reader, somewhere in the bytes
+pub record RecordFault (at : ℕ) (bs : List ℕ) (n p : ℕ) : Type 0 where
+  pub last : Last
+  pub start : ℕ
+  pub rest : List ℕ
+  pub ran : run (recordReader last) start rest ≡ fault n p
+  pub inside : start + length rest ≤ at + length bs
+
+-- one turn of the scan, by what the record's reader finds
+module _ (more n p : ℕ) (later : (qs : List Placed) (e : ℕ) (rest : List ℕ) → contentsFrom more qs e rest ≡ faulty n p → RecordFault e rest n p)
+    (ps : List Placed) (at : ℕ) (bs : List ℕ) (h : contentsFrom (suc more) ps at bs ≡ faulty n p) where
+  by-found : (f : Found Record) → run (recordReader (lastOf (recordsOf ps))) at bs ≡ f → RecordFault at bs n p
+  by-found (found r e rest) ran =
+      let l = run-left (recordReader (lastOf (recordsOf ps))) at bs r e rest ran in
+      let z : suc more - 1 ≡ more = omega arith in
+      let next = later _ e rest (rw z at (sym (turn-found (suc more) ps at bs r e rest ran (omega arith)) ∙ h)) in
+      let size : length rest ≡ length bs - (e - at) = ap length (l .same) ∙ length-drop (e - at) bs in
+      record {
+        last = next .last;
+        start = next .start;
+        rest = next .rest;
+        ran = next .ran;
+        inside = omega (arith, next .inside, l .later, l .there, size);
+      }
+  by-found (fault m q) ran =
+      let e : faulty m q ≡ faulty n p = sym (turn-fault (suc more) ps at bs m q ran (omega arith)) ∙ h in
+      let number : m ≡ n = cc in
+      let place : q ≡ p = cc in
+      rw (← number, ← place) (record { last = lastOf (recordsOf ps); start = at; rest = bs; ran = ran; inside = omega arith })
+  by-found short ran =
+      let e : standing ps at ≡ faulty n p = sym (turn-short (suc more) ps at bs ran) ∙ h in
+      let z : _≡_ {A = ℕ} 0 1 = cc in
+      absurd (omega arith)
+
+pub contents-fault : (more : ℕ) (ps : List Placed) (at : ℕ) (bs : List ℕ) (n p : ℕ) → contentsFrom more ps at bs ≡ faulty n p → RecordFault at bs n p
+contents-fault zero ps at bs n p h = unfold contentsFrom in let z : _≡_ {A = ℕ} 0 1 = cc in absurd (omega arith)
+contents-fault (suc more) ps at bs n p h =
+    by-found more n p (λ qs e rest. contents-fault more qs e rest n p) ps at bs h (run (recordReader (lastOf (recordsOf ps))) at bs) refl
 
 contents-number : (more : ℕ) (ps : List Placed) (at : ℕ) (bs : List ℕ) (n p : ℕ) → contentsFrom more ps at bs ≡ faulty n p → OfRecord n
-unfolding contentsFrom
-contents-number zero ps at bs n p h = let z : _≡_ {A = ℕ} 0 1 = cc in absurd (omega arith)
-contents-number (suc more) ps at bs n p h =
-    by-found more ps at bs n p (contents-number more) (run (recordReader (lastOf (recordsOf ps))) at bs) refl h
+contents-number more ps at bs n p h =
+    let f = contents-fault more ps at bs n p h in
+    fault-known OfRecord (recordReader (f .last)) (record-faults (f .last)) (f .start) (f .rest) n p (f .ran)
 
 -- document 01's numbers of a damaged journal: 1 to 8
 pub scan-number : (slice : List ℕ) (len n p : ℕ) → scanOf slice len ≡ S.damaged n p → (1 ≤ n) × (n ≤ 8)

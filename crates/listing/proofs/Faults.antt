@@ -2,8 +2,8 @@
 -- are at most 65,536.
 -- Assumes nothing.
 use mathlib.Core.Path.{_≡_, refl, sym, ap, _∙_}
-use Prim.Native.Nat.{ℕ, zero, suc, _+_, _-_, _^_, _≤_, _<_, min}
-use mathlib.Core.List.{List, [], _∷_, _++_}
+use Prim.Native.Nat.{ℕ, suc, _+_, _≤_, min}
+use mathlib.Core.List.{List, []}
 use mathlib.Core.Bool.{Bool, true, false, cond}
 use native.Mathlib.Omega.{arith}
 use lib.ListN.{length, take, drop, length-drop, length-append}
@@ -11,12 +11,12 @@ use lib.Seq.{take-length}
 use lib.Dec.{leb, eqb}
 use borrow.Author.Tests.{leb-true, leb-false}
 use Rattle.journal_spec.specs.Bytes.{valueOf, AreBytes}
-use Rattle.journal_spec.specs.Reader.{Reader, done, field, Found, found, fault, short, run}
-use Rattle.journal_spec.specs.Record.{Record, lastOf, recordReader, recordsBytes}
-use Rattle.journal_spec.specs.Scan.{maxLength, Placed, recordsOf, Contents, standing, faulty, contentsFrom, contentsOf, whole, torn, statusOf, scanOf}
-use Rattle.journal_spec.proofs.Reading.{field-cases, run-left}
-use Rattle.journal_spec.proofs.Scanning.{records-count, length-placed, turn-found, turn-fault, turn-short, contents-fits, contents-long}
-use Rattle.journal_spec.proofs.Table.{scan-number}
+use Rattle.journal_spec.specs.Reader.{Reader, done, field, fault, run}
+use Rattle.journal_spec.specs.Record.{recordReader, recordsBytes}
+use Rattle.journal_spec.specs.Scan.{maxLength, Placed, Contents, standing, faulty, contentsOf, whole, torn, statusOf, scanOf}
+use Rattle.journal_spec.proofs.Reading.{field-cases}
+use Rattle.journal_spec.proofs.Scanning.{records-count, length-placed, contents-fits, contents-long}
+use Rattle.journal_spec.proofs.Table.{contents-fault, scan-number}
 use Rattle.journal_spec.proofs.Explained.{holding}
 use Rattle.listing.proofs.Longest.{Numbered}
 
@@ -31,32 +31,6 @@ fault-place (field w refusal next) at bs n p e =
     (λ enough good x.
     omega (arith, fault-place (next (valueOf (take w bs))) (at + w) (drop w bs) n p x, length-drop w bs))
     e
-
--- one turn of the scan, by what the record's reader finds
-module _ (more n p : ℕ) (later : (ps : List Placed) (at : ℕ) (bs : List ℕ) → contentsFrom more ps at bs ≡ faulty n p → p ≤ at + length bs)
-    (ps : List Placed) (at : ℕ) (bs : List ℕ) (h : contentsFrom (suc more) ps at bs ≡ faulty n p) where
-  one-turn : (f : Found Record) → run (recordReader (lastOf (recordsOf ps))) at bs ≡ f → p ≤ at + length bs
-  one-turn (found r e rest) ran =
-      let l = run-left (recordReader (lastOf (recordsOf ps))) at bs r e rest ran in
-      let z : suc more - 1 ≡ more = omega arith in
-      let turned = sym (turn-found (suc more) ps at bs r e rest ran (omega arith)) ∙ h in
-      let next = later (ps ++ record { content = r; start = at; size = e - at } ∷ []) e rest (rw z at turned) in
-      let size : length rest ≡ length bs - (e - at) = ap length (l .same) ∙ length-drop (e - at) bs in
-      omega (arith, next, l .later, l .there, size)
-  one-turn (fault m q) ran =
-      let same : faulty m q ≡ faulty n p = sym (turn-fault (suc more) ps at bs m q ran (omega arith)) ∙ h in
-      let place : q ≡ p = cc in
-      rw (← place) (fault-place (recordReader (lastOf (recordsOf ps))) at bs m q ran)
-  one-turn short ran =
-      let same : standing ps at ≡ faulty n p = sym (turn-short (suc more) ps at bs ran) ∙ h in
-      let z : _≡_ {A = ℕ} 0 1 = cc in
-      absurd (omega arith)
-
--- the place of a fault that the scan finds
-scan-place : (more : ℕ) (ps : List Placed) (at : ℕ) (bs : List ℕ) (n p : ℕ) → contentsFrom more ps at bs ≡ faulty n p → p ≤ at + length bs
-scan-place zero ps at bs n p h = unfold contentsFrom in let z : _≡_ {A = ℕ} 0 1 = cc in absurd (omega arith)
-scan-place (suc more) ps at bs n p h =
-    one-turn more n p (λ qs e rest. scan-place more qs e rest n p) ps at bs h (run (recordReader (lastOf (recordsOf ps))) at bs) refl
 
 -- the end state's numbers have few digits
 pub scan-numbered : (b : List ℕ) → AreBytes b → Numbered (scanOf b (length b))
@@ -83,9 +57,10 @@ scan-numbered b bytes = go (contentsOf b (length b)) refl
         omega arith
     inside true n p t e =
         let fits = leb-true (length b) (min (length b) maxLength) t in
-        let place = scan-place (length b) [] 0 (take (length b) b) n p (sym (contents-fits b (length b) (omega arith) (omega arith)) ∙ e) in
+        let f = contents-fault (length b) [] 0 (take (length b) b) n p (sym (contents-fits b (length b) (omega arith) (omega arith)) ∙ e) in
+        let place = fault-place (recordReader (f .last)) (f .start) (f .rest) n p (f .ran) in
         let size : length (take (length b) b) ≡ length b = ap length (take-length b) in
-        omega (arith, place, size)
+        omega (arith, place, f .inside, size)
 
     go : (c : Contents) → contentsOf b (length b) ≡ c → Numbered (statusOf (length b) (contentsOf b (length b)))
     go (standing ps committed) e = let k = stands ps committed e in rw e (one-of (eqb committed (length b)) (length ps) committed (k .0) (k .1))

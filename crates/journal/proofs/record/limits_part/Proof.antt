@@ -10,7 +10,7 @@ returns : tie.Need-returns
 returns c = λ name list times stand good total.
     let read = c .before .before .before in
     let a = read .before .before .before .args in
-    rw (read .before .all-equal .ensures)
+    rw (read .before .flat-by .ensures)
     (limits-part-read (now (a .b)) (a .chances) (a .n) (a .sums) list times stand good total (a .at) (a .head .form) (a .head .day) name
     (read .limit-section-at .result) (read .limit-section-at .ensures) (c .before .x .given .0 .0) (c .before .x .given .1))
 

@@ -1,11 +1,11 @@
--- `all_equal` multiplies sums that are plausible, so that both products fit a u64.
+-- `flat_by` multiplies sums that are plausible, so that both products fit a u64.
 -- Assumes nothing.
 use native.Mathlib.Omega.{arith}
 use borrow.Author.Needs.{needs}
 use Rattle.limit.proofs.Plausible.{plausible-facts}
 use Rattle.limit.proofs.Scatter.{sum-square-small, squares-product-small}
-use Rattle.journal.proofs.record.all_equal.Statement.{statement}
-use Rattle.journal.proofs.record.all_equal.Tie as tie
+use Rattle.journal.proofs.record.flat_by.Statement.{statement}
+use Rattle.journal.proofs.record.flat_by.Tie as tie
 
 mul-result : tie.Need-mul-result
 mul-result c =
@@ -19,5 +19,5 @@ mul-result-2 c =
     let p = plausible-facts s (c .pre) in
     omega (arith, sum-square-small (s .count) (s .sum) (s .squares) (p .countHigh) (p .sumHigh) (p .squaresHigh))
 
-pub all-equal-spec : {M : Type 1} → statement M
-all-equal-spec = tie.close (tie.spec mul-result mul-result-2 (λ c. search needs))
+pub flat-by-spec : {M : Type 1} → statement M
+flat-by-spec = tie.close (tie.spec mul-result mul-result-2 (λ c. search needs))
