@@ -14,9 +14,11 @@ use Rattle.journal.specs.declared.Status.the-variants as S
 use Rattle.journal.specs.declared.Part.{Part}
 use Rattle.journal.specs.declared.Marked.{Marked}
 use Rattle.journal.specs.declared.Marked.the-variants as M
+use Rattle.journal.specs.declared.marks.Mark.{Mark}
+use Rattle.journal.specs.declared.marks.Mark.the-variants as K
 use Rattle.journal.specs.declared.Appended.{Appended}
 use Rattle.journal.specs.declared.Appended.the-variants as A
-use Rattle.journal.specs.Answers.{meaning, partMeaning, markMeaning, appendMeaning, outcomeOf}
+use Rattle.journal.specs.Answers.{meaning, partMeaning, asMark, markMeaning, appendMeaning, outcomeOf}
 
 statusOf : ScanResult → Status
 statusOf (whole n c) = S.Whole n c
@@ -38,20 +40,23 @@ partOf p = record { start = p .start; size = p .size }
 pub part-meaning-injective : (a b : Part) → partMeaning a ≡ partMeaning b → a ≡ b
 part-meaning-injective = injective-by partMeaning partOf (λ p. unfold partMeaning partOf in refl)
 
+ofMark : Read.Mark → Mark
+ofMark flat = K.Flat
+ofMark few = K.Few
+ofMark normal = K.Normal
+
 markedOf : MarkResult → Marked
-markedOf (marked flat) = M.Flat
-markedOf (marked few) = M.Few
-markedOf (marked normal) = M.Normal
+markedOf (marked m) = M.As (ofMark m)
 markedOf (unmarked n) = M.Refused n
 
 pub mark-meaning-injective : (a b : Marked) → markMeaning a ≡ markMeaning b → a ≡ b
-unfolding markMeaning markedOf
+unfolding markMeaning asMark markedOf ofMark
 mark-meaning-injective = injective-by markMeaning markedOf back
   where
     back : (m : Marked) → markedOf (markMeaning m) ≡ m
-    back M.Flat = refl
-    back M.Few = refl
-    back M.Normal = refl
+    back (M.As K.Flat) = refl
+    back (M.As K.Few) = refl
+    back (M.As K.Normal) = refl
     back (M.Refused n) = refl
 
 appendedOf : AppendResult → Appended
