@@ -9,24 +9,27 @@ use Rattle.hex.specs.Hex.{readHex}
 use Rattle.lines.specs.Lines.{fieldOf}
 use Rattle.lines.specs.declared.field.Field.{Field}
 use Rattle.lines.specs.declared.field.Field.the-variants as F
-use Rattle.journal_history.specs.declared.line.Parsed.{Parsed}
-use Rattle.journal_history.specs.declared.line.Parsed.the-variants as P
+use Rattle.journal_history.specs.declared.line.Line.{Line}
 
--- a number goes on, none makes the line malformed
-unfoldable pub afterField : Field → (ℕ → Parsed) → Parsed
+-- what stands for a line of another form: no line has the letter 0
+unfoldable pub noLine : Line
+noLine = record { letter = 0; x = 0; y = 0; z = 0 }
+
+-- a number goes on, none makes it no line
+unfoldable pub afterField : Field → (ℕ → Line) → Line
 afterField (F.Value n) next = next n
-afterField F.Nothing next = P.Malformed
+afterField F.Nothing next = noLine
 
 -- the three numbers behind a letter, 16 digits each
-unfoldable pub parsedNumbers : List ℕ → ℕ → Parsed
+unfoldable pub parsedNumbers : List ℕ → ℕ → Line
 parsedNumbers s letter =
     afterField (fieldOf (readHex s 2 16)) (λ x.
     afterField (fieldOf (readHex s 19 16)) (λ y.
-    afterField (fieldOf (readHex s 36 16)) (λ z. P.Numbers (record { letter = letter; x = x; y = y; z = z }))))
+    afterField (fieldOf (readHex s 36 16)) (λ z. record { letter = letter; x = x; y = y; z = z })))
 
 -- a line: 53 bytes, the last one a line end
-unfoldable pub parsedLine : List ℕ → Parsed
+unfoldable pub parsedLine : List ℕ → Line
 parsedLine s =
     cond (eqb (length s) 53)
-    (cond (eqb (getD s 52 0) 10) (parsedNumbers s (getD s 0 0)) P.Malformed)
-    P.Malformed
+    (cond (eqb (getD s 52 0) 10) (parsedNumbers s (getD s 0 0)) noLine)
+    noLine

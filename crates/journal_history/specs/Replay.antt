@@ -11,8 +11,6 @@ use Rattle.journal_history.specs.State.{started, countsSet, lengthSet, a
 use Rattle.journal_history.specs.Store.{filled, bytesStored, repeated, numberStored, sameBytes}
 use Rattle.journal_history.specs.Call.{Called, appendCalled, appendUptoCalled}
 use Rattle.journal_history.specs.declared.line.Line.{Line}
-use Rattle.journal_history.specs.declared.line.Parsed.{Parsed}
-use Rattle.journal_history.specs.declared.line.Parsed.the-variants as P
 use Rattle.journal_history.specs.declared.state.State.{State}
 
 -- ---- what a line that stores something makes of each part, by its letter
@@ -38,7 +36,7 @@ numbersBy l letter v = cond (eqb (l .letter) letter) (numberStored l v) v
 unfoldable pub storing : ℕ → Bool
 storing letter = eqb letter 119 || (eqb letter 120 || (eqb letter 114 || (eqb letter 110 || (eqb letter 99 || eqb letter 116))))
 
--- the state: z, k and l change it, and a letter of no kind makes the line malformed
+-- the state: z, k and l change it, and a letter of no kind, noLine's too, makes the line malformed
 unfoldable pub stateBy : Line → State → State
 stateBy l s =
     cond (eqb (l .letter) 122) (started s l)
@@ -82,18 +80,13 @@ stored l w = record {
 }
 
 -- after a line's letter and numbers: a is the call with a budget, A append, e a comparison
-unfoldable pub steppedNumbers : Line → World → World
-steppedNumbers l w =
+unfoldable pub steppedBy : Line → World → World
+steppedBy l w =
     cond (eqb (l .letter) 97) (afterCall w (appendUptoCalled (w .state) l (w .slice) (w .name) (w .chances) (w .times)))
     (cond (eqb (l .letter) 65) (afterCall w (appendCalled (w .state) l (w .slice) (w .name) (w .chances) (w .times)))
     (cond (eqb (l .letter) 101)
     (withState w (comparedOnce (w .state) (answeredWith (w .state) l && sameBytes (w .slice) (w .expected))) (w .slice))
     (stored l w)))
-
--- after a line, by what was read in it
-unfoldable pub steppedBy : Parsed → World → World
-steppedBy (P.Numbers l) w = steppedNumbers l w
-steppedBy P.Malformed w = withState w (malformedOnce (w .state)) (w .slice)
 
 -- after one line more
 unfoldable pub stepped : List ℕ → World → World

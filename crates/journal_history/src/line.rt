@@ -12,36 +12,39 @@ pub(crate) struct Line {
     pub z: u64,
 }
 
-pub(crate) enum Parsed {
-    Numbers(Line),
-    Malformed,
-}
+// What stands for a line of another form: no line has the letter 0.
+const NO_LINE: Line = Line {
+    letter: 0,
+    x: 0,
+    y: 0,
+    z: 0,
+};
 
 // The line's letter and numbers.
-pub(crate) fn parse(line: &[u8]) -> Parsed
+pub(crate) fn parse(line: &[u8]) -> Line
     ensures { λ r. ⌜ r ≡ parsedLine (now (line .entry)) ⌝ }
 {
     if line.len() != 53 {
-        return Parsed::Malformed;
+        return NO_LINE;
     }
     if line[52] != b'\n' {
-        return Parsed::Malformed;
+        return NO_LINE;
     }
     parse_numbers(line, line[0])
 }
 
 // The numbers behind a letter.
-fn parse_numbers(line: &[u8], letter: u8) -> Parsed
+fn parse_numbers(line: &[u8], letter: u8) -> Line
     ensures { λ r. ⌜ r ≡ parsedNumbers (now (line .entry)) letter ⌝ }
 {
     match number_at(line, 2, 16) {
         Field::Value(x) => match number_at(line, 19, 16) {
             Field::Value(y) => match number_at(line, 36, 16) {
-                Field::Value(z) => Parsed::Numbers(Line { letter, x, y, z }),
-                Field::Nothing => Parsed::Malformed,
+                Field::Value(z) => Line { letter, x, y, z },
+                Field::Nothing => NO_LINE,
             },
-            Field::Nothing => Parsed::Malformed,
+            Field::Nothing => NO_LINE,
         },
-        Field::Nothing => Parsed::Malformed,
+        Field::Nothing => NO_LINE,
     }
 }

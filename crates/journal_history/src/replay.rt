@@ -15,33 +15,29 @@ struct Turn {
     more: bool,
 }
 
-// The whole input, over buffers that start as zeros.
+// Reads to the end of the input, over buffers that start as zeros. A proved loop has to end, and nothing says that an input does:
+// the turns count down from a number that no run uses up.
 pub(crate) fn replay() -> State {
+    let mut turn = Turn {
+        state: nothing_yet(),
+        more: true,
+    };
     let mut v = bytes_buffer();
     let mut expected = bytes_buffer();
     let mut name = name_buffer();
     let mut chances = chances_buffer();
     let mut times = times_buffer();
-    replay_all(&mut v, &mut expected, &mut name, &mut chances, &mut times)
-}
-
-// Reads to the end of the input. A proved loop has to end, and nothing says that an input does:
-// the turns count down from a number that no run uses up.
-fn replay_all(
-    v: &mut [u8],
-    expected: &mut [u8],
-    name: &mut [u8],
-    chances: &mut [u32],
-    times: &mut [u32],
-) -> State {
-    let mut turn = Turn {
-        state: nothing_yet(),
-        more: true,
-    };
     let mut turns = u64::MAX;
     while turns > 0 && turn.more {
-        let state = turn.state;
-        turn = replay_some(state, v, expected, name, chances, times);
+        let s = turn.state;
+        turn = replay_some(
+            s,
+            &mut v,
+            &mut expected,
+            &mut name,
+            &mut chances,
+            &mut times,
+        );
         turns -= 1;
     }
     turn.state

@@ -1,16 +1,13 @@
 // A chunk of lines, one line after another: something stored, a call, or a comparison.
 // `v` is the slice's buffer, `expected` what it should hold.
 ghost use mathlib.Core.Path.{_≡_};
-ghost use Rattle.journal_history.specs.Replay.{worldOf, replayed, steppedBy, steppedNumbers};
+ghost use Rattle.journal_history.specs.Replay.{worldOf, replayed, steppedBy};
 use crate::call::append;
 use crate::call::append_upto;
 use crate::compare::compare;
 use crate::line::Line;
-use crate::line::Parsed;
 use crate::line::parse;
-use crate::report::print;
 use crate::state::State;
-use crate::state::malformed;
 use crate::stored::set_expected;
 use crate::stored::set_name;
 use crate::stored::set_numbers;
@@ -35,8 +32,8 @@ pub(crate) fn replay_chunk(
     let mut at = 0;
     while at < chunk.len() {
         let end = line_end(at, 53, chunk.len());
-        let parsed = parse(&chunk[at..end]);
-        state = replay_line(parsed, state, v, expected, name, chances, times);
+        let l = parse(&chunk[at..end]);
+        state = replay_line(l, state, v, expected, name, chances, times);
         at = end;
     }
     state
@@ -44,28 +41,6 @@ pub(crate) fn replay_chunk(
 
 // One line.
 fn replay_line(
-    parsed: Parsed,
-    s: State,
-    v: &mut [u8],
-    expected: &mut [u8],
-    name: &mut [u8],
-    chances: &mut [u32],
-    times: &mut [u32],
-) -> State
-    ensures { λ r. ⌜ worldOf r (now (v .exit)) (now (expected .exit)) (now (name .exit)) (now (chances .exit)) (now (times .exit))
-        ≡ steppedBy parsed (worldOf s (now (v .entry)) (now (expected .entry)) (now (name .entry)) (now (chances .entry)) (now (times .entry))) ⌝ }
-{
-    match parsed {
-        Parsed::Numbers(l) => replay_numbers(l, s, v, expected, name, chances, times),
-        Parsed::Malformed => {
-            print(b"malformed line\n");
-            malformed(s)
-        }
-    }
-}
-
-// One line with its letter and numbers.
-fn replay_numbers(
     l: Line,
     s: State,
     v: &mut [u8],
@@ -75,7 +50,7 @@ fn replay_numbers(
     times: &mut [u32],
 ) -> State
     ensures { λ r. ⌜ worldOf r (now (v .exit)) (now (expected .exit)) (now (name .exit)) (now (chances .exit)) (now (times .exit))
-        ≡ steppedNumbers l (worldOf s (now (v .entry)) (now (expected .entry)) (now (name .entry)) (now (chances .entry)) (now (times .entry))) ⌝ }
+        ≡ steppedBy l (worldOf s (now (v .entry)) (now (expected .entry)) (now (name .entry)) (now (chances .entry)) (now (times .entry))) ⌝ }
 {
     if l.letter == b'a' {
         return append_upto(s, l, v, name, chances, times);

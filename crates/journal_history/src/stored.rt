@@ -76,7 +76,7 @@ pub(crate) fn set_state(l: Line, s: State) -> State
     if stores(l.letter) {
         return s;
     }
-    print(b"unknown letter\n");
+    print(b"malformed line\n");
     malformed(s)
 }
 

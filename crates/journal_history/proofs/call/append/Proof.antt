@@ -57,8 +57,8 @@ returns-2 c =
     let called = c .before .before .before in
     let asked = called .before .before .before .before .before .before in
     let a = asked .before .before .before .before .before .before .before .args in
-    call-made (a .s) _ (now (a .v)) (asked .have-room .result) _ _ (asked .have-room .ensures) (called .append .result) _ (called .before .before .before .before .before .if1 .left)
-    (called .append .ensures) (c .answered-by .ensures)
+    call-made (a .s) _ (now (a .v)) (asked .have-room .result) _ _ (asked .have-room .ensures) (called .append .result) _
+    (called .before .before .before .before .before .if1 .left) (called .append .ensures) (c .answered-by .ensures)
 
 pub append-spec : {M : Type 1} → statement M
 append-spec =

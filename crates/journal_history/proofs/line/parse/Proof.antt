@@ -2,16 +2,16 @@
 use mathlib.Core.Path.{_∙_, sym}
 use borrow.Author.Tests.{eq-eqb, ne-eqb}
 use borrow.Author.Needs.{needs}
-use Rattle.journal_history.specs.Line.{parsedLine}
+use Rattle.journal_history.specs.Line.{noLine, parsedLine}
 use Rattle.journal_history.proofs.line.parse.Statement.{statement}
 use Rattle.journal_history.proofs.line.parse.Tie as tie
 
 returns : tie.Need-returns
-unfolding parsedLine
+unfolding parsedLine noLine
 returns c = rw (ne-eqb _ _ (c .if1 .taken))
 
 returns-2 : tie.Need-returns-2
-unfolding parsedLine
+unfolding parsedLine noLine
 returns-2 c = rw (eq-eqb _ _ (c .before .before .if1 .left), ne-eqb _ _ (c .if2 .taken))
 
 returns-3 : tie.Need-returns-3

@@ -1,6 +1,7 @@
 -- `parse_numbers` reads the three numbers one after another: one return where all stand, one for each that does not. Assumes nothing.
 use mathlib.Core.Path.{_∙_, sym}
 use borrow.Author.Needs.{needs}
+use Rattle.journal_history.specs.Line.{noLine}
 use Rattle.journal_history.proofs.Fields.{numbers-read, third-missing, second-missing, first-missing}
 use Rattle.journal_history.proofs.line.parse_numbers.Statement.{statement}
 use Rattle.journal_history.proofs.line.parse_numbers.Tie as tie
@@ -17,6 +18,7 @@ returns c =
     (sym (third .before .before .number-at3 .ensures) ∙ third .z .given .1)
 
 returns-2 : tie.Need-returns-2
+unfolding noLine
 returns-2 c =
     let second = c .before .before .before .before in
     let first = second .before .before .before .before in
@@ -27,6 +29,7 @@ returns-2 c =
     (sym (c .before .before .number-at3 .ensures) ∙ c .enum-told .given .1)
 
 returns-3 : tie.Need-returns-3
+unfolding noLine
 returns-3 c =
     let first = c .before .before .before .before in
     let a = first .before .before .before .before .args in
@@ -35,6 +38,7 @@ returns-3 c =
     (sym (c .before .before .number-at2 .ensures) ∙ c .enum-told2 .given .1)
 
 returns-4 : tie.Need-returns-4
+unfolding noLine
 returns-4 c =
     let a = c .before .before .before .before .args in
     first-missing (a .line .now) (a .letter) (sym (c .before .before .number-at .ensures) ∙ c .enum-told3 .given .1)

@@ -26,8 +26,8 @@ abbrev μ-loop : tie.MeasureT-loop
 
 loop-less : tie.Need-loop-less Inv-loop μ-loop
 loop-less c =
-    let ended = c .before .before .before .before .before .before .before .before .before .before .before .before .before .before .before .before .before .before in
-    omega (arith, ended .line-end .ensures)
+    let called = c .before .before .before .before .before .before .before .before .before .before in
+    omega (arith, called .before .before .before .before .before .before .before .before .line-end .ensures)
 
 loop-again : tie.Need-loop-again Inv-loop μ-loop
 loop-again c =
