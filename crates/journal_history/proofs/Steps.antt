@@ -12,7 +12,7 @@ use Rattle.journal_history.specs.Line.{parsedLine}
 use Rattle.journal_history.specs.State.{answeredWith, comparedOnce}
 use Rattle.journal_history.specs.Store.{sameBytes}
 use Rattle.journal_history.specs.Call.{appendCalled, appendUptoCalled}
-use Rattle.journal_history.specs.Replay.{World, worldOf, withState, afterCall, sliceBy, expectedBy, nameBy, numbersBy, stateBy}
+use Rattle.journal_history.specs.Replay.{Memory, memoryOf, withState, afterCall, sliceBy, expectedBy, nameBy, numbersBy, stateBy}
 use Rattle.journal_history.specs.Replay.{stored, steppedBy, stepped}
 use Rattle.journal_history.specs.declared.line.Line.{Line}
 use Rattle.journal_history.specs.declared.state.State.{State}
@@ -22,36 +22,36 @@ use Rattle.journal_history.specs.declared.state.State.{State}
 module _ (l : Line) (s x : State) (v v′ e n c t : List ℕ) where
   -- the call with a budget
   pub line-cut : l .letter ≡ 97 → (x ≡ appendUptoCalled s l v n c t .state) × (v′ ≡ appendUptoCalled s l v n c t .slice)
-      → worldOf x v′ e n c t ≡ steppedBy l (worldOf s v e n c t)
-  unfolding steppedBy afterCall withState worldOf
+      → memoryOf x v′ e n c t ≡ steppedBy l (memoryOf s v e n c t)
+  unfolding steppedBy afterCall withState memoryOf
   line-cut h made = rw (eq-eqb (l .letter) 97 h, made .0, made .1) refl
 
   -- append
   pub line-append : (l .letter ≡ 97 → ⊥) → l .letter ≡ 65
       → (x ≡ appendCalled s l v n c t .state) × (v′ ≡ appendCalled s l v n c t .slice)
-      → worldOf x v′ e n c t ≡ steppedBy l (worldOf s v e n c t)
-  unfolding steppedBy afterCall withState worldOf
+      → memoryOf x v′ e n c t ≡ steppedBy l (memoryOf s v e n c t)
+  unfolding steppedBy afterCall withState memoryOf
   line-append g h made = rw (ne-eqb (l .letter) 97 g, eq-eqb (l .letter) 65 h, made .0, made .1) refl
 
 -- a comparison
 pub line-compared : (l : Line) (s x : State) (v e n c t : List ℕ) → (l .letter ≡ 97 → ⊥) → (l .letter ≡ 65 → ⊥) → l .letter ≡ 101
-    → x ≡ comparedOnce s (answeredWith s l && sameBytes v e) → worldOf x v e n c t ≡ steppedBy l (worldOf s v e n c t)
-unfolding steppedBy withState worldOf
+    → x ≡ comparedOnce s (answeredWith s l && sameBytes v e) → memoryOf x v e n c t ≡ steppedBy l (memoryOf s v e n c t)
+unfolding steppedBy withState memoryOf
 line-compared l s x v e n c t f g h made =
     rw (ne-eqb (l .letter) 97 f, ne-eqb (l .letter) 65 g, eq-eqb (l .letter) 101 h, made) refl
 
 -- something stored
 pub line-stored : (l : Line) (s x : State) (v v′ e e′ n n′ c c′ t t′ : List ℕ) → (l .letter ≡ 97 → ⊥) → (l .letter ≡ 65 → ⊥)
     → (l .letter ≡ 101 → ⊥) → x ≡ stateBy l s → v′ ≡ sliceBy l v → e′ ≡ expectedBy l e → n′ ≡ nameBy l n → c′ ≡ numbersBy l 99 c
-    → t′ ≡ numbersBy l 116 t → worldOf x v′ e′ n′ c′ t′ ≡ steppedBy l (worldOf s v e n c t)
-unfolding steppedBy stored worldOf
+    → t′ ≡ numbersBy l 116 t → memoryOf x v′ e′ n′ c′ t′ ≡ steppedBy l (memoryOf s v e n c t)
+unfolding steppedBy stored memoryOf
 line-stored l s x v v′ e e′ n n′ c c′ t t′ f g h a b d i j k =
     rw (ne-eqb (l .letter) 97 f, ne-eqb (l .letter) 65 g, ne-eqb (l .letter) 101 h, a, b, d, i, j, k) refl
 
 -- ---- a chunk
 
 -- a turn's parts make the state and the buffers after its line
-pub line-replayed : (s : List ℕ) (start w w′ : World) (at end : ℕ) (l : Line) → at < length s → end ≡ lineEnd at 53 (length s)
+pub line-replayed : (s : List ℕ) (start w w′ : Memory) (at end : ℕ) (l : Line) → at < length s → end ≡ lineEnd at 53 (length s)
     → Replayed 53 stepped s start at w → l ≡ parsedLine (take (end - at) (drop at s)) → w′ ≡ steppedBy l w → Replayed 53 stepped s start end w′
 unfolding stepped
 line-replayed s start w w′ at end l h e r read made =

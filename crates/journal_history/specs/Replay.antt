@@ -46,8 +46,8 @@ stateBy l s =
 
 -- ---- one line after another
 
--- the state and the buffers
-pub record World : Type 0 where
+-- what the replay keeps: the state and the buffers
+pub record Memory : Type 0 where
   pub state : State
   pub slice : List ℕ
   pub expected : List ℕ
@@ -55,21 +55,21 @@ pub record World : Type 0 where
   pub chances : List ℕ
   pub times : List ℕ
 
--- both from a function's arguments
-unfoldable pub worldOf : State → List ℕ → List ℕ → List ℕ → List ℕ → List ℕ → World
-worldOf s v expected name chances times =
+-- the same from a function's arguments
+unfoldable pub memoryOf : State → List ℕ → List ℕ → List ℕ → List ℕ → List ℕ → Memory
+memoryOf s v expected name chances times =
     record { state = s; slice = v; expected = expected; name = name; chances = chances; times = times }
 
 -- with another state and another slice
-unfoldable pub withState : World → State → List ℕ → World
-withState w s v = worldOf s v (w .expected) (w .name) (w .chances) (w .times)
+unfoldable pub withState : Memory → State → List ℕ → Memory
+withState w s v = memoryOf s v (w .expected) (w .name) (w .chances) (w .times)
 
 -- after a call
-unfoldable pub afterCall : World → Called → World
+unfoldable pub afterCall : Memory → Called → Memory
 afterCall w c = withState w (c .state) (c .slice)
 
 -- after a line that stores something
-unfoldable pub stored : Line → World → World
+unfoldable pub stored : Line → Memory → Memory
 stored l w = record {
   state = stateBy l (w .state);
   slice = sliceBy l (w .slice);
@@ -80,7 +80,7 @@ stored l w = record {
 }
 
 -- after a line's letter and numbers: a is the call with a budget, A append, e a comparison
-unfoldable pub steppedBy : Line → World → World
+unfoldable pub steppedBy : Line → Memory → Memory
 steppedBy l w =
     cond (eqb (l .letter) 97) (afterCall w (appendUptoCalled (w .state) l (w .slice) (w .name) (w .chances) (w .times)))
     (cond (eqb (l .letter) 65) (afterCall w (appendCalled (w .state) l (w .slice) (w .name) (w .chances) (w .times)))
@@ -89,9 +89,9 @@ steppedBy l w =
     (stored l w)))
 
 -- after one line more
-unfoldable pub stepped : List ℕ → World → World
+unfoldable pub stepped : List ℕ → Memory → Memory
 stepped s w = steppedBy (parsedLine s) w
 
 -- after all lines of some bytes
-unfoldable pub replayed : List ℕ → World → World
+unfoldable pub replayed : List ℕ → Memory → Memory
 replayed s w = replayOf 53 stepped s w

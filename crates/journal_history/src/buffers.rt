@@ -1,5 +1,5 @@
 // The buffers of a replay, all 0 at first.
-// No contract names an element: a history's first line fills the slice, and a call reads only what its lines stored before.
+// Their contracts give their lengths alone.
 ghost use mathlib.Core.Path.{_≡_};
 ghost use lib.ListN.{length};
 

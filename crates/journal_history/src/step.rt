@@ -1,7 +1,7 @@
 // A chunk of lines, one line after another: something stored, a call, or a comparison.
 // `v` is the slice's buffer, `expected` what it should hold.
 ghost use mathlib.Core.Path.{_≡_};
-ghost use Rattle.journal_history.specs.Replay.{worldOf, replayed, steppedBy};
+ghost use Rattle.journal_history.specs.Replay.{memoryOf, replayed, steppedBy};
 use crate::call::append;
 use crate::call::append_upto;
 use crate::compare::compare;
@@ -25,8 +25,9 @@ pub(crate) fn replay_chunk(
     chances: &mut [u32],
     times: &mut [u32],
 ) -> State
-    ensures { λ r. ⌜ worldOf r (now (v .exit)) (now (expected .exit)) (now (name .exit)) (now (chances .exit)) (now (times .exit))
-        ≡ replayed (now (chunk .entry)) (worldOf s (now (v .entry)) (now (expected .entry)) (now (name .entry)) (now (chances .entry)) (now (times .entry))) ⌝ }
+    ensures { λ r. ⌜ memoryOf r (now (v .exit)) (now (expected .exit)) (now (name .exit)) (now (chances .exit)) (now (times .exit))
+        ≡ replayed (now (chunk .entry))
+        (memoryOf s (now (v .entry)) (now (expected .entry)) (now (name .entry)) (now (chances .entry)) (now (times .entry))) ⌝ }
 {
     let mut state = s;
     let mut at = 0;
@@ -49,8 +50,8 @@ fn replay_line(
     chances: &mut [u32],
     times: &mut [u32],
 ) -> State
-    ensures { λ r. ⌜ worldOf r (now (v .exit)) (now (expected .exit)) (now (name .exit)) (now (chances .exit)) (now (times .exit))
-        ≡ steppedBy l (worldOf s (now (v .entry)) (now (expected .entry)) (now (name .entry)) (now (chances .entry)) (now (times .entry))) ⌝ }
+    ensures { λ r. ⌜ memoryOf r (now (v .exit)) (now (expected .exit)) (now (name .exit)) (now (chances .exit)) (now (times .exit))
+        ≡ steppedBy l (memoryOf s (now (v .entry)) (now (expected .entry)) (now (name .entry)) (now (chances .entry)) (now (times .entry))) ⌝ }
 {
     if l.letter == b'a' {
         return append_upto(s, l, v, name, chances, times);

@@ -6,7 +6,7 @@ use native.Mathlib.Omega.{arith}
 use denote.Ref.{now}
 use lib.ListN.{length}
 use Rattle.lines.proofs.Replay.{Replayed, replay-starts, replay-ends}
-use Rattle.journal_history.specs.Replay.{World, worldOf, stepped, replayed}
+use Rattle.journal_history.specs.Replay.{Memory, memoryOf, stepped, replayed}
 use Rattle.journal_history.proofs.Steps.{line-replayed}
 use Rattle.journal_history.proofs.step.replay_chunk.Statement.{statement}
 use Rattle.journal_history.proofs.step.replay_chunk.Tie as tie
@@ -19,7 +19,7 @@ Inv-loop chunk v₀ expected₀ name₀ chances₀ times₀ state₀ at₀ v exp
     × (length name ≡ length name₀)
     × (length chances ≡ length chances₀)
     × (length times ≡ length times₀)
-    × Replayed 53 stepped chunk (worldOf state₀ v₀ expected₀ name₀ chances₀ times₀) at (worldOf state v expected name chances times)
+    × Replayed 53 stepped chunk (memoryOf state₀ v₀ expected₀ name₀ chances₀ times₀) at (memoryOf state v expected name chances times)
 
 abbrev μ-loop : tie.MeasureT-loop
 μ-loop chunk v₀ expected₀ name₀ chances₀ times₀ state₀ at₀ v expected name chances times state at = length chunk - at
@@ -38,8 +38,8 @@ loop-again c =
     let l = head .loop in
     let a = head .before .before .before .before .before .before .before .args in
     let kept = called .replay-line .kept .1 .1 in
-    let turn = line-replayed (now (a .chunk)) (worldOf (a .s) (now (a .v)) (now (a .expected)) (now (a .name)) (now (a .chances)) (now (a .times)))
-    (worldOf (l .state) (l .v) (l .expected) (l .name) (l .chances) (l .times)) _ (l .at) (ended .line-end .result) (read .parse .result)
+    let turn = line-replayed (now (a .chunk)) (memoryOf (a .s) (now (a .v)) (now (a .expected)) (now (a .name)) (now (a .chances)) (now (a .times)))
+    (memoryOf (l .state) (l .v) (l .expected) (l .name) (l .chances) (l .times)) _ (l .at) (ended .line-end .result) (read .parse .result)
     (omega arith) (ended .line-end .ensures) (l .inv .6) (read .parse .ensures) (called .replay-line .ensures)
     in (
       omega (arith, ended .line-end .ensures),
