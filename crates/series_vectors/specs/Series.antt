@@ -69,7 +69,7 @@ measuredLine s =
     M.Malformed)
     M.Malformed
 
--- ---- the tally
+-- ---- the groups
 
 -- a group with no line yet, and its bound in ten-thousandths of a unit
 abbrev pub emptyGroup : ℕ → Group

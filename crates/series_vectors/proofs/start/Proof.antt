@@ -16,7 +16,10 @@ within-requires-4 : tie.Need-within-requires-4
 within-requires-4 c κs = search needs
 
 returns : tie.Need-returns
-returns c = cc
+returns c =
+    let third = c .before in
+    let second = third .before in
+    rw (second .before .within .ensures, second .within2 .ensures, third .within3 .ensures, c .within4 .ensures)
 
 pub start-spec : {M : Type 1} → statement M
 start-spec =
