@@ -3,9 +3,9 @@ use Prim.Native.Nat.{ℕ}
 use mathlib.Core.Path.{_≡_, refl}
 use mathlib.Core.List.{List}
 use Rattle.hex.specs.Hex.{readHex}
-use Rattle.lines.specs.Lines.{fieldOf}
+use Rattle.lines.specs.Lines.{fieldOf, afterField}
 use Rattle.lines.specs.declared.field.Field.the-variants as F
-use Rattle.journal_history.specs.Line.{noLine, afterField, parsedNumbers}
+use Rattle.journal_history.specs.Line.{noLine, parsedNumbers}
 use Rattle.journal_history.specs.declared.line.Line.{Line}
 
 module _ (s : List ℕ) (letter : ℕ) where

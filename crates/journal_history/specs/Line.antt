@@ -6,26 +6,19 @@ use mathlib.Core.List.{List}
 use lib.Dec.{eqb}
 use lib.ListN.{length, getD}
 use Rattle.hex.specs.Hex.{readHex}
-use Rattle.lines.specs.Lines.{fieldOf}
-use Rattle.lines.specs.declared.field.Field.{Field}
-use Rattle.lines.specs.declared.field.Field.the-variants as F
+use Rattle.lines.specs.Lines.{fieldOf, afterField}
 use Rattle.journal_history.specs.declared.line.Line.{Line}
 
 -- what stands for a line of another form: no line has the letter 0
 unfoldable pub noLine : Line
 noLine = record { letter = 0; x = 0; y = 0; z = 0 }
 
--- a number goes on, none makes it no line
-unfoldable pub afterField : Field → (ℕ → Line) → Line
-afterField (F.Value n) next = next n
-afterField F.Nothing next = noLine
-
--- the three numbers behind a letter, 16 digits each
+-- the three numbers behind a letter, 16 digits each; where one is none it is no line
 unfoldable pub parsedNumbers : List ℕ → ℕ → Line
 parsedNumbers s letter =
-    afterField (fieldOf (readHex s 2 16)) (λ x.
-    afterField (fieldOf (readHex s 19 16)) (λ y.
-    afterField (fieldOf (readHex s 36 16)) (λ z. record { letter = letter; x = x; y = y; z = z })))
+    afterField noLine (fieldOf (readHex s 2 16)) (λ x.
+    afterField noLine (fieldOf (readHex s 19 16)) (λ y.
+    afterField noLine (fieldOf (readHex s 36 16)) (λ z. record { letter = letter; x = x; y = y; z = z })))
 
 -- a line: 53 bytes, the last one a line end
 unfoldable pub parsedLine : List ℕ → Line

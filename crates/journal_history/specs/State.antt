@@ -1,12 +1,12 @@
 -- What the replay keeps between lines besides the buffers, and what a line makes of it.
 -- Assumes nothing.
 use Prim.Native.Nat.{ℕ}
-use mathlib.Core.Bool.{Bool, cond, _&&_}
+use mathlib.Core.Bool.{Bool, _&&_}
 use lib.Dec.{eqb}
-use Rattle.lines.specs.Lines.{oneMore}
+use Rattle.lines.specs.Tally.{comparedMore, malformedMore}
+use Rattle.lines.specs.declared.tally.Tally.{Tally}
 use Rattle.journal_history.specs.declared.line.Line.{Line}
 use Rattle.journal_history.specs.declared.state.State.{State}
-use Rattle.journal_history.specs.declared.state.Tally.{Tally}
 use Rattle.journal_history.specs.declared.state.Words.{Words}
 use Rattle.journal_history.specs.declared.state.Offered.{Offered}
 
@@ -58,12 +58,8 @@ answeredWith s l = eqb (s .words .kind) (l .x) && (eqb (s .words .first) (l .y) 
 
 -- one comparison more, and one that differs more unless all was the same
 unfoldable pub comparedOnce : State → Bool → State
-comparedOnce s same =
-    let t = s .tally in
-    withTally s (record { compared = oneMore (t .compared); differ = cond same (t .differ) (oneMore (t .differ)); malformed = t .malformed })
+comparedOnce s same = withTally s (comparedMore (s .tally) same)
 
 -- one malformed line more
 unfoldable pub malformedOnce : State → State
-malformedOnce s =
-    let t = s .tally in
-    withTally s (record { compared = t .compared; differ = t .differ; malformed = oneMore (t .malformed) })
+malformedOnce s = withTally s (malformedMore (s .tally))

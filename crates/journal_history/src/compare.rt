@@ -4,13 +4,14 @@ ghost use mathlib.Core.Path.{_≡_};
 ghost use mathlib.Core.Bool.{_&&_};
 ghost use Rattle.journal_history.specs.State.{answeredWith, comparedOnce};
 ghost use Rattle.journal_history.specs.Store.{sameBytes};
+use crate::PROGRAM;
 use crate::line::Line;
-use crate::report::print;
-use crate::report::print_number;
 use crate::state::State;
 use crate::state::answered;
 use crate::state::compared;
 use crate::store::same;
+use lines::print;
+use lines::print_number;
 
 // The state with one comparison more.
 pub(crate) fn compare(s: State, l: Line, v: &[u8], expected: &[u8]) -> State
@@ -35,8 +36,8 @@ fn agrees(s: State, l: Line, v: &[u8], expected: &[u8]) -> bool
 fn show(s: State, agree: bool) {
     let tally = s.tally;
     if !agree {
-        print(b"differs after ");
-        print_number(tally.compared);
-        print(b" compared\n");
+        print(&PROGRAM, b"differs after ");
+        print_number(&PROGRAM, tally.compared);
+        print(&PROGRAM, b" compared\n");
     }
 }

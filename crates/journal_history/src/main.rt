@@ -5,36 +5,27 @@ mod call;
 mod compare;
 mod line;
 mod replay;
-mod report;
 mod state;
 mod step;
 mod store;
 mod stored;
 
+use lines::print;
+use lines::print_verdict;
 use replay::replay;
-use report::print;
-use report::print_verdict;
-use state::State;
+
+// The name that its lines have.
+pub(crate) const PROGRAM: [u8; 15] = *b"journal_history";
 
 fn main() {
     if os::arg_count() > 1 {
-        print(b"usage: journal_history < HISTORIES\n");
+        print(&PROGRAM, b"usage: journal_history < HISTORIES\n");
         print(
+            &PROGRAM,
             b"A line is as tools/journal_history writes it: a letter and three numbers of 16 hexadecimal digits.\n",
         );
         return;
     }
-    print_verdict(finished(replay()));
-}
-
-// What cannot be read counts as a malformed line.
-fn finished(s: State) -> State {
-    if lines::input_ended() {
-        return s;
-    }
-    io::write_all(
-        2,
-        b"journal_history: standard input cannot be read to its end\n",
-    );
-    state::malformed(s)
+    let s = replay();
+    print_verdict(&PROGRAM, s.tally);
 }

@@ -3,7 +3,9 @@
 ghost use mathlib.Core.Path.{_≡_};
 ghost use Rattle.journal_history.specs.State.{fresh, started, countsSet, lengthSet, answerSet, answeredWith, comparedOnce, malformedOnce, withTally};
 use crate::line::Line;
-use lines::one_more;
+use lines::Tally;
+use lines::compared_more;
+use lines::malformed_more;
 
 // How much of the name, the chances and the times is offered.
 pub(crate) struct Offered {
@@ -17,13 +19,6 @@ pub(crate) struct Words {
     pub kind: u64,
     pub first: u64,
     pub second: u64,
-}
-
-// The counts of the verdict.
-pub(crate) struct Tally {
-    pub compared: u64,
-    pub differ: u64,
-    pub malformed: u64,
 }
 
 // The slice's size, the journal's length, what is offered, the last answer, and the counts.
@@ -52,11 +47,7 @@ pub(crate) fn nothing_yet() -> State
             first: 0,
             second: 0,
         },
-        tally: Tally {
-            compared: 0,
-            differ: 0,
-            malformed: 0,
-        },
+        tally: Tally::ZERO,
     }
 }
 
@@ -123,24 +114,7 @@ pub(crate) fn compared(s: State, same: bool) -> State
     ensures { λ r. ⌜ r ≡ comparedOnce s same ⌝ }
 {
     let t = s.tally;
-    if same {
-        return with_tally(
-            s,
-            Tally {
-                compared: one_more(t.compared),
-                differ: t.differ,
-                malformed: t.malformed,
-            },
-        );
-    }
-    with_tally(
-        s,
-        Tally {
-            compared: one_more(t.compared),
-            differ: one_more(t.differ),
-            malformed: t.malformed,
-        },
-    )
+    with_tally(s, compared_more(t, same))
 }
 
 // One malformed line more.
@@ -148,14 +122,7 @@ pub(crate) fn malformed(s: State) -> State
     ensures { λ r. ⌜ r ≡ malformedOnce s ⌝ }
 {
     let t = s.tally;
-    with_tally(
-        s,
-        Tally {
-            compared: t.compared,
-            differ: t.differ,
-            malformed: one_more(t.malformed),
-        },
-    )
+    with_tally(s, malformed_more(t))
 }
 
 // The same with other counts.

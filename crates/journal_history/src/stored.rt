@@ -2,8 +2,8 @@
 // A letter of another kind of line leaves a buffer as it is.
 ghost use mathlib.Core.Path.{_≡_};
 ghost use Rattle.journal_history.specs.Replay.{sliceBy, expectedBy, nameBy, numbersBy, storing, stateBy};
+use crate::PROGRAM;
 use crate::line::Line;
-use crate::report::print;
 use crate::state::State;
 use crate::state::counts;
 use crate::state::length;
@@ -13,6 +13,7 @@ use crate::store::bytes;
 use crate::store::fill;
 use crate::store::number;
 use crate::store::repeat;
+use lines::print;
 
 // The slice: z fills it, w puts bytes there.
 pub(crate) fn set_slice(l: Line, v: &mut [u8])
@@ -76,8 +77,13 @@ pub(crate) fn set_state(l: Line, s: State) -> State
     if stores(l.letter) {
         return s;
     }
-    print(b"malformed line\n");
+    show_malformed();
     malformed(s)
+}
+
+// Says that a line is malformed.
+fn show_malformed() {
+    print(&PROGRAM, b"malformed line\n");
 }
 
 // Whether a letter stores bytes or a number and leaves the state as it is.

@@ -1,4 +1,4 @@
--- `malformed` counts one malformed line more. Assumes nothing.
+-- `malformed` has the tally of one malformed line more. Assumes nothing.
 use borrow.Author.Needs.{needs}
 use Rattle.journal_history.specs.State.{malformedOnce}
 use Rattle.journal_history.proofs.state.malformed.Statement.{statement}
@@ -6,7 +6,7 @@ use Rattle.journal_history.proofs.state.malformed.Tie as tie
 
 returns : tie.Need-returns
 unfolding malformedOnce
-returns c = rw (← c .before .one-more .ensures) (c .with-tally .ensures)
+returns c = rw (← c .before .malformed-more .ensures) (c .with-tally .ensures)
 
 pub malformed-spec : {M : Type 1} → statement M
 malformed-spec = tie.close (tie.spec (λ c κs. search needs) (λ c κs. search needs) returns)

@@ -30,7 +30,7 @@ returns-4 c =
 returns-5 : tie.Need-returns-5
 unfolding stateBy
 returns-5 c =
-    let fourth = c .before .before .before in
+    let fourth = c .before .before in
     let third = fourth .before .before in
     let second = third .before .before in
     rw (ne-eqb _ _ (second .before .before .if1 .left), ne-eqb _ _ (second .if2 .left), ne-eqb _ _ (third .if3 .left))
@@ -48,7 +48,6 @@ set-state-spec =
     returns-3
     (λ c κs. search needs)
     returns-4
-    (λ c. search needs)
     (λ c κs. search needs)
     (λ c κs. search needs)
     returns-5)
