@@ -31,7 +31,7 @@ def pairs_of(path):
 
 
 def quantiles_of_eight():
-    return {int(chance): double_of(int(bits, 16)) for chance, bits in pairs_of("tools/journal_quantiles")}
+    return {int(chance): int(bits, 16) for chance, bits in pairs_of("tools/journal_quantiles")}
 
 
 def quantiles_stored():
@@ -41,14 +41,15 @@ def quantiles_stored():
         x = double_of(int(argument, 16))
         chance = round(x * 500000) if 0 < x < 2 else 0
         if chance > 0 and chance / 500000 == x:
-            found[chance] = double_of(int(result, 16))
+            found[chance] = int(result, 16)
     return found
 
 
-QUANTILE = {**quantiles_stored(), **quantiles_of_eight()}
-assert quantiles_stored().items() <= QUANTILE.items(), "the two lists of quantiles differ"
-EIGHT = sorted(quantiles_of_eight())  # the chances of either list
-STORED = sorted(quantiles_stored())
+BITS = {**quantiles_stored(), **quantiles_of_eight()}
+assert quantiles_stored().items() <= BITS.items(), "the two lists of quantiles differ"
+QUANTILE = {chance: double_of(bits) for chance, bits in BITS.items()}
+EIGHT = sorted(quantiles_of_eight())  # the chances of tools/journal_quantiles
+STORED = sorted(quantiles_stored())  # those of the stored list of the quantile
 
 
 # ---- Limit, mark and Leaf.

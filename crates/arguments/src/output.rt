@@ -2,8 +2,8 @@
 // A write to standard output that fails is said on standard error.
 use crate::help::is_help;
 
-// The help on standard output where the first argument asks for it, else what is wrong on standard error. `output` is the program's name
-// for standard output, as `print` takes it.
+// The help on standard output where the first argument asks for it, else what is wrong on standard error. `output` starts the
+// message where the help cannot be written, as in `list: standard output`.
 pub fn usage(help: &[u8], wrong: &[u8], output: &[u8]) {
     let mut word = [0u8; 6];
     let size = os::arg(1, &mut word);

@@ -20,55 +20,64 @@ use Rattle.journal.specs.declared.Appended.{Appended}
 use Rattle.journal.specs.declared.Appended.the-variants as A
 use Rattle.journal.specs.Answers.{meaning, partMeaning, asMark, markMeaning, appendMeaning, outcomeOf}
 
-statusOf : ScanResult → Status
-statusOf (whole n c) = S.Whole n c
-statusOf (torn n c) = S.Torn n c
-statusOf (damaged n p) = S.Damaged (record { number = n; place = p })
+ofScan : ScanResult → Status
+ofScan (whole n c) = S.Whole n c
+ofScan (torn n c) = S.Torn n c
+ofScan (damaged n p) = S.Damaged (record { number = n; place = p })
 
 pub meaning-injective : (a b : Status) → meaning a ≡ meaning b → a ≡ b
-unfolding meaning statusOf
-meaning-injective = injective-by meaning statusOf back
+unfolding meaning ofScan
+meaning-injective = injective-by meaning ofScan back
   where
-    back : (s : Status) → statusOf (meaning s) ≡ s
+    back : (s : Status) → ofScan (meaning s) ≡ s
     back (S.Whole n c) = refl
     back (S.Torn n c) = refl
     back (S.Damaged f) = refl
 
-partOf : Read.Part → Part
-partOf p = record { start = p .start; size = p .size }
+ofPart : Read.Part → Part
+ofPart p = record { start = p .start; size = p .size }
 
 pub part-meaning-injective : (a b : Part) → partMeaning a ≡ partMeaning b → a ≡ b
-part-meaning-injective = injective-by partMeaning partOf (λ p. unfold partMeaning partOf in refl)
+part-meaning-injective = injective-by partMeaning ofPart (λ p. unfold partMeaning ofPart in refl)
 
 ofMark : Read.Mark → Mark
 ofMark flat = K.Flat
 ofMark few = K.Few
 ofMark normal = K.Normal
 
-markedOf : MarkResult → Marked
-markedOf (marked m) = M.As (ofMark m)
-markedOf (unmarked n) = M.Refused n
+pub as-mark-injective : (a b : Mark) → asMark a ≡ asMark b → a ≡ b
+unfolding asMark ofMark
+as-mark-injective = injective-by asMark ofMark back
+  where
+    back : (m : Mark) → ofMark (asMark m) ≡ m
+    back K.Flat = refl
+    back K.Few = refl
+    back K.Normal = refl
+
+ofMarkResult : MarkResult → Marked
+ofMarkResult (marked m) = M.As (ofMark m)
+ofMarkResult (unmarked n) = M.Refused n
 
 pub mark-meaning-injective : (a b : Marked) → markMeaning a ≡ markMeaning b → a ≡ b
-unfolding markMeaning asMark markedOf ofMark
-mark-meaning-injective = injective-by markMeaning markedOf back
+unfolding markMeaning asMark ofMarkResult ofMark
+mark-meaning-injective = injective-by markMeaning ofMarkResult back
   where
-    back : (m : Marked) → markedOf (markMeaning m) ≡ m
+    back : (m : Marked) → ofMarkResult (markMeaning m) ≡ m
     back (M.As K.Flat) = refl
     back (M.As K.Few) = refl
     back (M.As K.Normal) = refl
     back (M.Refused n) = refl
 
-appendedOf : AppendResult → Appended
-appendedOf (extended n) = A.Extended n
-appendedOf (declined n) = A.Declined n
-appendedOf (Append.damaged n p) = A.Damaged (record { number = n; place = p })
+ofAppend : AppendResult → Appended
+ofAppend (extended n) = A.Extended n
+ofAppend (declined n) = A.Declined n
+ofAppend (Append.damaged n p) = A.Damaged (record { number = n; place = p })
 
 pub append-meaning-injective : (a b : Appended) → appendMeaning a ≡ appendMeaning b → a ≡ b
-unfolding appendMeaning appendedOf
-append-meaning-injective = injective-by appendMeaning appendedOf back
+unfolding appendMeaning ofAppend
+append-meaning-injective = injective-by appendMeaning ofAppend back
   where
-    back : (a : Appended) → appendedOf (appendMeaning a) ≡ a
+    back : (a : Appended) → ofAppend (appendMeaning a) ≡ a
     back (A.Extended n) = refl
     back (A.Declined n) = refl
     back (A.Damaged f) = refl

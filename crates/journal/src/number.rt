@@ -1,13 +1,12 @@
 // A number in the bytes of a slice, the lowest byte first.
-// One function serves every width, so that the byte order is in one place.
+// Chances and times have four bytes: without a loop the compiler reads them in one load. One loop serves every other width.
 ghost use mathlib.Core.Path.{_≡_};
 ghost use Prim.Native.Nat.{_+_, _^_, _≤_, _<_};
 ghost use lib.ListN.{length};
 ghost use Rattle.journal_spec.specs.Bytes.{numberAt};
 ghost use Rattle.journal.specs.Numbers.{numberIn};
 
-// The number in the w bytes at a place. Nearly all numbers of a journal have four bytes, which the compiler reads at once
-// where they are not taken in by a loop.
+// The number in the w bytes at a place.
 pub(crate) fn number_at(b: &[u8], at: usize, w: usize) -> u64
     requires { ⌜ (at + w ≤ length (now b)) × (w ≤ 8) ⌝ }
     ensures { λ r. ⌜ (r ≡ numberAt w at (now (b .entry))) × (r < 256 ^ w) ⌝ }

@@ -1,5 +1,5 @@
 // One stored line: a letter, the numbers that it asks with, and the answer's words that it expects.
-// A line is 56 bytes: letter, 5 digits, 16 digits, 16 digits, 1 digit, 5 digits, 5 digits, single spaces between them, line end.
+// A line is 56 bytes: letter, 5 digits, 16 digits, 16 digits, 1 digit, 5 digits, 5 digits, a byte between two of them, line end.
 ghost use mathlib.Core.Path.{_≡_};
 ghost use Rattle.journal_cases.specs.Line.{caseOf, caseNumbers, caseKind, stands, agrees};
 use lines::Field;

@@ -9,7 +9,7 @@ use Rattle.journal_spec.specs.Append.{Outcome}
 use Rattle.journal.specs.Answers.{appendMeaning, lengthAfter, outcomeOf}
 use Rattle.journal.specs.declared.Appended.{Appended}
 use Rattle.journal_history.specs.State.{malformedOnce}
-use Rattle.journal_history.specs.Call.{told, fits, calledWith}
+use Rattle.journal_history.specs.Call.{resultSet, fits, calledWith}
 use Rattle.journal_history.specs.declared.state.State.{State}
 use Rattle.journal_history.proofs.Both.{both-hold}
 
@@ -37,7 +37,7 @@ room-found s v n c t room e h =
 module _ (s x : State) (v : List ℕ) (room fit : Bool) (o : Outcome) (e : room ≡ fit) where
   -- a call was made, and the slice is `part` after it
   pub call-made : (r : Appended) (part : List ℕ) → not room ≡ false → outcomeOf (s .len) r part ≡ o
-      → x ≡ told s (lengthAfter (s .len) r) (appendMeaning r)
+      → x ≡ resultSet s (lengthAfter (s .len) r) (appendMeaning r)
       → (x ≡ calledWith fit s v o .state) × (part ++ drop (s .size) v ≡ calledWith fit s v o .slice)
   unfolding calledWith outcomeOf
   call-made r part h made put = rw (← e, not-false room h, ← made) (put, refl)

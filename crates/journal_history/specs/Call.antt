@@ -12,10 +12,10 @@ use Rattle.journal_history.specs.declared.line.Line.{Line}
 use Rattle.journal_history.specs.declared.state.State.{State}
 
 -- the state with an answer's length and words: 0, the length, 0; 1, declined by, 0; or 2, number, place
-unfoldable pub told : State → ℕ → AppendResult → State
-told s len (extended n) = answerSet s len 0 n 0
-told s len (declined n) = answerSet s len 1 n 0
-told s len (damaged n p) = answerSet s len 2 n p
+unfoldable pub resultSet : State → ℕ → AppendResult → State
+resultSet s len (extended n) = answerSet s len 0 n 0
+resultSet s len (declined n) = answerSet s len 1 n 0
+resultSet s len (damaged n p) = answerSet s len 2 n p
 
 -- whether the slice and what is offered stand in buffers of these lengths
 unfoldable pub fits : State → ℕ → ℕ → ℕ → ℕ → Bool
@@ -35,7 +35,7 @@ pub record Called : Type 0 where
 -- after a call that comes to this; without room the line is malformed
 unfoldable pub calledWith : Bool → State → List ℕ → Outcome → Called
 calledWith room s v o =
-    cond room (record { state = told s (o .len) (o .answer); slice = o .slice ++ drop (s .size) v }) (record { state = malformedOnce s; slice = v })
+    cond room (record { state = resultSet s (o .len) (o .answer); slice = o .slice ++ drop (s .size) v }) (record { state = malformedOnce s; slice = v })
 
 -- append
 unfoldable pub appendCalled : State → Line → List ℕ → List ℕ → List ℕ → List ℕ → Called

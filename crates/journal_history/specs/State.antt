@@ -7,12 +7,10 @@ use Rattle.lines.specs.Tally.{comparedMore, malformedMore}
 use Rattle.lines.specs.declared.tally.Tally.{Tally}
 use Rattle.journal_history.specs.declared.line.Line.{Line}
 use Rattle.journal_history.specs.declared.state.State.{State}
-use Rattle.journal_history.specs.declared.state.Words.{Words}
-use Rattle.journal_history.specs.declared.state.Offered.{Offered}
 
 -- nothing yet
-unfoldable pub fresh : State
-fresh = record {
+unfoldable pub nothingYet : State
+nothingYet = record {
   size = 0;
   len = 0;
   offered = record { name = 0; chances = 0; times = 0 };

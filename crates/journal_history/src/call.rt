@@ -3,7 +3,7 @@
 ghost use mathlib.Core.Path.{_≡_};
 ghost use lib.ListN.{length};
 ghost use Rattle.journal.specs.Answers.{appendMeaning, lengthAfter};
-ghost use Rattle.journal_history.specs.Call.{fits, told, appendCalled, appendUptoCalled};
+ghost use Rattle.journal_history.specs.Call.{fits, resultSet, appendCalled, appendUptoCalled};
 use crate::line::Line;
 use crate::state::State;
 use crate::state::answer;
@@ -99,7 +99,7 @@ fn have_room(s: State, v: usize, name: usize, chances: usize, times: usize) -> b
 
 // The state after an answer: only a length answered changes the journal's.
 fn answered_by(s: State, a: Appended) -> State
-    ensures { λ r. ⌜ r ≡ told s (lengthAfter (s .len) a) (appendMeaning a) ⌝ }
+    ensures { λ r. ⌜ r ≡ resultSet s (lengthAfter (s .len) a) (appendMeaning a) ⌝ }
 {
     match a {
         Appended::Extended(n) => answer(s, n, 0, n as u64, 0),

@@ -1,4 +1,4 @@
-// One stored line: a letter, and three numbers of 16 hexadecimal digits, single spaces between them, line end: 53 bytes.
+// One stored line: a letter, and three numbers of 16 hexadecimal digits, a byte before each, line end: 53 bytes.
 // tools/journal_history says what each letter asks for.
 ghost use mathlib.Core.Path.{_≡_};
 ghost use Rattle.journal_history.specs.Line.{parsedLine, parsedNumbers};

@@ -1,5 +1,5 @@
 // The replay of standard input: as many lines at a time as a buffer holds.
-// No contract can say what is read; what the lines read lead to is `replay_chunk`'s contract.
+// No contract can say what is read; the contract is that of `replay_chunk`, for any lines.
 use crate::buffers::bytes_buffer;
 use crate::buffers::chances_buffer;
 use crate::buffers::lines_buffer;

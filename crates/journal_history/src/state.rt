@@ -1,7 +1,7 @@
 // What the replay keeps between lines besides the buffers, and what a line makes of it.
 // Each function is its definition in specs/State.antt.
 ghost use mathlib.Core.Path.{_≡_};
-ghost use Rattle.journal_history.specs.State.{fresh, started, countsSet, lengthSet, answerSet, answeredWith, comparedOnce, malformedOnce, withTally};
+ghost use Rattle.journal_history.specs.State.{nothingYet, started, countsSet, lengthSet, answerSet, answeredWith, comparedOnce, malformedOnce, withTally};
 use crate::line::Line;
 use lines::Tally;
 use lines::compared_more;
@@ -32,7 +32,7 @@ pub(crate) struct State {
 
 // Nothing yet.
 pub(crate) fn nothing_yet() -> State
-    ensures { λ r. ⌜ r ≡ fresh ⌝ }
+    ensures { λ r. ⌜ r ≡ nothingYet ⌝ }
 {
     State {
         size: 0,

@@ -1,5 +1,5 @@
 // Bytes and numbers of a line put into a buffer, and two buffers compared.
-// What has no room in the buffer is left out; the comparison that follows then differs.
+// What has no room in the buffer is left out.
 ghost use mathlib.Core.Path.{_≡_};
 ghost use lib.ListN.{length};
 ghost use Rattle.journal_history.specs.Store.{filled, bytesStored, repeated, numberStored, sameBytes};

@@ -27,7 +27,7 @@ pub fn print_malformed(program: &[u8], t: Tally) {
 
 // The last line of the output. What cannot be read counts as a malformed line.
 pub fn print_verdict(program: &[u8], t: Tally) {
-    if read_to_end(program) {
+    if is_read_to_end(program) {
         print_tally(program, t);
     } else {
         print_tally(program, malformed_more(t));
@@ -35,7 +35,7 @@ pub fn print_verdict(program: &[u8], t: Tally) {
 }
 
 // Whether the input was read to its end; if not, that is said.
-pub fn read_to_end(program: &[u8]) -> bool {
+pub fn is_read_to_end(program: &[u8]) -> bool {
     let ended = input_ended();
     if !ended {
         complain(program, b": standard input cannot be read to its end\n");

@@ -1,5 +1,5 @@
 // How many answers were compared, how many differ, how many lines are malformed.
-// Each line counts once, and no count starts again.
+// A count stays at the largest u64 and does not start again; a line that only stores something is not counted.
 ghost use mathlib.Core.Path.{_≡_};
 ghost use Rattle.lines.specs.Tally.{comparedMore, malformedMore};
 use crate::count::one_more;

@@ -84,7 +84,7 @@ fn lines_buffer() -> [u8; 4050]
 
 // What cannot be read counts as a malformed line.
 fn finished(t: Groups) -> Groups {
-    if lines::read_to_end(b"series_vectors") {
+    if lines::is_read_to_end(b"series_vectors") {
         return t;
     }
     one_malformed(t)

@@ -83,7 +83,7 @@ pub(crate) fn one_malformed(t: Groups) -> Groups
     r
 }
 
-// Writes a malformed line's mark, and a line of the far group.
+// Writes that a line is malformed, and a line of the far group.
 fn show(m: Measured) {
     match m {
         Measured::Distance {

@@ -1,11 +1,8 @@
 -- `number_at` answers what the function for its width answers.
 -- Assumes nothing.
-use mathlib.Core.Path.{_≡_, sym, ap, _∙_}
-use Prim.Native.Nat.{ℕ, _^_, _<_}
+use mathlib.Core.Path.{_≡_}
 use native.Mathlib.Omega.{arith}
 use borrow.Author.Needs.{needs}
-use denote.Ref.{now}
-use Rattle.journal_spec.specs.Bytes.{numberAt}
 use Rattle.journal.proofs.number.number_at.Statement.{statement}
 use Rattle.journal.proofs.number.number_at.Tie as tie
 

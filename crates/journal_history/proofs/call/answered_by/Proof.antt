@@ -1,20 +1,20 @@
 -- `answered_by` puts the words of an answer into the state, one return a case. Assumes nothing.
 use borrow.Author.Needs.{needs}
 use Rattle.journal.specs.Answers.{appendMeaning, lengthAfter}
-use Rattle.journal_history.specs.Call.{told}
+use Rattle.journal_history.specs.Call.{resultSet}
 use Rattle.journal_history.proofs.call.answered_by.Statement.{statement}
 use Rattle.journal_history.proofs.call.answered_by.Tie as tie
 
 returns : tie.Need-returns
-unfolding told appendMeaning lengthAfter
+unfolding resultSet appendMeaning lengthAfter
 returns c = rw (c .before .before .a .given .1) (c .answer .ensures)
 
 returns-2 : tie.Need-returns-2
-unfolding told appendMeaning lengthAfter
+unfolding resultSet appendMeaning lengthAfter
 returns-2 c = rw (c .before .before .a2 .given .1) (c .answer2 .ensures)
 
 returns-3 : tie.Need-returns-3
-unfolding told appendMeaning lengthAfter
+unfolding resultSet appendMeaning lengthAfter
 returns-3 c = rw (c .before .before .before .a3 .given .1) (c .answer3 .ensures)
 
 pub answered-by-spec : {M : Type 1} → statement M

@@ -1,11 +1,11 @@
 -- `nothing_yet` is its definition. Assumes nothing.
 use mathlib.Core.Path.{refl}
-use Rattle.journal_history.specs.State.{fresh}
+use Rattle.journal_history.specs.State.{nothingYet}
 use Rattle.journal_history.proofs.state.nothing_yet.Statement.{statement}
 use Rattle.journal_history.proofs.state.nothing_yet.Tie as tie
 
 returns : tie.Need-returns
-unfolding fresh
+unfolding nothingYet
 returns c = refl
 
 pub nothing-yet-spec : {M : Type 1} → statement M
