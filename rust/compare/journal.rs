@@ -11,6 +11,10 @@ use crate::options::Options;
 use crate::tally::Totals;
 
 pub fn compare(options: &Options, totals: &mut Totals) {
-    reading::compare(options, totals);
-    histories::compare(options, totals);
+    if options.runs("reading") {
+        reading::compare(options, totals);
+    }
+    if options.runs("histories") {
+        histories::compare(options, totals);
+    }
 }

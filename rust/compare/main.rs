@@ -36,9 +36,7 @@ fn main() -> ExitCode {
         quantile::compare(&options, &mut totals);
         limit::compare(&options, &mut totals);
     }
-    if options.runs("journal") {
-        journal::compare(&options, &mut totals);
-    }
+    journal::compare(&options, &mut totals);
     println!(
         "compare: {} results compared, {} differ",
         totals.results, totals.differ

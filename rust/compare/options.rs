@@ -1,11 +1,11 @@
-// The command line: how many random inputs there are, from which seed they are drawn, and which half runs alone.
+// The command line: how many random inputs there are, from which seed they are drawn, and which part runs alone.
 // A count is given for scale 1, the gate's size; scale 0 leaves the edges alone.
 
 use inputs::random::Random;
 
-pub const USAGE: &str = "usage: compare [--scale N] [--seed S] [--only numbers|journal]";
+pub const USAGE: &str = "usage: compare [--scale N] [--seed S] [--only numbers|reading|histories]";
 
-const HALVES: [&str; 2] = ["numbers", "journal"];
+const PARTS: [&str; 3] = ["numbers", "reading", "histories"];
 
 pub struct Options {
     pub scale: u64,
@@ -25,16 +25,16 @@ impl Options {
             match word.as_str() {
                 "--scale" => options.scale = number(&value)?,
                 "--seed" => options.seed = number(&value)?,
-                "--only" if HALVES.contains(&value.as_str()) => options.only = Some(value),
+                "--only" if PARTS.contains(&value.as_str()) => options.only = Some(value),
                 _ => return Err(format!("{USAGE}, not {word} {value}")),
             };
         }
         Ok(options)
     }
 
-    /// Whether this half runs.
-    pub fn runs(&self, half: &str) -> bool {
-        self.only.as_ref().is_none_or(|only| only == half)
+    /// Whether this part runs.
+    pub fn runs(&self, part: &str) -> bool {
+        self.only.as_ref().is_none_or(|only| only == part)
     }
 
     /// So many random inputs at scale 1.
