@@ -13,7 +13,7 @@ use Rattle.pxfm.specs.PowExec.{p1, logPoly1}
 use Rattle.pxfm.specs.LogTable.{fastLogDdInvLo, fastLogDdInvHi}
 use Rattle.pxfm.specs.FastLogDd.{scaledOf, indexOf, factorOf, carryOf, reducedOf, exponentOf, partsOf, fastLogDToDd}
 use Rattle.pxfm.specs.Rationals.{paired14, pAsymptLong, qAsymptLong, inverfAsymptLong}
-use Rattle.pxfm.specs.Inverfc.{asymptotic, inverfcExtraSmall, fErfcinv, fErfcinvBits}
+use Rattle.pxfm.specs.Inverfc.{zetaSqrt, asymptotic, inverfcExtraSmall, fErfcinv, fErfcinvBits}
 use Rattle.limit.specs.Times.{inRange, timeInRange, allInRange, timesInRange, sumOf, squaresOf}
 use Rattle.limit.specs.Formula.{meanOf, spreadBy, spreadOf, quantileOf, limitFrom, formulaOf}
 use Rattle.limit.specs.Answer.{LimitResult, limited}
@@ -47,7 +47,7 @@ unfolding leadingZeros ofBits toBits ofInt isNan eq lt le add sub mul div neg ro
     fromBitPair negOf splitOf fromExactMult fromExactAdd fromFullExactAdd fullAddF64 f64Add quickMult
     quickMultF64 mulAdd mulF64Add divOf recipOf fastSqrt toF64 ddF64MulAdd log2Dd
     powInverse p1 logPoly1 fastLogDdInvLo fastLogDdInvHi scaledOf indexOf factorOf carryOf reducedOf exponentOf partsOf fastLogDToDd
-    paired14 pAsymptLong qAsymptLong inverfAsymptLong asymptotic inverfcExtraSmall fErfcinv
+    paired14 pAsymptLong qAsymptLong inverfAsymptLong zetaSqrt asymptotic inverfcExtraSmall fErfcinv
     inRange timeInRange allInRange timesInRange sumOf squaresOf meanOf spreadBy spreadOf quantileOf limitFrom formulaOf
     chanceInRange finiteOrRefused judge limitOf
 starred-cases =

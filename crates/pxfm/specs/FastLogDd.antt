@@ -59,20 +59,21 @@ reducedOf m = mul binary64 (ofBits binary64 (m % 2 ^ 52 + 0x3ff0_0000_0000_0000)
 unfoldable pub exponentOf : ℕ → ℕ → Float
 exponentOf m e = ofInt binary64 (minus (e + carryOf m) 1074)
 
--- What both logarithms of x have in common: v is e × log 2 + log t up to z, p the polynomial at z, where z is r × t - 1.
+-- What both logarithms of x have in common: z is r × t - 1, and v is e × log 2 + log t up to the polynomial at z.
 unfoldable pub partsOf : Float → Parts
 partsOf x =
     let s = scaledOf (toBits binary64 x) in
     let i = indexOf (s .m) in
     let z = ddFmla (entryAt powInverse i) (reducedOf (s .m)) (neg one) in
     let dt = mulF64Add log2Dd (exponentOf (s .m) (s .e)) (fastLogDdInv i) in
-    record { v = f64Add (dt .hi) (newOf (dt .lo) z); p = logPoly1 z }
+    record { v = f64Add (dt .hi) (newOf (dt .lo) z); z = z }
 
 -- The logarithm of a double.
 unfoldable pub fastLogDToDd : Float → DoubleDouble
 fastLogDToDd x =
     let s = partsOf x in
-    let w = f64Add (s .v .hi) (newOf (add binary64 (s .v .lo) (s .p .lo)) (s .p .hi)) in
+    let p = logPoly1 (s .z) in
+    let w = f64Add (s .v .hi) (newOf (add binary64 (s .v .lo) (p .lo)) (p .hi)) in
     fromExactAdd (w .hi) (w .lo)
 
 -- The share of the low part in the logarithm of a pair; 0 where the quotient could underflow without need.
@@ -87,4 +88,5 @@ logLo x =
 unfoldable pub fastLogDd : DoubleDouble → DoubleDouble
 fastLogDd x =
     let s = partsOf (x .hi) in
-    f64Add (s .v .hi) (newOf (add binary64 (add binary64 (s .v .lo) (s .p .lo)) (logLo x)) (s .p .hi))
+    let p = logPoly1 (s .z) in
+    f64Add (s .v .hi) (newOf (add binary64 (add binary64 (s .v .lo) (p .lo)) (logLo x)) (p .hi))

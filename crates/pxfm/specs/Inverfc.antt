@@ -73,13 +73,16 @@ roundsAlike k =
 unfoldable pub middle : DoubleDouble → DoubleDouble
 middle x = let k = quickRational x in cond (roundsAlike k) k (inverf0p06To0p75 x)
 
+-- The root of zeta, which is a logarithm with the other sign.
+unfoldable pub zetaSqrt : DoubleDouble → DoubleDouble
+zetaSqrt log = fastSqrt (negOf (fromExactAdd (log .hi) (log .lo)))
+
 -- By an asymptotic rational, from the logarithm of the distance to the end: the shorter or the longer one.
 unfoldable pub asymptotic : DoubleDouble → Bool → DoubleDouble
 asymptotic log short =
-    let zeta = negOf (fromExactAdd (log .hi) (log .lo)) in
-    let zetaSqrt = fastSqrt zeta in
-    let rz = recipOf zetaSqrt in
-    cond short (inverfAsymptSmall rz zetaSqrt) (inverfAsymptLong rz zetaSqrt)
+    let root = zetaSqrt log in
+    let rz = recipOf root in
+    cond short (inverfAsymptSmall rz root) (inverfAsymptLong rz root)
 
 -- Above 0.75; the shorter rational below 0.9999.
 unfoldable pub tail : DoubleDouble → DoubleDouble

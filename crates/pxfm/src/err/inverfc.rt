@@ -8,7 +8,7 @@ ghost use Rattle.pxfm.specs.DoubleDouble.{one, mulAdd, mulAddF64};
 ghost use Rattle.pxfm.specs.Argument.{tenth, threeQuarters, mirrored, coreArgument};
 ghost use Rattle.pxfm.specs.Rationals.{at, p0p06To0p75, q0p06To0p75, pAsymptSmall, qAsymptSmall, pAsymptLong, qAsymptLong};
 ghost use Rattle.pxfm.specs.Rationals.{paired10, paired11, paired14, centred, inverf0p06To0p75, inverfAsymptSmall, inverfAsymptLong};
-ghost use Rattle.pxfm.specs.Inverfc.{taylor4, taylor7, horner10, quickRational, roundsAlike, middle, asymptotic, tail, erfCore};
+ghost use Rattle.pxfm.specs.Inverfc.{taylor4, taylor7, horner10, quickRational, roundsAlike, middle, zetaSqrt, tail, erfCore};
 ghost use Rattle.pxfm.specs.Inverfc.{inverfcExtraSmall, signOf, central, fErfcinv, fErfcinvBits};
 use crate::common;
 use crate::double_double::BitPair;
@@ -16,7 +16,7 @@ use crate::double_double::DoubleDouble;
 use crate::logs::fast_log_dd;
 use crate::polyeval;
 
-// The coefficients, each a constant of its own: an element of a constant array would store the whole array on the stack.
+// The coefficients, each a constant of its own, so that a use names one pair and brings no array into a function's code.
 // From 0.06 to 0.75 (MID), of the shorter asymptotic rational (SMALL) and of the longer one (LONG); P above, Q below the line.
 const MID_P0: DoubleDouble = DoubleDouble {
     lo: f64::from_bits(0xbc3e06eda42202a0),
@@ -478,6 +478,8 @@ pub(crate) fn inverf_0p06_to_0p75(x: DoubleDouble) -> DoubleDouble
     DoubleDouble::quick_mult(r, x)
 }
 
+// The asymptotic rationals are called from both branches, as in the Rust: the compiler draws a function with one caller into it,
+// and would then pack the steps in pairs, which takes longer (docs/DECISIONS.md 12).
 pub(crate) fn inverf_asympt_small(z: DoubleDouble, zeta_sqrt: DoubleDouble) -> DoubleDouble
     ensures { λ r. ⌜ r ≡ inverfAsymptSmall z «zeta_sqrt» ⌝ }
 {
@@ -617,17 +619,12 @@ fn middle(x: DoubleDouble) -> DoubleDouble
     inverf_0p06_to_0p75(x)
 }
 
-// From the logarithm of the distance to the end, by the shorter or the longer rational.
-fn asymptotic(log: DoubleDouble, short: bool) -> DoubleDouble
-    ensures { λ r. ⌜ r ≡ asymptotic log short ⌝ }
+// The root of zeta, which is a logarithm with the other sign.
+fn zeta_sqrt(log: DoubleDouble) -> DoubleDouble
+    ensures { λ r. ⌜ r ≡ zetaSqrt log ⌝ }
 {
     let zeta = DoubleDouble::from_exact_add(log.hi, log.lo).neg();
-    let zeta_sqrt = zeta.fast_sqrt();
-    let rz = zeta_sqrt.recip();
-    if short {
-        return inverf_asympt_small(rz, zeta_sqrt);
-    }
-    inverf_asympt_long(rz, zeta_sqrt)
+    zeta.fast_sqrt()
 }
 
 // Above 0.75: the logarithm's argument is positive and finite.
@@ -637,8 +634,12 @@ fn tail(x: DoubleDouble) -> DoubleDouble
     ensures { λ r. ⌜ r ≡ tail x ⌝ }
 {
     let q = DoubleDouble::full_add_f64(x.neg(), 1.0);
-    let log = fast_log_dd::fast_log_dd(q);
-    asymptotic(log, x.hi < 0.9999)
+    let root = zeta_sqrt(fast_log_dd::fast_log_dd(q));
+    let rz = root.recip();
+    if x.hi < 0.9999 {
+        return inverf_asympt_small(rz, root);
+    }
+    inverf_asympt_long(rz, root)
 }
 
 pub(crate) fn erf_core(x: DoubleDouble) -> DoubleDouble
@@ -664,8 +665,12 @@ fn inverfc_extra_small(x: f64) -> DoubleDouble
     requires { ⌜ toBits binary64 x < 0x7ff0_0000_0000_0000 ⌝ }
     ensures { λ r. ⌜ r ≡ inverfcExtraSmall x ⌝ }
 {
-    let log = fast_log_dd::fast_log_d_to_dd(x);
-    asymptotic(log, x >= 0.0001)
+    let root = zeta_sqrt(fast_log_dd::fast_log_d_to_dd(x));
+    let rz = root.recip();
+    if x >= 0.0001 {
+        return inverf_asympt_small(rz, root);
+    }
+    inverf_asympt_long(rz, root)
 }
 
 // x itself, or 2 - x above 1.

@@ -19,7 +19,7 @@ pub(crate) struct Scaled {
 // What both logarithms have in common.
 pub(crate) struct Parts {
     pub(crate) v: DoubleDouble,
-    pub(crate) p: DoubleDouble,
+    pub(crate) z: f64,
 }
 
 // The significand and the exponent of the double with bit pattern b. A subnormal is shifted up.
@@ -102,8 +102,7 @@ fn log_parts(x: f64) -> Parts
     let log_r = DoubleDouble::new(f64::from_bits(row.1), f64::from_bits(row.2));
     let dt = DoubleDouble::mul_f64_add(DoubleDouble::LOG2_DD, be, log_r);
     let v = DoubleDouble::f64_add(dt.hi, DoubleDouble::new(dt.lo, z));
-    let p = pow_exec::log_poly_1(z);
-    Parts { v, p }
+    Parts { v, z }
 }
 
 // The low part over the high part; 0 where the quotient could underflow without need.
@@ -130,7 +129,8 @@ pub(crate) fn fast_log_dd(ddx: DoubleDouble) -> DoubleDouble
 {
     let l = log_lo(ddx);
     let s = log_parts(ddx.hi);
-    DoubleDouble::f64_add(s.v.hi, DoubleDouble::new(s.v.lo + s.p.lo + l, s.p.hi))
+    let p = pow_exec::log_poly_1(s.z);
+    DoubleDouble::f64_add(s.v.hi, DoubleDouble::new(s.v.lo + p.lo + l, p.hi))
 }
 
 // The logarithm of a double.
@@ -140,6 +140,7 @@ pub(crate) fn fast_log_d_to_dd(ddx: f64) -> DoubleDouble
     ensures { λ r. ⌜ r ≡ fastLogDToDd ddx ⌝ }
 {
     let s = log_parts(ddx);
-    let w = DoubleDouble::f64_add(s.v.hi, DoubleDouble::new(s.v.lo + s.p.lo, s.p.hi));
+    let p = pow_exec::log_poly_1(s.z);
+    let w = DoubleDouble::f64_add(s.v.hi, DoubleDouble::new(s.v.lo + p.lo, p.hi));
     DoubleDouble::from_exact_add(w.hi, w.lo)
 }

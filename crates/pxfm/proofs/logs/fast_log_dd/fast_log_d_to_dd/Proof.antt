@@ -1,4 +1,4 @@
--- `fast_log_d_to_dd`: `log_parts` asks what is required here; the equations of its four calls rewrite the result to the definition's.
+-- `fast_log_d_to_dd`: `log_parts` asks what is required here; the equations of its calls rewrite the result to the definition's.
 -- Assumes nothing.
 use borrow.Author.Needs.{needs}
 use Rattle.pxfm.specs.FastLogDd.{fastLogDToDd}
@@ -15,6 +15,8 @@ fast-log-d-to-dd-spec =
     ok
     ok
     ok
+    ok
     (λ c.
     let w = c .before in
-    rw (c .from-exact-add .ensures, w .f64-add .ensures, w .before .new .ensures, w .before .before .before .log-parts .ensures)))
+    let p = w .before .before .before .before in
+    rw (c .from-exact-add .ensures, w .f64-add .ensures, w .before .new .ensures, p .log-poly-1 .ensures, p .before .log-parts .ensures)))

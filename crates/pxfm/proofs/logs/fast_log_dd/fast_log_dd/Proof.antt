@@ -1,4 +1,4 @@
--- `fast_log_dd`: `log_parts` asks of the high part what is required here; the equations of its four calls rewrite the result to the definition's.
+-- `fast_log_dd`: `log_parts` asks of the high part what is required here; the equations of its calls rewrite the result to the definition's.
 -- Assumes nothing.
 use borrow.Author.Needs.{needs}
 use Rattle.pxfm.specs.FastLogDd.{fastLogDd}
@@ -15,6 +15,13 @@ fast-log-dd-spec =
     (λ c κs. search needs)
     ok
     ok
+    ok
     (λ c.
-    let s = c .before .before .before in
-    rw (c .f64-add .ensures, c .before .new .ensures, s .log-parts .ensures, s .before .log-lo .ensures)))
+    let p = c .before .before .before .before in
+    rw (
+      c .f64-add .ensures,
+      c .before .new .ensures,
+      p .log-poly-1 .ensures,
+      p .before .log-parts .ensures,
+      p .before .before .log-lo .ensures,
+    )))

@@ -15,27 +15,25 @@ returns c =
     let c1 = c .before in
     let c2 = c1 .before in
     let c3 = c2 .before in
-    let c4 = c3 .before in
-    let c5 = c4 .before .before .before in
+    let c4 = c3 .before .before .before in
+    let c5 = c4 .before in
     let c6 = c5 .before in
-    let c7 = c6 .before in
-    let c8 = c7 .before .before in
+    let c7 = c6 .before .before in
+    let c8 = c7 .before in
     let c9 = c8 .before in
-    let c10 = c9 .before in
     rw (
-      c .log-poly-1 .ensures,
-      c1 .f64-add .ensures,
-      c2 .new2 .ensures,
-      c3 .mul-f64-add .ensures,
-      c4 .new .ensures,
-      c5 .exponent .ensures,
-      c6 .dd-fmla .ensures,
-      c7 .reduced .ensures,
-      c8 .row-at .ensures .inverse,
-      c8 .row-at .ensures .low,
-      c8 .row-at .ensures .high,
-      c9 .index .ensures .0,
-      c10 .scale .ensures .0,
+      c .f64-add .ensures,
+      c1 .new2 .ensures,
+      c2 .mul-f64-add .ensures,
+      c3 .new .ensures,
+      c4 .exponent .ensures,
+      c5 .dd-fmla .ensures,
+      c6 .reduced .ensures,
+      c7 .row-at .ensures .inverse,
+      c7 .row-at .ensures .low,
+      c7 .row-at .ensures .high,
+      c8 .index .ensures .0,
+      c9 .scale .ensures .0,
     )
 
 pub log-parts-spec : {M : Type 1} → statement M
@@ -52,7 +50,6 @@ log-parts-spec =
     (λ c κs. search needs)
     (λ c. plain-low (c .before .before .before .before .before .row-at .ensures))
     (λ c. plain-high (c .before .before .before .before .before .before .row-at .ensures))
-    ok
     ok
     ok
     ok
