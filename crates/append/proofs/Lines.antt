@@ -1,6 +1,6 @@
 -- The verdict's line, as the code puts its parts one behind another.
 -- Assumes nothing.
-use mathlib.Core.Path.{_≡_, refl, sym, ap, _∙_}
+use mathlib.Core.Path.{_≡_, ap}
 use Prim.Native.Nat.{ℕ}
 use mathlib.Core.List.{List, [], _∷_, _++_, append-assoc}
 use Rattle.listing.specs.Listing.{space, newline, spaced, lineOf}

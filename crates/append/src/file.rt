@@ -1,7 +1,6 @@
 // The journal's file. It is read once; where the append extends the journal a torn tail is cut off, and then the record's bytes are written
 // behind the committed records, front to back: from then on the file is those records and a prefix of the new one.
 ghost use Prim.Native.Nat.{_≤_};
-ghost use lib.ListN.{length};
 ghost use Rattle.journal_spec.specs.Scan.{maxLength};
 use crate::extend::extend;
 use crate::output::complain;

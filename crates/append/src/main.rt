@@ -6,7 +6,6 @@ mod input;
 mod output;
 mod verdict;
 
-ghost use lib.ListN.{length};
 use arguments::Number;
 
 fn main() {

@@ -1,6 +1,5 @@
 // The verdict of an append as a line of text, put at the front of a lent buffer.
 // The line of a damaged journal is the listing's.
-ghost use mathlib.Core.Path.{_≡_};
 ghost use mathlib.Core.List.{[], _∷_};
 ghost use Rattle.hex.specs.Hex.{decimalDigits};
 ghost use Rattle.hex.specs.Text.{Put};

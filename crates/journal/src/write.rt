@@ -1,6 +1,5 @@
 // Writes a record's bytes, front to back, into the part of the slice that is lent, as far as the budget's end.
 // Every byte goes through `step`, which writes the next one and no other; a writer's place advances through `step` alone.
-ghost use mathlib.Core.Path.{_≡_};
 ghost use Prim.Native.Nat.{_≤_, _<_};
 ghost use lib.ListN.{length};
 ghost use Rattle.journal_spec.specs.Bytes.{bytesOf};

@@ -1,4 +1,3 @@
--- The laws of a line's fields, of bytes put into the buffer, and of a chunk of lines.
-mod Fields
+-- The laws of bytes put into the buffer, and of a chunk of lines.
 mod Filling
 mod Chunk

@@ -6,7 +6,7 @@ use mathlib.Core.List.{List}
 use lib.Dec.{eqb}
 use lib.ListN.{length, getD}
 use Rattle.hex.specs.Hex.{readHex}
-use Rattle.lines.specs.Lines.{fieldOf, afterField}
+use Rattle.lines.specs.Lines.{fieldOf, afterField, afterThree}
 use Rattle.journal_cases.specs.declared.line.Case.{Case}
 use Rattle.journal_cases.specs.declared.line.Case.the-variants as A
 
@@ -22,9 +22,7 @@ caseKind letter place n i =
 -- the three numbers behind a letter: 5, 16 and 16 digits
 unfoldable pub caseNumbers : List ℕ → ℕ → Case
 caseNumbers s letter =
-    afterField A.Malformed (fieldOf (readHex s 2 5)) (λ place.
-    afterField A.Malformed (fieldOf (readHex s 8 16)) (λ n.
-    afterField A.Malformed (fieldOf (readHex s 25 16)) (λ i. caseKind letter place n i)))
+    afterThree A.Malformed (fieldOf (readHex s 2 5)) (fieldOf (readHex s 8 16)) (fieldOf (readHex s 25 16)) (caseKind letter)
 
 -- a line: 56 bytes, the last one a line end
 unfoldable pub caseOf : List ℕ → Case

@@ -6,7 +6,7 @@ use mathlib.Core.List.{List}
 use lib.Dec.{eqb}
 use lib.ListN.{length, getD}
 use Rattle.hex.specs.Hex.{readHex}
-use Rattle.lines.specs.Lines.{fieldOf, afterField}
+use Rattle.lines.specs.Lines.{fieldOf, afterThree}
 use Rattle.journal_history.specs.declared.line.Line.{Line}
 
 -- what stands for a line of another form: no line has the letter 0
@@ -16,9 +16,8 @@ noLine = record { letter = 0; x = 0; y = 0; z = 0 }
 -- the three numbers behind a letter, 16 digits each; where one is none it is no line
 unfoldable pub parsedNumbers : List ℕ → ℕ → Line
 parsedNumbers s letter =
-    afterField noLine (fieldOf (readHex s 2 16)) (λ x.
-    afterField noLine (fieldOf (readHex s 19 16)) (λ y.
-    afterField noLine (fieldOf (readHex s 36 16)) (λ z. record { letter = letter; x = x; y = y; z = z })))
+    afterThree noLine (fieldOf (readHex s 2 16)) (fieldOf (readHex s 19 16)) (fieldOf (readHex s 36 16))
+    (λ x y z. record { letter = letter; x = x; y = y; z = z })
 
 -- a line: 53 bytes, the last one a line end
 unfoldable pub parsedLine : List ℕ → Line

@@ -4,7 +4,7 @@ use mathlib.Core.Path.{_≡_, refl}
 use mathlib.Core.List.{[], _∷_}
 use Prim.Native.Nat.{ℕ}
 use lib.Count.{leadingZeros}
-use lib.Ieee.{Float, binary64, ofBits, toBits, ofInt, isNan, eq, lt, le, add, sub, mul, div, neg, round}
+use lib.Ieee.{binary64, ofBits, toBits, ofInt, isNan, eq, lt, le, add, sub, mul, div, neg, round}
 use Rattle.sqrt.specs.Sqrt.{isqrt, roundRoot, roundSqrt, sqrtIn, sqrtOf}
 use Rattle.pxfm.specs.DoubleDouble.{fromBitPair, negOf, splitOf, fromExactMult, fromExactAdd, fromFullExactAdd, fullAddF64, f64Add, quickMult}
 use Rattle.pxfm.specs.DoubleDouble.{quickMultF64, mulAdd, mulF64Add, divOf, recipOf, fastSqrt, toF64, ddF64MulAdd, log2Dd}

@@ -1,13 +1,13 @@
 -- A field that holds a number was read, and the number fits its digits; what a field leads to, case by case. Assumes nothing.
 use Prim.Native.Nat.{ℕ, _^_, _<_}
-use mathlib.Core.Path.{_≡_, refl}
+use mathlib.Core.Path.{_≡_}
 use mathlib.Core.List.{List}
 use native.Mathlib.Omega.{arith}
 use Rattle.hex.specs.Hex.{readHex}
 use Rattle.hex.specs.declared.read.Number.{Number}
 use Rattle.hex.specs.declared.read.Number.the-variants as N
 use Rattle.hex.proofs.Reading.{read-hex-below}
-use Rattle.lines.specs.Lines.{fieldOf, afterField}
+use Rattle.lines.specs.Lines.{fieldOf, afterField, afterThree}
 use Rattle.lines.specs.declared.field.Field.{Field}
 use Rattle.lines.specs.declared.field.Field.the-variants as F
 
@@ -32,3 +32,24 @@ field-good none f n next e = rw (e, afterField)
 pub field-bad : {A : Type 0} (none : A) (f : Field) (next : ℕ → A) → f ≡ F.Nothing → none ≡ afterField none f next
 unfolding afterField
 field-bad none f next e = rw (e, afterField)
+
+module _ {A : Type 0} (none : A) (f g h : Field) (next : ℕ → ℕ → ℕ → A) where
+  -- three fields that hold numbers go on with them
+  pub three-read : (x y z : ℕ) → f ≡ F.Value x → g ≡ F.Value y → h ≡ F.Value z → next x y z ≡ afterThree none f g h next
+  unfolding afterField afterThree
+  three-read x y z e i j = rw (e, i, j)
+
+  -- the third holds none
+  pub third-missing : (x y : ℕ) → f ≡ F.Value x → g ≡ F.Value y → h ≡ F.Nothing → none ≡ afterThree none f g h next
+  unfolding afterField afterThree
+  third-missing x y e i j = rw (e, i, j)
+
+  -- the second holds none
+  pub second-missing : (x : ℕ) → f ≡ F.Value x → g ≡ F.Nothing → none ≡ afterThree none f g h next
+  unfolding afterField afterThree
+  second-missing x e i = rw (e, i)
+
+  -- the first holds none
+  pub first-missing : f ≡ F.Nothing → none ≡ afterThree none f g h next
+  unfolding afterField afterThree
+  first-missing e = rw e

@@ -22,6 +22,10 @@ unfoldable pub afterField : {A : Type 0} → A → Field → (ℕ → A) → A
 afterField none (F.Value n) next = next n
 afterField none F.Nothing next = none
 
+-- the numbers of three fields go on together; where one holds none, the answer is the first argument
+unfoldable pub afterThree : {A : Type 0} → A → Field → Field → Field → (ℕ → ℕ → ℕ → A) → A
+afterThree none f g h next = afterField none f (λ x. afterField none g (λ y. afterField none h (λ z. next x y z)))
+
 -- the end of a line of so many bytes from a place on, or of the bytes
 abbrev pub lineEnd : ℕ → ℕ → ℕ → ℕ
 lineEnd at width len = at + min width (len - at)

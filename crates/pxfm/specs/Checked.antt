@@ -1,6 +1,5 @@
 -- The functions whose argument has a range, for every argument: a pair of NaN outside of it.
 -- The comparison with the Rust calls these; the quantile calls the functions themselves, inside their range.
-use Prim.Native.Nat.{ℕ}
 use mathlib.Core.Bool.{Bool, cond, _&&_}
 use lib.Dec.{ltb}
 use lib.Ieee.{Float, nan, binary64, toBits, lt}

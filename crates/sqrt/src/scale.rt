@@ -1,7 +1,6 @@
 // The scaled significand: a double above zero as q * 2^54 * 4^z, with a q of 53 or 54 binary digits,
 // in units of the square of the smallest double. The root of q * 2^54 then has 54 binary digits.
-ghost use mathlib.Core.Path.{_≡_};
-ghost use Prim.Native.Nat.{_*_, _^_, _<_, _≤_};
+ghost use Prim.Native.Nat.{_*_, _^_, _<_};
 ghost use lib.Ieee.{binary64, ofBits};
 ghost use Rattle.sqrt.specs.Sqrt.{radicand};
 ghost use Rattle.sqrt.specs.Steps.{IsScaled};

@@ -1,8 +1,6 @@
 // The line of the end state, without the records' lines: a listing of which no record is left.
 // The journal is scanned once.
-ghost use mathlib.Core.Path.{_≡_};
-ghost use Prim.Native.Nat.{_≤_};
-ghost use lib.ListN.{length, take};
+ghost use lib.ListN.{length};
 ghost use Rattle.hex.specs.Text.{Put};
 ghost use Rattle.journal_spec.specs.Scan.{scanOf};
 ghost use Rattle.listing.specs.Listing.{stateLine};

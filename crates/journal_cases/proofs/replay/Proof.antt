@@ -1,6 +1,6 @@
 -- `replay` is safe and ends. The measure is the number of turns that are left; from turn to turn the buffer keeps its length.
 -- Assumes nothing.
-use mathlib.Core.Path.{_≡_, sym}
+use mathlib.Core.Path.{_≡_}
 use native.Mathlib.Omega.{arith}
 use lib.ListN.{length}
 use Rattle.journal_cases.proofs.replay.Statement.{statement}

@@ -1,7 +1,7 @@
 -- `bytes_at` takes the bytes in from the last down: its loop keeps the value of the bytes passed.
 -- The measure is the number of bytes left. Assumes nothing.
 use mathlib.Core.Path.{_≡_, ap}
-use Prim.Native.Nat.{ℕ, _+_, _-_, _*_, _<_, _^_}
+use Prim.Native.Nat.{ℕ, _+_, _-_, _<_, _^_}
 use native.Mathlib.Omega.{arith}
 use denote.Ref.{now}
 use lib.ListN.{getD}

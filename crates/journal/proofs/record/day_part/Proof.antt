@@ -1,6 +1,6 @@
 -- `day_part` judges the day by the range from the last record's day to the greatest u16, which no two bytes exceed.
 -- Assumes nothing.
-use mathlib.Core.Path.{sym, ap, _∙_}
+use mathlib.Core.Path.{ap, _∙_}
 use Prim.Native.Nat.{ℕ}
 use native.Mathlib.Omega.{arith}
 use borrow.Author.Needs.{needs}

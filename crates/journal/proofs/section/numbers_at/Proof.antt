@@ -1,6 +1,5 @@
 -- `numbers_at` passes one number a turn: its loop keeps the least value of the next one and the sums of those passed.
 -- The measure is how many numbers are left. Assumes nothing.
-use mathlib.Core.Path.{sym, _∙_}
 use Prim.Native.Nat.{_≤_}
 use native.Mathlib.Omega.{arith}
 use borrow.Author.Needs.{needs}

@@ -1,6 +1,6 @@
 -- `section_at` reads the count and then so many numbers: each return is what the section's reader finds by the count's answer.
 -- Assumes nothing.
-use mathlib.Core.Path.{sym, _∙_}
+use mathlib.Core.Path.{_∙_}
 use native.Mathlib.Omega.{arith}
 use borrow.Author.Needs.{needs}
 use denote.Ref.{now}

@@ -1,5 +1,4 @@
 -- `compare` is its definition by what the line asks. Assumes nothing.
-use mathlib.Core.Path.{_≡_, _∙_, sym}
 use borrow.Author.Needs.{needs}
 use Rattle.journal_cases.specs.Compare.{comparedWith}
 use Rattle.journal_cases.proofs.compare.compare.Statement.{statement}

@@ -1,5 +1,4 @@
 -- `mark_agrees` hands the word of the export on. Assumes nothing.
-use mathlib.Core.Path.{_∙_}
 use Rattle.journal_cases.specs.Compare.{markAgrees}
 use borrow.Author.Needs.{needs}
 use Rattle.journal_cases.proofs.compare.mark_agrees.Statement.{statement}

@@ -1,5 +1,4 @@
 -- `part_agrees` hands the two words of the export on. Assumes nothing.
-use mathlib.Core.Path.{_∙_}
 use Rattle.journal_cases.specs.Compare.{partAgrees}
 use borrow.Author.Needs.{needs}
 use Rattle.journal_cases.proofs.compare.part_agrees.Statement.{statement}

@@ -1,5 +1,4 @@
 -- `scan_agrees` hands the three words of the export on. Assumes nothing.
-use mathlib.Core.Path.{_∙_}
 use Rattle.journal_cases.specs.Compare.{scanAgrees}
 use borrow.Author.Needs.{needs}
 use Rattle.journal_cases.proofs.compare.scan_agrees.Statement.{statement}

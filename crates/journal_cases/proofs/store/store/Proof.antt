@@ -1,5 +1,4 @@
 -- `store` is its definition by what the line asks. Assumes nothing.
-use mathlib.Core.Path.{_≡_}
 use borrow.Author.Needs.{needs}
 use Rattle.journal_cases.specs.Store.{storedBy}
 use Rattle.journal_cases.proofs.store.store.Statement.{statement}

@@ -1,47 +1,44 @@
 -- `parse_numbers` reads the three numbers one after another: one return where all stand, one for each that does not. Assumes nothing.
 use mathlib.Core.Path.{_∙_, sym}
 use borrow.Author.Needs.{needs}
-use Rattle.journal_history.specs.Line.{noLine}
-use Rattle.journal_history.proofs.Fields.{numbers-read, third-missing, second-missing, first-missing}
+use Rattle.journal_history.specs.Line.{noLine, parsedNumbers}
+use Rattle.lines.proofs.Fields.{three-read, third-missing, second-missing, first-missing}
 use Rattle.journal_history.proofs.line.parse_numbers.Statement.{statement}
 use Rattle.journal_history.proofs.line.parse_numbers.Tie as tie
 
 returns : tie.Need-returns
+unfolding parsedNumbers
 returns c =
     let third = c .before in
     let second = third .before .before .before .before in
     let first = second .before .before .before .before in
-    let a = first .before .before .before .before .args in
-    numbers-read (a .line .now) (a .letter) (first .x .given .0 .0) (second .y .given .0 .0) (third .z .given .0 .0)
+    three-read _ _ _ _ _ (first .x .given .0 .0) (second .y .given .0 .0) (third .z .given .0 .0)
     (sym (first .before .before .number-at .ensures) ∙ first .x .given .1)
     (sym (second .before .before .number-at2 .ensures) ∙ second .y .given .1)
     (sym (third .before .before .number-at3 .ensures) ∙ third .z .given .1)
 
 returns-2 : tie.Need-returns-2
-unfolding noLine
+unfolding noLine parsedNumbers
 returns-2 c =
     let second = c .before .before .before .before in
     let first = second .before .before .before .before in
-    let a = first .before .before .before .before .args in
-    third-missing (a .line .now) (a .letter) (first .x .given .0 .0) (second .y .given .0 .0)
+    third-missing _ _ _ _ _ (first .x .given .0 .0) (second .y .given .0 .0)
     (sym (first .before .before .number-at .ensures) ∙ first .x .given .1)
     (sym (second .before .before .number-at2 .ensures) ∙ second .y .given .1)
     (sym (c .before .before .number-at3 .ensures) ∙ c .enum-told .given .1)
 
 returns-3 : tie.Need-returns-3
-unfolding noLine
+unfolding noLine parsedNumbers
 returns-3 c =
     let first = c .before .before .before .before in
-    let a = first .before .before .before .before .args in
-    second-missing (a .line .now) (a .letter) (first .x .given .0 .0)
+    second-missing _ _ _ _ _ (first .x .given .0 .0)
     (sym (first .before .before .number-at .ensures) ∙ first .x .given .1)
     (sym (c .before .before .number-at2 .ensures) ∙ c .enum-told2 .given .1)
 
 returns-4 : tie.Need-returns-4
-unfolding noLine
+unfolding noLine parsedNumbers
 returns-4 c =
-    let a = c .before .before .before .before .args in
-    first-missing (a .line .now) (a .letter) (sym (c .before .before .number-at .ensures) ∙ c .enum-told3 .given .1)
+    first-missing _ _ _ _ _ (sym (c .before .before .number-at .ensures) ∙ c .enum-told3 .given .1)
 
 pub parse-numbers-spec : {M : Type 1} → statement M
 parse-numbers-spec =

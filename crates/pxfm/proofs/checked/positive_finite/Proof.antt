@@ -1,6 +1,5 @@
 -- `positive_finite`: the test x != x tells a NaN, whose pattern is above the infinity's, so the definition is false too;
 -- for a number, not 0 is above 0, and what is left is the definition's second test. Assumes nothing.
-use native.Mathlib.Omega.{arith}
 use lib.Ieee.{toBits}
 use borrow.Author.Tests.{lt-ltb}
 use Rattle.sqrt.proofs.Nans.{is-nan, no-nan}

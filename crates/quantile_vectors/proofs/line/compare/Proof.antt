@@ -1,5 +1,5 @@
 -- `quantile_vectors::line::compare` meets its contract: one return a test of the line's shape. Assumes nothing.
-use mathlib.Core.Path.{_≡_, _∙_, sym}
+use mathlib.Core.Path.{_∙_, sym}
 use borrow.Author.Needs.{needs}
 use borrow.Author.Tests.{eq-eqb, ne-eqb}
 use Rattle.quantile_vectors.specs.Replay.{comparedLine}

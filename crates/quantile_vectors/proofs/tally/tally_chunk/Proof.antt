@@ -1,9 +1,7 @@
 -- `quantile_vectors::tally::tally_chunk` meets its contract. The invariant is `Replayed`; the measure is what is left of the
 -- chunk. Assumes nothing.
 use Prim.Native.Nat.{_-_, _≤_}
-use mathlib.Core.Path.{_≡_}
 use native.Mathlib.Omega.{arith}
-use borrow.Author.Needs.{needs}
 use lib.ListN.{length}
 use Rattle.lines.proofs.Replay.{Replayed, replay-starts, replay-turn, replay-ends}
 use Rattle.quantile_vectors.specs.Replay.{stepped, tallied}

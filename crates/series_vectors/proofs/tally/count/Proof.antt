@@ -1,6 +1,6 @@
 -- `series_vectors::tally::count` meets its contract: one return a case of the line. Assumes nothing.
 use mathlib.Core.Path.{_≡_, _∙_, sym}
-use Rattle.series_vectors.specs.Series.{counted, countedAt}
+use Rattle.series_vectors.specs.Series.{counted}
 use Rattle.series_vectors.specs.declared.line.Measured.the-variants as M
 use borrow.Author.Needs.{needs}
 use Rattle.series_vectors.proofs.tally.count.Statement.{statement}

@@ -1,7 +1,7 @@
 -- `f_erfcinv`: each return is rewritten by the outcomes of the tests before it, which are the definition's in the same order.
 -- 0 / 0 and ±1 / 0 are computed to be the NaN and the infinities. The tests on the way are what the last two calls require. Assumes nothing.
 use mathlib.Core.Path.{_≡_, _∙_, sym}
-use mathlib.Core.Bool.{true, false}
+use mathlib.Core.Bool.{false}
 use Prim.Native.Nat.{_+_, _%_, _^_}
 use lib.Dec.{eqb, leb}
 use lib.Ieee.{binary64, toBits, ofBits, isNan, div, neg}
