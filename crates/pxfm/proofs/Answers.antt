@@ -21,6 +21,7 @@ use Rattle.pxfm.specs.Inverfc.{fErfcinv}
 use Rattle.pxfm.proofs.Value.{Val}
 use Rattle.pxfm.proofs.Units.{val-whole}
 use Rattle.pxfm.proofs.Order.{val-of-lt}
+use Rattle.pxfm.proofs.Ranges.{zero-val}
 use Rattle.pxfm.proofs.Bits.{pattern, bits-of-units, BelowTwo, bits-below-two}
 
 pub nan-answer : fErfcinv nan ≡ nan
@@ -158,12 +159,9 @@ not-below a h = omega arith
 not-above : (a b : ℕ) → a < b → b + 0 < a + 0 → ⊥
 not-above a b h g = omega arith
 
-fails : (b : Bool) → (T b → ⊥) → b ≡ false
-fails true h = absurd (h tt)
-fails false h = refl
-
-zero-val : Val binary64 zero 0 0 0
-zero-val = val-whole {x = zero} (unfold ofBits in (refl, refl))
+refuted : (b : Bool) → (T b → ⊥) → b ≡ false
+refuted true h = absurd (h tt)
+refuted false h = refl
 
 two-val : Val binary64 two (2 ^ 1075) 0 0
 two-val = val-whole {x = two} (unfold ofBits in (refl, refl))
@@ -172,10 +170,10 @@ within-val : (x : Float) (w : BelowTwo x) → Val binary64 x (w .a) 0 0
 within-val x w = val-whole {x = x} (w .val)
 
 within-not-below : (x : Float) → BelowTwo x → lt x zero ≡ false
-within-not-below x w = fails (lt x zero) (λ h. not-below (w .a) (val-of-lt (within-val x w) zero-val h))
+within-not-below x w = refuted (lt x zero) (λ h. not-below (w .a) (val-of-lt (within-val x w) (zero-val 0) h))
 
 within-not-above : (x : Float) → BelowTwo x → lt two x ≡ false
-within-not-above x w = fails (lt two x) (λ h. not-above (w .a) (2 ^ 1075) (w .high) (val-of-lt two-val (within-val x w) h))
+within-not-above x w = refuted (lt two x) (λ h. not-above (w .a) (2 ^ 1075) (w .high) (val-of-lt two-val (within-val x w) h))
 
 below-zero-outside : Outside (λ x. lt x zero)
 unfolding lt ofBits

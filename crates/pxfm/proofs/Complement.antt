@@ -1,4 +1,4 @@
--- Both parts of 1 - x and of 2 - x. For 1 - x from 0.5 up and for 2 - x above 1 nothing is rounded: every intermediate
+-- 1 - x and 2 - x as the pairs' steps give them. For 1 - x from 0.5 up and for 2 - x above 1 nothing is rounded: every intermediate
 -- result is a whole number of units of 2 ^ -53 whose digits fit. Below 0.5 a step of the sum rounds by at most 8 units of
 -- 2 ^ -56, and the errors add up. Assumes nothing.
 use mathlib.Core.Path.{_≡_, refl, ap, _∙_}
@@ -38,14 +38,12 @@ module _ {x : Float} {p n : ℕ} (v : Val binary64 x p n 1021) (lo : n < p) (hi 
       let t4 = exact64 (sub-rounds w t2) 0 0 (omega arith) in
       record { high = h; low = exact64 (add-rounds t3 t4) 0 0 (omega arith) }
 
-  pub complement-exact : ExactPair (complement (newOf zero x)) (2 ^ 53 + n) p 1021
+  pub complement-exact : Val binary64 (complement (newOf zero x) .hi) (2 ^ 53 + n) p 1021
   unfolding complement fullAddF64 negOf fromExactAdd
   complement-exact =
       let h = one-less .high in
       let l = exact64 (add-rounds (neg-val (zero-val 1021)) (one-less .low)) 0 0 (omega arith) in
-      let r = exact64 (add-rounds h l) (2 ^ 53 + n) p (omega arith) in
-      let t = exact64 (sub-rounds r h) 0 0 (omega arith) in
-      record { high = r; low = exact64 (sub-rounds l t) 0 0 (omega arith) }
+      exact64 (add-rounds h l) (2 ^ 53 + n) p (omega arith)
 
 -- x is between 1 and 2.
 module _ {x : Float} {a : ℕ} (v : Val binary64 x (2 * a) 0 1021) (lo : 2 ^ 52 < a) (hi : a < 2 ^ 53) where
@@ -84,7 +82,7 @@ module _ {x : Float} {a : ℕ} (v : Val binary64 x (2 * a) 0 1021) (lo : 2 ^ 52 
 -- ---- pairs with an error
 
 -- The high part is within e of p - n, the low part within d of zero.
-pub record NearPair (r : DoubleDouble) (p n j e d : ℕ) : Type 0 where
+record NearPair (r : DoubleDouble) (p n j e d : ℕ) : Type 0 where
   pub high : Off (r .hi) p n j e
   pub low : Off (r .lo) 0 0 j d
 
@@ -102,11 +100,9 @@ module _ {x : Float} {a : ℕ} (v : Val binary64 x a 0 1018) (hi : a < 2 ^ 55) w
       let t4 = sub-off 0 0 0 0 w t2 (omega arith) in
       record { high = h; low = add-off 0 0 0 0 t3 t4 (omega arith) }
 
-  pub complement-near : NearPair (complement (newOf zero x)) (2 ^ 56) a 1018 64 120
+  pub complement-near : Off (complement (newOf zero x) .hi) (2 ^ 56) a 1018 64
   unfolding complement fullAddF64 negOf fromExactAdd
   complement-near =
       let h = one-less-near .high in
       let l = add-off 0 0 0 0 (off-none (neg-val (zero-val 1018))) (one-less-near .low) (omega arith) in
-      let r = add-off 8 4 (2 ^ 56) a h l (omega arith) in
-      let t = sub-off 0 0 0 0 r h (omega arith) in
-      record { high = r; low = sub-off 0 0 0 0 l t (omega arith) }
+      add-off 8 4 (2 ^ 56) a h l (omega arith)

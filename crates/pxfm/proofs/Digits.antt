@@ -13,9 +13,6 @@ lt-of-pow-lt a b h = lt-of-not-le (λ (g : b ≤ a). not-le-of-lt h (pow-mono g)
 pub lt-of-mul-lt : {a b : ℕ} (k : ℕ) → a * k < b * k → a < b
 lt-of-mul-lt {a} {b} k h = lt-of-not-le (λ (g : b ≤ a). not-le-of-lt h (mul-le-mul-right k g))
 
-pub size-mono : (a b : ℕ) → a ≤ b → size a ≤ size b
-size-mono a b h = size-le a (size b) (lt-of-le-of-lt h (size-lt b))
-
 pub size-above : (a n : ℕ) → 2 ^ a ≤ n → a < size n
 size-above a n h = lt-of-pow-lt a (size n) (lt-of-le-of-lt h (size-lt n))
 

@@ -4,16 +4,12 @@ pub mod Calls
 pub mod Nan
 pub mod Digits
 pub mod Value
-pub mod Product
 pub mod Exact
 pub mod Error
 pub mod Units
 pub mod Order
 pub mod Bits
 pub mod Unique
-pub mod Monotone
-pub mod Span
-pub mod Magnitude
 pub mod Ranges
 pub mod Complement
 pub mod Argument

@@ -2,19 +2,15 @@
 -- The comparison with the Rust calls these; the quantile calls the functions themselves, inside their range.
 use mathlib.Core.Bool.{Bool, cond, _&&_}
 use lib.Dec.{ltb}
-use lib.Ieee.{Float, nan, binary64, toBits, lt}
+use lib.Ieee.{Float, binary64, toBits, lt}
 use Rattle.pxfm.specs.declared.double_double.DoubleDouble.{DoubleDouble}
-use Rattle.pxfm.specs.DoubleDouble.{newOf, one}
+use Rattle.pxfm.specs.DoubleDouble.{nanPair, one}
 use Rattle.pxfm.specs.FastLogDd.{fastLogDd, fastLogDToDd}
 use Rattle.pxfm.specs.Inverfc.{erfCore}
 
 -- x is positive and finite: its bit pattern lies between that of 0 and that of the infinity.
 unfoldable pub positiveFinite : Float → Bool
 positiveFinite x = ltb 0 (toBits binary64 x) && ltb (toBits binary64 x) 0x7ff0_0000_0000_0000
-
--- A pair of NaN.
-abbrev pub nanPair : DoubleDouble
-nanPair = newOf nan nan
 
 -- The logarithm of a pair with a positive finite high part.
 unfoldable pub checkedLogDd : DoubleDouble → DoubleDouble

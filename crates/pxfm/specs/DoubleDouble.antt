@@ -1,7 +1,7 @@
 -- Pairs of doubles, low part and high part, and the arithmetic on them (document 01, src/double_double.rs).
 -- Each line is one rounded operation of IEEE 754, in the order in which the Rust takes them where there is no fma.
 use Prim.Native.Nat.{ℕ}
-use lib.Ieee.{Float, binary64, ofBits, neg, add, sub, mul, div}
+use lib.Ieee.{Float, nan, binary64, ofBits, neg, add, sub, mul, div}
 use Rattle.sqrt.specs.Sqrt.{sqrtOf}
 use Rattle.pxfm.specs.declared.double_double.DoubleDouble.{DoubleDouble}
 use Rattle.pxfm.specs.declared.double_double.BitPair.{BitPair}
@@ -17,6 +17,10 @@ bitPair lo hi = record { lo = lo; hi = hi }
 -- The pair with these bit patterns.
 unfoldable pub fromBitPair : BitPair → DoubleDouble
 fromBitPair pair = newOf (ofBits binary64 (pair .lo)) (ofBits binary64 (pair .hi))
+
+-- A pair of NaN.
+abbrev pub nanPair : DoubleDouble
+nanPair = newOf nan nan
 
 -- The double 1.
 abbrev pub one : Float

@@ -77,7 +77,8 @@ middle x = let k = quickRational x in cond (roundsAlike k) k (inverf0p06To0p75 x
 unfoldable pub zetaSqrt : DoubleDouble → DoubleDouble
 zetaSqrt log = fastSqrt (negOf (fromExactAdd (log .hi) (log .lo)))
 
--- By an asymptotic rational, from the logarithm of the distance to the end: the shorter or the longer one.
+-- By the shorter or the longer asymptotic rational, from the logarithm of x itself (below 0.1) or of 1 - x (above 0.75).
+-- In the code both branches hold these steps, as in the Rust.
 unfoldable pub asymptotic : DoubleDouble → Bool → DoubleDouble
 asymptotic log short =
     let root = zetaSqrt log in

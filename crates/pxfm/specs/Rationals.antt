@@ -3,9 +3,9 @@
 use Prim.Native.Nat.{ℕ}
 use mathlib.Core.List.{List, [], _∷_}
 use lib.ListN.{getD}
-use lib.Ieee.{nan, binary64, ofBits, neg}
+use lib.Ieee.{binary64, ofBits, neg}
 use Rattle.pxfm.specs.declared.double_double.DoubleDouble.{DoubleDouble}
-use Rattle.pxfm.specs.DoubleDouble.{newOf, one, bitPair, fromBitPair, quickMult, fullAddF64, mulAdd, mulAddF64, divOf}
+use Rattle.pxfm.specs.DoubleDouble.{nanPair, one, bitPair, fromBitPair, quickMult, fullAddF64, mulAdd, mulAddF64, divOf}
 
 -- The pair with these bit patterns.
 abbrev pub bits : ℕ → ℕ → DoubleDouble
@@ -13,7 +13,7 @@ bits lo hi = fromBitPair (bitPair lo hi)
 
 -- The pair at a place of a list of coefficients.
 abbrev pub at : List DoubleDouble → ℕ → DoubleDouble
-at t i = getD t i (newOf nan nan)
+at t i = getD t i nanPair
 
 -- Ten coefficients at z, with the powers 2, 4 and 8 of z.
 unfoldable pub paired10 : List DoubleDouble → DoubleDouble → DoubleDouble → DoubleDouble → DoubleDouble → DoubleDouble

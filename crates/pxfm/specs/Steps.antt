@@ -8,13 +8,13 @@ use Rattle.pxfm.specs.declared.double_double.DoubleDouble.{DoubleDouble}
 use Rattle.pxfm.specs.declared.double_double.BitPair.{BitPair}
 use Rattle.pxfm.specs.DoubleDouble.{newOf, bitPair, splitOf, fromExactMult, fromExactAdd, fromFullExactAdd, fromFullExactSub}
 use Rattle.pxfm.specs.DoubleDouble.{fastSqrt, mulAddF64, recipOf, divOf, mulF64Add, mulAdd, quickMult, quickMultF64}
-use Rattle.pxfm.specs.DoubleDouble.{fullAddF64, f64Add, negOf, toF64}
+use Rattle.pxfm.specs.DoubleDouble.{fullAddF64, f64Add, negOf, toF64, nanPair}
 use Rattle.pxfm.specs.Common.{fFmla, ddFmla}
 use Rattle.pxfm.specs.Polyeval.{fPolyeval4, fPolyeval5}
 use Rattle.pxfm.specs.PowExec.{logPoly1}
 use Rattle.pxfm.specs.Rationals.{inverf0p06To0p75, inverfAsymptSmall, inverfAsymptLong}
 use Rattle.pxfm.specs.Argument.{zero}
-use Rattle.pxfm.specs.Checked.{nanPair, checkedLogDd, checkedLogDToDd, checkedErfCore}
+use Rattle.pxfm.specs.Checked.{checkedLogDd, checkedLogDToDd, checkedErfCore}
 
 -- A result that is a double, as the high part beside a zero.
 abbrev pub single : Float → DoubleDouble

@@ -1,7 +1,8 @@
 // The functions whose argument has a range, for every argument: a pair of NaN outside of it.
 // The comparison with the Rust calls these; the quantile calls the functions themselves, inside their range.
 ghost use mathlib.Core.Path.{_≡_};
-ghost use Rattle.pxfm.specs.Checked.{positiveFinite, nanPair, checkedLogDd, checkedLogDToDd, checkedErfCore};
+ghost use Rattle.pxfm.specs.DoubleDouble.{nanPair};
+ghost use Rattle.pxfm.specs.Checked.{positiveFinite, checkedLogDd, checkedLogDToDd, checkedErfCore};
 use crate::double_double::DoubleDouble;
 use crate::err::inverfc;
 use crate::logs::fast_log_dd;

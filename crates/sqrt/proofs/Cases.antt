@@ -1,24 +1,10 @@
--- The cases that document 01 lists for the root, the other special operands, and two that are rounded.
--- Each is worked out from the definition alone. Assumes nothing.
+-- Special operands and roots that are rounded, each worked out from the definition alone. The cases that document 01 lists
+-- stand in the one table of them, in crate limit. Assumes nothing.
 use mathlib.Core.Path.{_≡_, refl}
 use lib.Ieee.{nan, binary32, binary64, ofBits, toBits}
 use Rattle.sqrt.specs.Sqrt.{sqrtIn, sqrtOf}
 
--- ---- those of document 01: 4 gives 2, the double with the bits 1 gives 2 ^ -537, and -0 gives -0
-
-pub sqrt-four : toBits binary64 (sqrtOf (ofBits binary64 0x4010000000000000)) ≡ 0x4000000000000000
-unfolding sqrtIn toBits ofBits
-sqrt-four = refl
-
-pub sqrt-smallest : toBits binary64 (sqrtOf (ofBits binary64 1)) ≡ 0x1e60000000000000
-unfolding sqrtIn toBits ofBits
-sqrt-smallest = refl
-
-pub sqrt-minus-zero : toBits binary64 (sqrtOf (ofBits binary64 0x8000000000000000)) ≡ 0x8000000000000000
-unfolding sqrtIn toBits ofBits
-sqrt-minus-zero = refl
-
--- ---- the other special operands
+-- ---- special operands
 
 pub sqrt-zero : toBits binary64 (sqrtOf (ofBits binary64 0)) ≡ 0
 unfolding sqrtIn toBits ofBits

@@ -478,8 +478,8 @@ pub(crate) fn inverf_0p06_to_0p75(x: DoubleDouble) -> DoubleDouble
     DoubleDouble::quick_mult(r, x)
 }
 
-// The asymptotic rationals are called from both branches, as in the Rust: the compiler draws a function with one caller into it,
-// and would then pack the steps in pairs, which takes longer (docs/DECISIONS.md 12).
+// The asymptotic rationals are called from both branches, as in the Rust: with one caller they would be inlined and vectorised,
+// which takes longer (docs/DECISIONS.md 12).
 pub(crate) fn inverf_asympt_small(z: DoubleDouble, zeta_sqrt: DoubleDouble) -> DoubleDouble
     ensures { λ r. ⌜ r ≡ inverfAsymptSmall z «zeta_sqrt» ⌝ }
 {

@@ -10,13 +10,19 @@ use crate::double_double::DoubleDouble;
 use crate::pow_exec;
 use crate::pow_tables;
 
+// The weight of a significand's leading bit.
+const UNIT: u64 = 0x10000000000000;
+
+// The least significand that stands for the root of 2 or more: from there on t is halved.
+const ROOT_TWO: u64 = 0x16a09e667f3bcd;
+
 // A significand of 53 bits and an exponent with 1074 added.
 pub(crate) struct Scaled {
     pub(crate) m: u64,
     pub(crate) e: u32,
 }
 
-// What both logarithms have in common.
+// What both logarithms have in common: z is r × t - 1, and v is e × log 2 - log r + z.
 pub(crate) struct Parts {
     pub(crate) v: DoubleDouble,
     pub(crate) z: f64,
@@ -37,7 +43,7 @@ fn scale(b: u64) -> Scaled
         };
     }
     Scaled {
-        m: b % 0x10000000000000 + 0x10000000000000,
+        m: b % UNIT + UNIT,
         e: e as u32 + 51,
     }
 }
@@ -48,7 +54,7 @@ fn index(m: u64) -> usize
     requires { ⌜ m < 2 ^ 53 ⌝ }
     ensures { λ r. ⌜ (r ≡ indexOf m) × (r < 182) ⌝ }
 {
-    if m >= 0x16a09e667f3bcd {
+    if m >= ROOT_TWO {
         (m >> 45) as usize - 181
     } else {
         (m >> 44) as usize - 181
@@ -59,14 +65,14 @@ fn index(m: u64) -> usize
 fn factor(m: u64) -> f64
     ensures { λ r. ⌜ r ≡ factorOf m ⌝ }
 {
-    if m >= 0x16a09e667f3bcd { 0.5 } else { 1.0 }
+    if m >= ROOT_TWO { 0.5 } else { 1.0 }
 }
 
 // The Rust's c: what the exponent is raised by.
 fn carry(m: u64) -> u32
     ensures { λ r. ⌜ (r ≡ carryOf m) × (r ≤ 1) ⌝ }
 {
-    if m >= 0x16a09e667f3bcd { 1 } else { 0 }
+    if m >= ROOT_TWO { 1 } else { 0 }
 }
 
 // The significand as a double, halved from the root of 2 on.
@@ -75,7 +81,7 @@ fn reduced(m: u64) -> f64
     requires { ⌜ m < 2 ^ 53 ⌝ }
     ensures { λ r. ⌜ r ≡ reducedOf m ⌝ }
 {
-    f64::from_bits(m % 0x10000000000000 + 0x3ff0000000000000) * factor(m)
+    f64::from_bits(m % UNIT + 0x3ff0000000000000) * factor(m)
 }
 
 // The exponent as a double, one more where the significand is halved.
@@ -87,6 +93,8 @@ fn exponent(m: u64, e: u32) -> f64
     be as f64 - 1074.0
 }
 
+// The reduction that both share. Each then calls the polynomial at z itself, as in the Rust: with one caller it would be inlined
+// and vectorised, which takes longer (docs/DECISIONS.md 12).
 fn log_parts(x: f64) -> Parts
     requires { ⌜ 0 < toBits binary64 x ⌝ }
     requires { ⌜ toBits binary64 x < 0x7ff0_0000_0000_0000 ⌝ }
