@@ -1,7 +1,8 @@
 // Numbers as text: hexadecimal and decimal digits written, hexadecimal digits read,
-// and bytes put into a lent line. No public function has a `requires`.
+// bytes put into a lent line, and two texts compared. No public function has a `requires`.
 mod digit;
 mod read;
+pub mod same;
 mod text;
 mod write;
 
