@@ -30,7 +30,7 @@ fn compare_edges(run: &mut Run) {
     run.group("edge doubles", edges());
     run.group("ends", ENDS.iter().flat_map(|bits| around(*bits, REACH)));
     run.group("cuts", CUTS.iter().flat_map(|x| around(x.to_bits(), REACH)));
-    run.group("logarithms' split", root_two_splits(20));
+    run.group("logarithms' split", root_two_splits(REACH));
     run.group("logarithms' bins", bin_edges());
     run.group("fma telling", FMA_TELLING);
     run.group("chances", CHANCES.map(chance));

@@ -1,20 +1,20 @@
 -- Worked examples of the definitions, by computing them.
 -- Assumes nothing.
 use mathlib.Core.Path.{_≡_, refl}
-use mathlib.Core.Bool.{true, false, cond}
-use mathlib.Core.List.{List, [], _∷_, _++_}
-use Prim.Native.Nat.{ℕ}
-use Rattle.arguments.specs.Arguments.{same, wordHelp, isHelp, isSpace, withDigit, digitAfter, numberFrom, readNumber}
-use Rattle.arguments.specs.Numbers.{Read, closedBy, closedOf, turnOf, readFrom, unread, numbersOf}
+use mathlib.Core.Bool.{true, false}
+use mathlib.Core.List.{[], _∷_}
+use Rattle.hex.specs.Same.{sameBytes}
+use Rattle.arguments.specs.Arguments.{wordHelp, isHelp, isSpace, withDigit, digitAfter, numberFrom, readNumber}
+use Rattle.arguments.specs.Numbers.{closedBy, closedOf, turnOf, readFrom, unread, numbersOf}
 use Rattle.arguments.specs.declared.digit.Number.the-variants as N
 
 -- `--help`, and not `--helq`
 help : isHelp (0x2d ∷ 0x2d ∷ 0x68 ∷ 0x65 ∷ 0x6c ∷ 0x70 ∷ []) ≡ true
-unfolding isHelp wordHelp same
+unfolding isHelp wordHelp sameBytes
 help = refl
 
 not-help : isHelp (0x2d ∷ 0x2d ∷ 0x68 ∷ 0x65 ∷ 0x6c ∷ 0x71 ∷ []) ≡ false
-unfolding isHelp wordHelp same
+unfolding isHelp wordHelp sameBytes
 not-help = refl
 
 -- 65535 is the largest day, 65536 is none; nor is `1 `

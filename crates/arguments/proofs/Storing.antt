@@ -12,7 +12,6 @@ use Rattle.arguments.specs.Arguments.{isSpace, digitAfter}
 use Rattle.arguments.specs.Numbers.{Read, Reads, closedBy, closedOf, turnOf, unread}
 use Rattle.arguments.specs.declared.digit.Number.{Number}
 use Rattle.arguments.specs.declared.digit.Number.the-variants as N
-use Rattle.arguments.specs.declared.numbers.Reading.{Reading}
 
 -- as many numbers as stand already, of these and more, are the same
 paste-longer : (d ns ms : List ℕ) (k : ℕ) → k ≤ length ns → paste d 0 (ns ++ ms) k ≡ paste d 0 ns k

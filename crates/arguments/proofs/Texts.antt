@@ -1,49 +1,19 @@
 -- Texts gone over a byte at a time: one turn of each loop, and what its end answers.
 -- Assumes nothing.
-use mathlib.Core.Path.{_≡_, refl, sym, ap, _∙_}
-use Prim.Native.Nat.{ℕ, zero, suc, _+_, _-_, _*_, _≤_, _<_}
+use mathlib.Core.Path.{_≡_, refl, ap, _∙_}
+use Prim.Native.Nat.{ℕ, _+_, _-_, _*_, _≤_, _<_}
 use mathlib.Core.Bool.{Bool, true, false, cond}
 use mathlib.Core.List.{List, [], _∷_}
 use native.Mathlib.Numerals.{add-one}
 use native.Mathlib.Omega.{arith}
-use borrow.Author.Tests.{eq-eqb, ne-eqb, ltb-false}
-use lib.Dec.{eqb, ltb}
+use borrow.Author.Tests.{ltb-false}
+use lib.Dec.{ltb}
 use lib.ListN.{length, getD, drop}
 use lib.Seq.{drop-cons, drop-length}
-use Rattle.arguments.specs.Arguments.{same, withDigit, digitAfter, numberFrom, readNumber}
+use Rattle.arguments.specs.Arguments.{withDigit, digitAfter, numberFrom, readNumber}
 use Rattle.arguments.specs.Numbers.{Read, turnOf, readFrom}
 use Rattle.arguments.specs.declared.digit.Number.{Number}
 use Rattle.arguments.specs.declared.digit.Number.the-variants as N
-
--- ---- two texts
-
-pub same-next : (a b : List ℕ) (i : ℕ) → i < length a → i < length b → getD a i 0 ≡ getD b i 0
-    → same (drop i a) (drop i b) ≡ same (drop (i + 1) a) (drop (i + 1) b)
-unfolding same
-same-next a b i ha hb e = rw (drop-cons a i 0 ha, drop-cons b i 0 hb, eq-eqb (getD a i 0) (getD b i 0) e, add-one)
-
-pub same-differs : (a b : List ℕ) (i : ℕ) → i < length a → i < length b → (getD a i 0 ≡ getD b i 0 → ⊥)
-    → same (drop i a) (drop i b) ≡ false
-unfolding same
-same-differs a b i ha hb e = rw (drop-cons a i 0 ha, drop-cons b i 0 hb, ne-eqb (getD a i 0) (getD b i 0) e)
-
-pub same-ends : (a b : List ℕ) (i : ℕ) → i ≡ length a → length a ≡ length b → same (drop i a) (drop i b) ≡ true
-unfolding same
-same-ends a b i e f =
-    let da : drop i a ≡ [] = ap (λ (k : ℕ). drop k a) e ∙ drop-length a in
-    let db : drop i b ≡ [] = ap (λ (k : ℕ). drop k b) (e ∙ f) ∙ drop-length b in
-    rw (da, db)
-
-cond-false : (t : Bool) → cond t false false ≡ false
-cond-false true = refl
-cond-false false = refl
-
-pub same-lengths : (a b : List ℕ) → (length a ≡ length b → ⊥) → same a b ≡ false
-unfolding same
-same-lengths [] [] h = absurd (h refl)
-same-lengths [] (y ∷ ys) h = refl
-same-lengths (x ∷ xs) [] h = refl
-same-lengths (x ∷ xs) (y ∷ ys) h = rw (same-lengths xs ys (λ e. h (ap suc e))) (cond-false (eqb x y))
 
 -- ---- one number
 

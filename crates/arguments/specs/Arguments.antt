@@ -4,15 +4,9 @@ use Prim.Native.Nat.{ℕ, _+_, _-_, _*_}
 use mathlib.Core.Bool.{Bool, true, false, cond}
 use mathlib.Core.List.{List, [], _∷_}
 use lib.Dec.{eqb, ltb}
+use Rattle.hex.specs.Same.{sameBytes}
 use Rattle.arguments.specs.declared.digit.Number.{Number}
 use Rattle.arguments.specs.declared.digit.Number.the-variants as N
-
--- whether two texts are the same bytes
-unfoldable pub same : List ℕ → List ℕ → Bool
-same [] [] = true
-same [] (d ∷ ds) = false
-same (c ∷ cs) [] = false
-same (c ∷ cs) (d ∷ ds) = cond (eqb c d) (same cs ds) false
 
 -- the word `--help`
 unfoldable pub wordHelp : List ℕ
@@ -20,7 +14,7 @@ wordHelp = 0x2d ∷ 0x2d ∷ 0x68 ∷ 0x65 ∷ 0x6c ∷ 0x70 ∷ []
 
 -- whether a word is `--help`
 unfoldable pub isHelp : List ℕ → Bool
-isHelp w = same w wordHelp
+isHelp w = sameBytes w wordHelp
 
 -- a space, or one of tab, line feed, vertical tab, form feed and carriage return
 unfoldable pub isSpace : ℕ → Bool

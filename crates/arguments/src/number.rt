@@ -1,7 +1,7 @@
 // A decimal number that is all of a text.
 // Zeros in front are allowed; a sign, a space or an empty text is no number.
 ghost use mathlib.Core.Path.{_≡_};
-ghost use Rattle.arguments.specs.Arguments.{readNumber, numberFrom};
+ghost use Rattle.arguments.specs.Arguments.{readNumber};
 ghost use Rattle.arguments.specs.declared.digit.Number.the-variants as N;
 use crate::digit::Number;
 use crate::digit::digit_after;

@@ -4,7 +4,6 @@ ghost use mathlib.Core.Path.{_≡_};
 ghost use mathlib.Core.List.{List, [], _∷_, _++_};
 ghost use mathlib.Core.Bool.{cond};
 ghost use Prim.Native.Nat.{ℕ};
-ghost use lib.ListN.{length};
 ghost use Rattle.hex.specs.Text.{Put};
 ghost use Rattle.arguments.specs.Arguments.{isSpace};
 ghost use Rattle.arguments.specs.Numbers.{Read, Reads, closedOf, turnOf, numbersOf};

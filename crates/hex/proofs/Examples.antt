@@ -1,7 +1,6 @@
 -- Closed cases, computed: numbers as text and text as numbers. Assumes nothing.
-use Prim.Native.Nat.{ℕ}
 use mathlib.Core.Path.{_≡_, refl}
-use mathlib.Core.List.{List, [], _∷_}
+use mathlib.Core.List.{[], _∷_}
 use Rattle.hex.specs.Hex.{glyphOf, digits, hexDigits, orMore, placesIn, placesOf, decimalDigits, digitOf, afterDigit, readDigits, readHex}
 use Rattle.hex.specs.declared.read.Number.the-variants as N
 

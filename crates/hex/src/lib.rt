@@ -1,10 +1,12 @@
 // Numbers as text: hexadecimal and decimal digits written, hexadecimal digits read,
-// and bytes put into a lent line. No public function has a `requires`.
+// bytes put into a lent line, and two texts compared. No public function has a `requires`.
+mod compare;
 mod digit;
 mod read;
 mod text;
 mod write;
 
+pub use compare::same;
 pub use digit::Digit;
 pub use digit::digit_of;
 pub use read::Number;

@@ -5,13 +5,13 @@ use mathlib.Core.Bool.{Bool, true, false, not}
 use mathlib.Core.List.{List, _++_}
 use borrow.Author.Tests.{leb-true, not-true, not-false}
 use lib.ListN.{drop}
+use Rattle.hex.proofs.Cases.{both-hold}
 use Rattle.journal_spec.specs.Append.{Outcome}
 use Rattle.journal.specs.Answers.{appendMeaning, lengthAfter, outcomeOf}
 use Rattle.journal.specs.declared.Appended.{Appended}
 use Rattle.journal_history.specs.State.{malformedOnce}
 use Rattle.journal_history.specs.Call.{resultSet, fits, calledWith}
 use Rattle.journal_history.specs.declared.state.State.{State}
-use Rattle.journal_history.proofs.Both.{both-hold}
 
 -- each buffer holds what the state says of it
 pub record Room (s : State) (v n c t : ℕ) : Type 0 where

@@ -1,6 +1,4 @@
--- The laws of tests, of what is stored and compared, of the calls, and of one line after another.
-mod Both
-mod Same
+-- The laws of what is stored, of the calls, and of one line after another.
 mod Storing
 mod Calls
 mod Steps

@@ -6,11 +6,11 @@ use mathlib.Core.List.{List}
 use native.Mathlib.Omega.{arith}
 use borrow.Author.Tests.{eq-eqb, ne-eqb}
 use lib.ListN.{length, take, drop}
+use Rattle.hex.specs.Same.{sameBytes}
 use Rattle.lines.specs.Lines.{lineEnd}
 use Rattle.lines.proofs.Replay.{Replayed, replay-turn}
 use Rattle.journal_history.specs.Line.{parsedLine}
 use Rattle.journal_history.specs.State.{answeredWith, comparedOnce}
-use Rattle.journal_history.specs.Store.{sameBytes}
 use Rattle.journal_history.specs.Call.{appendCalled, appendUptoCalled}
 use Rattle.journal_history.specs.Replay.{Memory, memoryOf, withState, afterCall, sliceBy, expectedBy, nameBy, numbersBy, stateBy}
 use Rattle.journal_history.specs.Replay.{stored, steppedBy, stepped}

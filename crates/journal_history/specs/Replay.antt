@@ -5,10 +5,11 @@ use mathlib.Core.Bool.{Bool, cond, _&&_, _||_}
 use mathlib.Core.List.{List}
 use lib.Dec.{eqb}
 use lib.ListN.{length}
+use Rattle.hex.specs.Same.{sameBytes}
 use Rattle.lines.specs.Lines.{replayOf}
 use Rattle.journal_history.specs.Line.{parsedLine}
 use Rattle.journal_history.specs.State.{started, countsSet, lengthSet, answeredWith, comparedOnce, malformedOnce}
-use Rattle.journal_history.specs.Store.{filled, bytesStored, repeated, numberStored, sameBytes}
+use Rattle.journal_history.specs.Store.{filled, bytesStored, repeated, numberStored}
 use Rattle.journal_history.specs.Call.{Called, appendCalled, appendUptoCalled}
 use Rattle.journal_history.specs.declared.line.Line.{Line}
 use Rattle.journal_history.specs.declared.state.State.{State}

@@ -1,9 +1,9 @@
--- What a line puts into a buffer, and whether two buffers hold the same bytes. A store beyond a list's end, `set` or `sets` of the
--- library, leaves the list as it is. Assumes nothing.
+-- What a line puts into a buffer. A store beyond a list's end, `set` or `sets` of the library, leaves the list as it is.
+-- Assumes nothing.
 use Prim.Native.Nat.{ℕ, zero, suc, _+_, _*_, _%_, _^_}
-use mathlib.Core.Bool.{Bool, true, false, cond, _&&_}
+use mathlib.Core.Bool.{cond, _&&_}
 use mathlib.Core.List.{List, [], _∷_}
-use lib.Dec.{eqb, ltb}
+use lib.Dec.{ltb}
 use lib.ListN.{length, getD, set}
 use lib.Seq.{sets}
 use Rattle.journal_spec.specs.Bytes.{bytesOf}
@@ -31,10 +31,3 @@ repeated (suc k) from to v =
 -- the number y, of 32 bits, at the place x
 unfoldable pub numberStored : Line → List ℕ → List ℕ
 numberStored l v = set v (l .x) (l .y % 2 ^ 32)
-
--- whether two lists are equal, element by element
-unfoldable pub sameBytes : List ℕ → List ℕ → Bool
-sameBytes [] [] = true
-sameBytes [] (y ∷ ys) = false
-sameBytes (x ∷ xs) [] = false
-sameBytes (x ∷ xs) (y ∷ ys) = eqb x y && sameBytes xs ys

@@ -2,14 +2,14 @@
 // A comparison that differs is written out as it is met.
 ghost use mathlib.Core.Path.{_≡_};
 ghost use mathlib.Core.Bool.{_&&_};
+ghost use Rattle.hex.specs.Same.{sameBytes};
 ghost use Rattle.journal_history.specs.State.{answeredWith, comparedOnce};
-ghost use Rattle.journal_history.specs.Store.{sameBytes};
 use crate::PROGRAM;
 use crate::line::Line;
 use crate::state::State;
 use crate::state::answered;
 use crate::state::compared;
-use crate::store::same;
+use hex::same;
 use lines::print;
 use lines::print_number;
 

@@ -1,8 +1,8 @@
-// Bytes and numbers of a line put into a buffer, and two buffers compared.
+// Bytes and numbers of a line put into a buffer.
 // What has no room in the buffer is left out.
 ghost use mathlib.Core.Path.{_≡_};
 ghost use lib.ListN.{length};
-ghost use Rattle.journal_history.specs.Store.{filled, bytesStored, repeated, numberStored, sameBytes};
+ghost use Rattle.journal_history.specs.Store.{filled, bytesStored, repeated, numberStored};
 use crate::line::Line;
 
 // Fills a buffer with bytes that differ from place to place, by a seed.
@@ -63,21 +63,4 @@ pub(crate) fn number(v: &mut [u32], l: Line)
     if at < v.len() {
         v[at] = (l.y % 0x100000000) as u32;
     }
-}
-
-// Whether two buffers hold the same bytes.
-pub(crate) fn same(a: &[u8], b: &[u8]) -> bool
-    ensures { λ r. ⌜ r ≡ sameBytes (now (a .entry)) (now (b .entry)) ⌝ }
-{
-    if a.len() != b.len() {
-        return false;
-    }
-    let mut i: usize = 0;
-    while i < a.len() {
-        if a[i] != b[i] {
-            return false;
-        }
-        i += 1;
-    }
-    true
 }

@@ -7,7 +7,7 @@ use Rattle.arguments.proofs.help.is_help.Tie as tie
 
 returns : tie.Need-returns
 unfolding isHelp wordHelp
-returns c = c .same-bytes .ensures
+returns c = c .same .ensures
 
 pub is-help-spec : {M : Type 1} → statement M
 is-help-spec = tie.close (tie.spec (λ c. search needs) (λ c κs. search needs) returns)

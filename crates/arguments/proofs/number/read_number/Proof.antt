@@ -1,7 +1,7 @@
 -- `read_number` meets its contract. The invariant: going on from `i` with what the text has come to gives what all of it
 -- gives. The measure is what is left of it. Assumes nothing.
 use Prim.Native.Nat.{_-_, _≤_}
-use mathlib.Core.Path.{_≡_, refl, sym, ap, _∙_}
+use mathlib.Core.Path.{_≡_, refl, sym, _∙_}
 use native.Mathlib.Omega.{arith}
 use denote.Ref.{now}
 use borrow.Author.Needs.{needs}

@@ -1,6 +1,6 @@
 -- `is_space` is its definition, by the tests on each way.
 -- Assumes nothing.
-use borrow.Author.Tests.{lt-ltb, le-ltb, ne-eqb, eq-eqb}
+use borrow.Author.Tests.{lt-ltb, le-ltb, ne-eqb}
 use Rattle.arguments.specs.Arguments.{isSpace}
 use Rattle.arguments.proofs.numbers.is_space.Statement.{statement}
 use Rattle.arguments.proofs.numbers.is_space.Tie as tie

@@ -1,13 +1,13 @@
 -- `read_numbers` meets its contract. The invariant: what has been read is stored, and going on with it from `i` gives what
 -- all of the text gives. The measure is what is left of it. Assumes nothing.
 use Prim.Native.Nat.{ℕ, _-_, _≤_}
-use mathlib.Core.Path.{_≡_, refl, sym, ap, _∙_}
+use mathlib.Core.Path.{_≡_, refl, _∙_}
 use mathlib.Core.List.{List}
 use native.Mathlib.Omega.{arith}
 use denote.Ref.{now}
 use borrow.Author.Needs.{needs}
 use lib.ListN.{length, getD, drop}
-use Rattle.arguments.specs.Numbers.{Read, Reads, turnOf, readFrom, unread, closedOf, numbersOf}
+use Rattle.arguments.specs.Numbers.{Read, Reads, turnOf, readFrom, unread, numbersOf}
 use Rattle.arguments.specs.declared.numbers.Reading.{Reading}
 use Rattle.arguments.proofs.Texts.{read-next, read-ends}
 use Rattle.arguments.proofs.Storing.{reads-unread}

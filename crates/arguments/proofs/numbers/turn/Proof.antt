@@ -1,6 +1,6 @@
 -- `turn` ends a word at white space, and else goes on with it.
 -- Assumes nothing.
-use mathlib.Core.Path.{_≡_, refl, sym, ap, _∙_}
+use mathlib.Core.Path.{refl, sym, ap, _∙_}
 use borrow.Author.Needs.{needs}
 use Rattle.arguments.specs.Arguments.{digitAfter}
 use Rattle.arguments.specs.declared.digit.Number.{Number}

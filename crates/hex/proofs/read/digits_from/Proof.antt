@@ -1,7 +1,7 @@
 -- `hex::read::digits_from` meets its contract. The invariant: reading the digits that are left, behind the number so far,
 -- gives what reading all of them gives; the number so far fits its digits. The measure is `left`. Assumes nothing.
 use Prim.Native.Nat.{ℕ, _+_, _-_, _^_, _≤_, _<_}
-use mathlib.Core.Path.{_≡_, refl, sym, ap, _∙_}
+use mathlib.Core.Path.{_≡_, refl, sym, _∙_}
 use native.Mathlib.Omega.{arith}
 use borrow.Author.Needs.{needs}
 use lib.ListN.{getD}

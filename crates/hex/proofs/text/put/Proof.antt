@@ -3,7 +3,7 @@ use Prim.Native.Nat.{ℕ, _+_}
 use mathlib.Core.Path.{_∙_, ap}
 use borrow.Author.Needs.{needs}
 use lib.Seq.{paste}
-use Rattle.hex.specs.Text.{Put, roomFor}
+use Rattle.hex.specs.Text.{roomFor}
 use Rattle.hex.proofs.text.put.Statement.{statement}
 use Rattle.hex.proofs.text.put.Tie as tie
 

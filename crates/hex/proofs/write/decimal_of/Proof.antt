@@ -1,7 +1,7 @@
 -- `hex::write::decimal_of` meets its contract: the part that is lent is as long as the digits, and comes back filled with
 -- them. Assumes nothing.
 use Prim.Native.Nat.{ℕ}
-use mathlib.Core.Path.{_≡_, sym, ap, _∙_}
+use mathlib.Core.Path.{sym, ap, _∙_}
 use native.Mathlib.Omega.{arith}
 use borrow.Author.Needs.{needs}
 use lib.ListN.{length, replicate}

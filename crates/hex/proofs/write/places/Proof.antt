@@ -1,7 +1,6 @@
 -- `hex::write::places` meets its contract. The invariant is `Counting`; the measure is what is left of the number.
 -- Assumes nothing.
 use native.Mathlib.Omega.{arith}
-use native.Mathlib.Nat.{div-lt-self}
 use Rattle.hex.proofs.Counting.{Counting, counting-starts, counting-turn, counting-ends}
 use Rattle.hex.proofs.write.places.Statement.{statement}
 use Rattle.hex.proofs.write.places.Tie as tie

@@ -1,12 +1,12 @@
 -- `replay_chunk` takes one line a turn. The invariant is `Replayed` of the state and the buffers, which keep their lengths;
 -- the measure is what is left of the chunk. Assumes nothing.
 use Prim.Native.Nat.{_-_, _≤_}
-use mathlib.Core.Path.{_≡_, refl, sym, _∙_}
+use mathlib.Core.Path.{_≡_, refl, _∙_}
 use native.Mathlib.Omega.{arith}
 use denote.Ref.{now}
 use lib.ListN.{length}
 use Rattle.lines.proofs.Replay.{Replayed, replay-starts, replay-ends}
-use Rattle.journal_history.specs.Replay.{Memory, memoryOf, stepped, replayed}
+use Rattle.journal_history.specs.Replay.{memoryOf, stepped, replayed}
 use Rattle.journal_history.proofs.Steps.{line-replayed}
 use Rattle.journal_history.proofs.step.replay_chunk.Statement.{statement}
 use Rattle.journal_history.proofs.step.replay_chunk.Tie as tie

@@ -5,10 +5,10 @@ use mathlib.Core.Path.{_≡_, refl, sym, _∙_}
 use native.Mathlib.Omega.{arith}
 use lib.ListN.{length, drop}
 use denote.Ref.{now}
-use Rattle.journal_history.specs.Store.{sameBytes}
-use Rattle.journal_history.proofs.Same.{lengths-differ, same-turn, same-differs, same-ends}
-use Rattle.journal_history.proofs.store.same.Statement.{statement}
-use Rattle.journal_history.proofs.store.same.Tie as tie
+use Rattle.hex.specs.Same.{sameBytes}
+use Rattle.hex.proofs.Comparing.{lengths-differ, same-turn, same-differs, same-ends}
+use Rattle.hex.proofs.compare.same.Statement.{statement}
+use Rattle.hex.proofs.compare.same.Tie as tie
 
 abbrev Inv-loop : tie.InvT-loop
 Inv-loop a b i₀ i = (length a ≡ length b) × (i ≤ length a) × (sameBytes a b ≡ sameBytes (drop i a) (drop i b))
@@ -17,13 +17,13 @@ abbrev μ-loop : tie.MeasureT-loop
 μ-loop a b i₀ i = length a - i
 
 returns : tie.Need-returns Inv-loop μ-loop
-returns c = sym (lengths-differ _ _ (c .if1 .taken))
+returns c = sym (lengths-differ _ _ (λ e. omega arith))
 
 returns-2 : tie.Need-returns-2 Inv-loop μ-loop
 returns-2 c =
     let l = c .before .before .before .before .loop in
     let p = c .before .before .before .before .before .before .args in
-    sym (l .inv .2 ∙ same-differs (now (p .a)) (now (p .b)) (l .i) (omega arith) (l .inv .0) (c .if2 .taken))
+    sym (l .inv .2 ∙ same-differs (now (p .a)) (now (p .b)) (l .i) (omega arith) (l .inv .0) (λ e. omega arith))
 
 loop-again : tie.Need-loop-again Inv-loop μ-loop
 loop-again c =
