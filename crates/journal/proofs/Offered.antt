@@ -12,7 +12,7 @@ use Rattle.limit.specs.declared.sums.Sums.{Sums}
 use Rattle.limit.specs.declared.sums.Gathered.{Gathered}
 use Rattle.limit.specs.declared.sums.Gathered.the-variants as G
 use Rattle.limit.specs.Times.{minCount, maxCount, timesInRange}
-use Rattle.limit.specs.Sums.{sumsOf, gatherOf}
+use Rattle.limit.specs.Sums.{sumsOf, gatheredMeaning, gatherOf}
 use Rattle.limit.specs.Answer.{timesRefusal}
 use Rattle.limit.proofs.Gathered.{gathered-within, gathered-outside}
 use Rattle.journal_spec.specs.Refusals.{dayRefusal, firstOf}
@@ -93,13 +93,13 @@ module _ (last : Last) (o : Offer) (bits : List ℕ) where
       pub chances-refused : (r : ℕ) → 0 < r → r ≡ sectionRefusal chanceSection (o .chances) → OfferChecked last o r bits
       chances-refused r h e = refused-by r h (first-this r _ _ h e ∙ sym after-name)
 
-      module _ (c : sectionRefusal chanceSection (o .chances) ≡ 0) (g : Gathered) (read : g ≡ gatherOf (o .times)) where
+      module _ (c : sectionRefusal chanceSection (o .chances) ≡ 0) (g : Gathered) (read : gatheredMeaning g ≡ gatherOf (o .times)) where
         after-chances : offerRefusal last o ≡ firstOf (sectionRefusal timeSection (o .times) ∷ limitsRefusal (o .times) (o .chances) ∷ [])
         after-chances = after-name ∙ first-later _ _ c
 
         pub times-refused : g ≡ G.Outside → OfferChecked last o timesRefusal bits
         times-refused told =
-            let bad = gathered-outside (o .times) (sym read ∙ told) in
+            let bad = gathered-outside (o .times) g read told in
             let e : timesRefusal ≡ sectionRefusal timeSection (o .times) =
             sym (time-refused (o .times) ∙ unless-false _ timesRefusal (times-good (o .times) ∙ bad)) in
             refused-by timesRefusal (omega arith) (first-this timesRefusal _ _ (omega arith) e ∙ sym after-chances)
@@ -108,7 +108,7 @@ module _ (last : Last) (o : Offer) (bits : List ℕ) where
             → ((times : List ℕ) → timesInRange times ≡ true → s ≡ sumsOf times → LimitsChecked times (o .chances) r bits)
             → OfferChecked last o r bits
         limits-judged s told r judged =
-            let within = gathered-within (o .times) s (sym read ∙ told) in
+            let within = gathered-within (o .times) g read s told in
             let t : sectionRefusal timeSection (o .times) ≡ 0 =
             time-refused (o .times) ∙ unless-true _ timesRefusal (times-good (o .times) ∙ within .inside) in
             let j = judged (o .times) (within .inside) (within .sums) in

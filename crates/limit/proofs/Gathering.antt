@@ -11,7 +11,7 @@ use lib.Seq.{take-suc, take-all, length-take-le}
 use Rattle.limit.specs.declared.sums.Sums.{Sums}
 use Rattle.limit.specs.declared.sums.Gathered.the-variants.{Within, Outside}
 use Rattle.limit.specs.Times.{minCount, maxCount, inRange, timeInRange, allInRange, timesInRange, sumOf, squaresOf}
-use Rattle.limit.specs.Sums.{sumsOf, noTimes, addTime, gatherOf}
+use Rattle.limit.specs.Sums.{sumsOf, noTimes, addTime, gatheredMeaning, gatherOf}
 use Rattle.limit.proofs.InRange.{both, second-fails, at-most}
 use Rattle.limit.proofs.Bounds.{time-at-most, head-in-range, tail-in-range}
 use Rattle.limit.proofs.Adding.{add-one-time}
@@ -39,8 +39,8 @@ module _ (times : List ℕ) where
   gathering-start e = record { counted = e; reached = omega arith; each = refl; sums = refl }
 
   -- the count is out of range
-  pub gathering-none : inRange minCount maxCount (length times) ≡ false → Outside ≡ gatherOf times
-  unfolding gatherOf timesInRange
+  pub gathering-none : inRange minCount maxCount (length times) ≡ false → gatheredMeaning Outside ≡ gatherOf times
+  unfolding gatheredMeaning gatherOf timesInRange
   gathering-none e = rw e
 
   module _ (i : ℕ) (s : Sums) (g : Gathering times i s) where
@@ -58,13 +58,13 @@ module _ (times : List ℕ) where
         }
 
     -- the time at i is out of range
-    pub gathering-stop : i < length times → timeInRange (getD times i 0) ≡ false → Outside ≡ gatherOf times
-    unfolding gatherOf timesInRange
+    pub gathering-stop : i < length times → timeInRange (getD times i 0) ≡ false → gatheredMeaning Outside ≡ gatherOf times
+    unfolding gatheredMeaning gatherOf timesInRange
     gathering-stop h e = rw (g .counted, one-outside times i h e)
 
     -- every time was taken in
-    pub gathering-end : length times ≤ i → Within s ≡ gatherOf times
-    unfolding gatherOf timesInRange
+    pub gathering-end : length times ≤ i → gatheredMeaning (Within s) ≡ gatherOf times
+    unfolding gatheredMeaning gatherOf timesInRange
     gathering-end h =
         let whole = take-all i times h in
         let each : allInRange times ≡ true = rw whole at (g .each) in

@@ -3,7 +3,11 @@
 use mathlib.Core.Path.{_≡_, refl, sym, ap, _∙_}
 use Rattle.limit.specs.declared.Answer.{Answer}
 use Rattle.limit.specs.declared.Answer.the-variants.{Limit, Refused}
+use Rattle.limit.specs.declared.sums.Gathered.{Gathered}
+use Rattle.limit.specs.declared.sums.Gathered.the-variants.{Within, Outside}
 use Rattle.limit.specs.Answer.{LimitResult, limited, refused, meaning}
+use Rattle.limit.specs.Sums.{GatherResult, gathered, gatheredMeaning}
+use Rattle.limit.specs.Sums as S
 
 -- what has a way back sends no two values to one
 pub injective-by : {A B : Type 0} (f : A → B) (back : B → A) → ((a : A) → back (f a) ≡ a) → (a b : A) → f a ≡ f b → a ≡ b
@@ -20,3 +24,15 @@ meaning-injective = injective-by meaning answerOf back
     back : (a : Answer) → answerOf (meaning a) ≡ a
     back (Limit x) = refl
     back (Refused n) = refl
+
+gatheredOf : GatherResult → Gathered
+gatheredOf (gathered s) = Within s
+gatheredOf (S.refused n) = Outside
+
+pub gathered-meaning-injective : (g h : Gathered) → gatheredMeaning g ≡ gatheredMeaning h → g ≡ h
+unfolding gatheredMeaning gatheredOf
+gathered-meaning-injective = injective-by gatheredMeaning gatheredOf back
+  where
+    back : (g : Gathered) → gatheredOf (gatheredMeaning g) ≡ g
+    back (Within s) = refl
+    back Outside = refl

@@ -2,12 +2,9 @@
 -- Assumes nothing.
 use mathlib.Core.Path.{_≡_, refl}
 use mathlib.Core.List.{List, [], _∷_}
-use mathlib.Core.Bool.{Bool, true, false, cond}
 use Prim.Native.Nat.{ℕ}
 use lib.ListN.{replicate}
 use Rattle.limit.specs.Times.{inRange, timeInRange, allInRange, timesInRange}
-use Rattle.limit.specs.declared.sums.Gathered.the-variants.{Within, Outside}
-use Rattle.limit.specs.Sums.{sumsOf, gatherOf, gatheredRefusal}
 use Rattle.limit.specs.Answer.{refused, chanceRefusal, timesRefusal}
 use Rattle.limit.specs.Limit.{chanceInRange, judge, limitOf}
 
@@ -37,12 +34,3 @@ ends-of-ranges =
       timeBeyond = refl;
       chanceFirst = refl;
     }
-
--- what gathering times answers has document 01's number exactly where they are out of range
-pub gathered-refusal : (ts : List ℕ) → gatheredRefusal (gatherOf ts) ≡ cond (timesInRange ts) 0 timesRefusal
-unfolding gatherOf gatheredRefusal
-gathered-refusal ts = either (timesInRange ts)
-  where
-    either : (b : Bool) → gatheredRefusal (cond b (Within (sumsOf ts)) Outside) ≡ cond b 0 timesRefusal
-    either true = refl
-    either false = refl

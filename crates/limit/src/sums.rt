@@ -2,7 +2,7 @@
 // They are kept by value, so that a reader of times can take in one time after another.
 ghost use mathlib.Core.Path.{_≡_};
 ghost use Rattle.limit.specs.Times.{timeInRange};
-ghost use Rattle.limit.specs.Sums.{addTime, gatherOf, isPlausible, noTimes, saturatingAdd};
+ghost use Rattle.limit.specs.Sums.{addTime, gatherOf, gatheredMeaning, isPlausible, noTimes, saturatingAdd};
 use crate::ranges::in_range;
 
 // The least and the greatest time, in ticks of ten microseconds.
@@ -88,7 +88,7 @@ fn time_in_range(t: u32) -> bool
 
 // The sums of the times, in one pass that ends at the first time out of range. A count out of range is seen before the pass.
 pub fn gather(times: &[u32]) -> Gathered
-    ensures { λ r. ⌜ r ≡ gatherOf (now (times .entry)) ⌝ }
+    ensures { λ r. ⌜ gatheredMeaning r ≡ gatherOf (now (times .entry)) ⌝ }
 {
     let n = times.len();
     if !in_range(MIN_COUNT, MAX_COUNT, n as u64) {

@@ -21,7 +21,7 @@ unfolding meaning limitOf judge
 returns c = rw (sym (c .before .chance-in-range .ensures) ∙ not-true _ (c .if1 .taken))
 
 gathered : (c : tie.After-g) → GatheredWithin (now (c .before .before .before .before .before .before .args .times)) (c .g .given .0 .0)
-gathered c = gathered-within _ _ (sym (c .before .before .gather .ensures) ∙ c .g .given .1)
+gathered c = gathered-within _ _ (c .before .before .gather .ensures) _ (c .g .given .1)
 
 formula-of-requires : tie.Need-formula-of-requires
 formula-of-requires c κs = let g = gathered (c .before) in rw (g .sums) (times-plausible _ (g .inside))
@@ -43,7 +43,7 @@ returns-3 : tie.Need-returns-3
 unfolding meaning limitOf judge
 returns-3 c =
     let called = c .before .before in
-    rw (good-chance (called .before), gathered-outside _ (sym (called .gather .ensures) ∙ c .enum-told .given .1))
+    rw (good-chance (called .before), gathered-outside _ _ (called .gather .ensures) (c .enum-told .given .1))
 
 pub limit-spec : {M : Type 1} → statement M
 limit-spec =

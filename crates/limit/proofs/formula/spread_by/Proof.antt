@@ -7,8 +7,11 @@ use Rattle.limit.proofs.Exact.{cast-exact}
 use Rattle.limit.proofs.formula.spread_by.Statement.{statement}
 use Rattle.limit.proofs.formula.spread_by.Tie as tie
 
-pub spread-by-spec : {M : Type 1} → statement M
+returns : tie.Need-returns
 unfolding spreadBy
+returns c = rw (c .sqrt .ensures)
+
+pub spread-by-spec : {M : Type 1} → statement M
 spread-by-spec =
     tie.close
-    (tie.spec (λ c. cast-exact _ (omega arith)) (λ c. cast-exact _ (omega arith)) (λ c κs. search needs) (λ c. cc))
+    (tie.spec (λ c. cast-exact _ (omega arith)) (λ c. cast-exact _ (omega arith)) (λ c κs. search needs) returns)
