@@ -11,7 +11,7 @@ use lib.Ieee.Bits.{is-true}
 use denote.Floats.{passes}
 use Rattle.pxfm.specs.declared.double_double.DoubleDouble.{DoubleDouble}
 use Rattle.pxfm.specs.DoubleDouble.{newOf, one, two, negOf, fromFullExactSub, fullAddF64}
-use Rattle.pxfm.specs.Argument.{zero, tenth, threeQuarters, mirrored, complement, coreArgument}
+use Rattle.pxfm.specs.Argument.{zero, tenth, threeQuarters, mirroredOf, complement, coreArgument}
 use Rattle.pxfm.proofs.Value.{Val}
 use Rattle.pxfm.proofs.Units.{val-whole}
 use Rattle.pxfm.proofs.Order.{lt-of-val, lt-of-neither}
@@ -70,7 +70,7 @@ inside-above-one x f h =
 
 pub argument-inside : (x : Float) → T (fits binary64 x) → toBits binary64 x < 0x4000_0000_0000_0000 → T (not (eq x one))
     → T (not (lt x tenth)) → Inside (coreArgument x)
-unfolding coreArgument mirrored
+unfolding coreArgument mirroredOf
 argument-inside x f b ne nl =
     let u = bits-below-two x f b in
     go (lt one x) (λ h. inside-above-one x f (above-one x f u h))

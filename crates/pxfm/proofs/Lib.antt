@@ -1,6 +1,7 @@
 -- The laws behind the port's proofs, one idea to a file, in the order in which they build on each other.
 -- Document 01's statements on the port are in `Argument`, `Rows`, `Shift`, `Exponent`, `Bins`, `Reduced`, `ScaledValue` and `Answers`.
 pub mod Calls
+mod Paired
 pub mod Nan
 pub mod Digits
 pub mod Value

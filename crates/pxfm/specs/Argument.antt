@@ -18,8 +18,8 @@ abbrev pub threeQuarters : Float
 threeQuarters = ofBits binary64 0x3fe8_0000_0000_0000
 
 -- x itself, or 2 - x above 1.
-unfoldable pub mirrored : Float → DoubleDouble
-mirrored x = cond (lt one x) (fromFullExactSub two x) (newOf zero x)
+unfoldable pub mirroredOf : Float → DoubleDouble
+mirroredOf x = cond (lt one x) (fromFullExactSub two x) (newOf zero x)
 
 -- 1 - d, its parts added up.
 unfoldable pub complement : DoubleDouble → DoubleDouble
@@ -29,4 +29,4 @@ complement d =
 
 -- What erf_core is given for x.
 unfoldable pub coreArgument : Float → DoubleDouble
-coreArgument x = complement (mirrored x)
+coreArgument x = complement (mirroredOf x)

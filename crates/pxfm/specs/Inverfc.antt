@@ -2,7 +2,7 @@
 -- and the pieces between them. Each line is one rounded operation, one pair operation or one test.
 use Prim.Native.Nat.{ℕ, _+_, _%_, _^_}
 use mathlib.Core.Bool.{Bool, true, false, cond}
-use mathlib.Core.List.{List}
+use mathlib.Core.List.{List, [], _∷_}
 use lib.Dec.{eqb, leb}
 use lib.Ieee.{Float, nan, inf, binary64, ofBits, toBits, isNan, eq, lt, le, neg, add, sub, mul}
 use Rattle.pxfm.specs.declared.double_double.DoubleDouble.{DoubleDouble}
@@ -10,29 +10,30 @@ use Rattle.pxfm.specs.DoubleDouble.{one, negOf, fromExactAdd, quickMult,
 use Rattle.pxfm.specs.Common.{fFmla}
 use Rattle.pxfm.specs.Polyeval.{fPolyeval4, fPolyeval5}
 use Rattle.pxfm.specs.FastLogDd.{fastLogDToDd, fastLogDd}
-use Rattle.pxfm.specs.Rationals.{bits, at, centred, p0p06To0p75, q0p06To0p75}
+use Rattle.pxfm.specs.Rationals.{bits, at, centredOf, p0p06To0p75, q0p06To0p75}
 use Rattle.pxfm.specs.Rationals.{inverf0p06To0p75, inverfAsymptSmall, inverfAsymptLong}
 use Rattle.pxfm.specs.Argument.{zero, tenth, threeQuarters, coreArgument}
 
--- The first two coefficients of the Taylor series of the inverse error function, √π / 2 and what follows it.
-abbrev pub taylor0 : DoubleDouble
-taylor0 = bits 0xbc8618f13eb7ca89 0x3fec5bf891b4ef6b
-
-abbrev pub taylor1 : DoubleDouble
-taylor1 = bits 0xbc33ea2ef8dde075 0x3fcdb29fb2fee5e4
+-- The first three coefficients of the Taylor series of the inverse error function, as pairs: √π / 2, and those that follow it.
+unfoldable pub taylor : List DoubleDouble
+taylor =
+    bits 0xbc8618f13eb7ca89 0x3fec5bf891b4ef6b ∷
+    bits 0xbc33ea2ef8dde075 0x3fcdb29fb2fee5e4 ∷
+    bits 0x3c2cec68daff0d80 0x3fc053c2c0ab91c5 ∷
+    []
 
 -- Up to 0.0095: four terms, two of them in doubles.
-unfoldable pub taylor4 : DoubleDouble → DoubleDouble
-taylor4 x =
+unfoldable pub taylor4Of : DoubleDouble → DoubleDouble
+taylor4Of x =
     let z2 = quickMult x x in
     let p = fFmla (z2 .hi) (ofBits binary64 0x3fb62847c47dda48) (ofBits binary64 0x3fc053c2c0ab91c5) in
-    let r1 = mulF64Add z2 p taylor1 in
-    let r0 = mulAdd z2 r1 taylor0 in
+    let r1 = mulF64Add z2 p (at taylor 1) in
+    let r0 = mulAdd z2 r1 (at taylor 0) in
     quickMult r0 x
 
 -- Up to 0.06: seven terms, four of them in doubles.
-unfoldable pub taylor7 : DoubleDouble → DoubleDouble
-taylor7 x =
+unfoldable pub taylor7Of : DoubleDouble → DoubleDouble
+taylor7Of x =
     let z2 = quickMult x x in
     let p =
     fPolyeval4 (z2 .hi)
@@ -40,9 +41,9 @@ taylor7 x =
     (ofBits binary64 0x3fb0a13189c6ef7a)
     (ofBits binary64 0x3faa7c85c89bb08b)
     (ofBits binary64 0x3fa5eeb1d488e312) in
-    let r2 = mulF64Add z2 p (bits 0x3c2cec68daff0d80 0x3fc053c2c0ab91c5) in
-    let r1 = mulAdd z2 r2 taylor1 in
-    let r0 = mulAdd z2 r1 taylor0 in
+    let r2 = mulF64Add z2 p (at taylor 2) in
+    let r1 = mulAdd z2 r2 (at taylor 1) in
+    let r0 = mulAdd z2 r1 (at taylor 0) in
     quickMult r0 x
 
 -- Ten coefficients at vz by Horner's rule, the upper five by their high parts alone.
@@ -58,7 +59,7 @@ horner10 t vz =
 -- The quicker rational from 0.06 to 0.75.
 unfoldable pub quickRational : DoubleDouble → DoubleDouble
 quickRational x =
-    let vz = centred x in
+    let vz = centredOf x in
     quickMult (divOf (horner10 p0p06To0p75 vz) (horner10 q0p06To0p75 vz)) x
 
 -- The rounding test: k rounds to one double with any error up to 2 ^ -56 × its high part + 2 ^ -59.
@@ -70,8 +71,8 @@ roundsAlike k =
     eq ub lb
 
 -- From 0.06 to 0.75.
-unfoldable pub middle : DoubleDouble → DoubleDouble
-middle x = let k = quickRational x in cond (roundsAlike k) k (inverf0p06To0p75 x)
+unfoldable pub middleOf : DoubleDouble → DoubleDouble
+middleOf x = let k = quickRational x in cond (roundsAlike k) k (inverf0p06To0p75 x)
 
 -- The root of zeta, which is a logarithm with the other sign.
 unfoldable pub zetaSqrt : DoubleDouble → DoubleDouble
@@ -86,16 +87,16 @@ asymptotic log short =
     cond short (inverfAsymptSmall rz root) (inverfAsymptLong rz root)
 
 -- Above 0.75; the shorter rational below 0.9999.
-unfoldable pub tail : DoubleDouble → DoubleDouble
-tail x = asymptotic (fastLogDd (fullAddF64 (negOf x) one)) (lt (x .hi) (ofBits binary64 0x3fef_ff2e_48e8_a71e))
+unfoldable pub tailOf : DoubleDouble → DoubleDouble
+tailOf x = asymptotic (fastLogDd (fullAddF64 (negOf x) one)) (lt (x .hi) (ofBits binary64 0x3fef_ff2e_48e8_a71e))
 
 -- The inverse error function of a pair with a high part below 1, by the cuts 0.0095, 0.06 and 0.75.
 unfoldable pub erfCore : DoubleDouble → DoubleDouble
 erfCore x =
-    cond (le (x .hi) (ofBits binary64 0x3f83_74bc_6a7e_f9db)) (taylor4 x)
-    (cond (le (x .hi) (ofBits binary64 0x3fae_b851_eb85_1eb8)) (taylor7 x)
-    (cond (le (x .hi) threeQuarters) (middle x)
-    (tail x)))
+    cond (le (x .hi) (ofBits binary64 0x3f83_74bc_6a7e_f9db)) (taylor4Of x)
+    (cond (le (x .hi) (ofBits binary64 0x3fae_b851_eb85_1eb8)) (taylor7Of x)
+    (cond (le (x .hi) threeQuarters) (middleOf x)
+    (tailOf x)))
 
 -- Below 0.1: from the logarithm of x itself; the shorter rational from 0.0001 on.
 unfoldable pub inverfcExtraSmall : Float → DoubleDouble
@@ -106,8 +107,8 @@ unfoldable pub signOf : Float → Float
 signOf x = cond (lt one x) (neg one) one
 
 -- From 0.1 up to 2, but for 1.
-unfoldable pub central : Float → Float
-central x = mul binary64 (toF64 (erfCore (coreArgument x))) (signOf x)
+unfoldable pub centralOf : Float → Float
+centralOf x = mul binary64 (toF64 (erfCore (coreArgument x))) (signOf x)
 
 -- The quantile (`f_erfcinv`) of every double, by document 01's order.
 unfoldable pub fErfcinv : Float → Float
@@ -119,7 +120,7 @@ fErfcinv x =
     (cond (leb 0x4000_0000_0000_0000 ix) nan
     (cond (eq x one) zero
     (cond (lt x tenth) (toF64 (inverfcExtraSmall x))
-    (central x))))))
+    (centralOf x))))))
 
 -- The same over bit patterns. `toBits` gives 7ff8000000000000 for a NaN.
 abbrev pub fErfcinvBits : ℕ → ℕ

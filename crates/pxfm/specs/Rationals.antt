@@ -1,15 +1,25 @@
 -- The three rational functions behind the inverse error function, with their coefficients as bit patterns
 -- (document 01, src/err/inverfc.rs). Terms are paired in the Rust's order, which is not Horner's.
 use Prim.Native.Nat.{ℕ}
+use mathlib.Core.Bool.{not}
 use mathlib.Core.List.{List, [], _∷_}
+use lib.Dec.{T}
 use lib.ListN.{getD}
-use lib.Ieee.{binary64, ofBits, neg}
+use lib.Ieee.{binary64, ofBits, nanBits, neg}
 use Rattle.pxfm.specs.declared.double_double.DoubleDouble.{DoubleDouble}
 use Rattle.pxfm.specs.DoubleDouble.{nanPair, one, bitPair, fromBitPair, quickMult, fullAddF64, mulAdd, mulAddF64, divOf}
 
 -- The pair with these bit patterns.
 abbrev pub bits : ℕ → ℕ → DoubleDouble
 bits lo hi = fromBitPair (bitPair lo hi)
+
+-- In the code a list of coefficients is an array of rows, each of a pair's bit patterns, low part first.
+-- The pair of a row; and that neither of its patterns is a NaN's, which the code asks before it makes doubles of them.
+abbrev pub pairOf : List ℕ → DoubleDouble
+pairOf row = bits (getD row 0 0) (getD row 1 0)
+
+abbrev pub PlainRow : List ℕ → Type 0
+PlainRow row = T (not (nanBits binary64 (getD row 0 0))) × T (not (nanBits binary64 (getD row 1 0)))
 
 -- The pair at a place of a list of coefficients.
 abbrev pub at : List DoubleDouble → ℕ → DoubleDouble
@@ -160,13 +170,13 @@ qAsymptLong =
     []
 
 -- x² - 0.5625, the variable of the rational from 0.06 to 0.75.
-unfoldable pub centred : DoubleDouble → DoubleDouble
-centred x = fullAddF64 (quickMult x x) (neg (ofBits binary64 0x3fe2_0000_0000_0000))
+unfoldable pub centredOf : DoubleDouble → DoubleDouble
+centredOf x = fullAddF64 (quickMult x x) (neg (ofBits binary64 0x3fe2_0000_0000_0000))
 
 -- The slower rational from 0.06 to 0.75, taken where the quicker one's rounding is in doubt.
 unfoldable pub inverf0p06To0p75 : DoubleDouble → DoubleDouble
 inverf0p06To0p75 x =
-    let vz = centred x in
+    let vz = centredOf x in
     let vx2 = quickMult vz vz in
     let vx4 = quickMult vx2 vx2 in
     let vx8 = quickMult vx4 vx4 in

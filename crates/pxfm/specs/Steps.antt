@@ -17,8 +17,8 @@ use Rattle.pxfm.specs.Argument.{zero}
 use Rattle.pxfm.specs.Checked.{checkedLogDd, checkedLogDToDd, checkedErfCore}
 
 -- A result that is a double, as the high part beside a zero.
-abbrev pub single : Float → DoubleDouble
-single x = newOf zero x
+abbrev pub singleOf : Float → DoubleDouble
+singleOf x = newOf zero x
 
 -- Every function's result at six doubles, in the order of the functions' numbers. A function takes its arguments from the front,
 -- a pair as its low part and then its high part.
@@ -42,12 +42,12 @@ results x0 x1 x2 x3 x4 x5 =
     fullAddF64 a x2 ∷
     f64Add x0 (newOf x1 x2) ∷
     negOf a ∷
-    single (toF64 a) ∷
-    single (fFmla x0 x1 x2) ∷
-    single (ddFmla x0 x1 x2) ∷
+    singleOf (toF64 a) ∷
+    singleOf (fFmla x0 x1 x2) ∷
+    singleOf (ddFmla x0 x1 x2) ∷
     logPoly1 x0 ∷
-    single (fPolyeval4 x0 x1 x2 x3 x4) ∷
-    single (fPolyeval5 x0 x1 x2 x3 x4 x5) ∷
+    singleOf (fPolyeval4 x0 x1 x2 x3 x4) ∷
+    singleOf (fPolyeval5 x0 x1 x2 x3 x4 x5) ∷
     checkedLogDd a ∷
     checkedLogDToDd x0 ∷
     inverf0p06To0p75 a ∷

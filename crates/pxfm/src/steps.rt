@@ -1,7 +1,7 @@
 // Every function of the port by its number, over bit patterns: what the comparison with the Rust calls, since the functions
 // themselves are as private as the Rust's. The numbers are those of the list in rust/functions.rs; the definition is specs/Steps.antt.
 ghost use mathlib.Core.Path.{_≡_};
-ghost use Rattle.pxfm.specs.Steps.{patternsOf, resultOf, stepOf};
+ghost use Rattle.pxfm.specs.Steps.{singleOf, patternsOf, resultOf, stepOf};
 use crate::checked;
 use crate::common;
 use crate::double_double::BitPair;
@@ -24,7 +24,7 @@ fn patterns(r: DoubleDouble) -> BitPair
 
 // A result that is a double, as the high part beside a zero.
 fn single(x: f64) -> DoubleDouble
-    ensures { λ r. ⌜ r ≡ Rattle.pxfm.specs.Steps.single x ⌝ }
+    ensures { λ r. ⌜ r ≡ singleOf x ⌝ }
 {
     DoubleDouble::new(0.0, x)
 }

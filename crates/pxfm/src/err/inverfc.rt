@@ -5,372 +5,150 @@ ghost use mathlib.Core.Bool.{true, false};
 ghost use Prim.Native.Nat.{_<_};
 ghost use lib.Ieee.{binary64, toBits, eq, lt, le};
 ghost use Rattle.pxfm.specs.DoubleDouble.{one, mulAdd, mulAddF64};
-ghost use Rattle.pxfm.specs.Argument.{tenth, threeQuarters, mirrored, coreArgument};
-ghost use Rattle.pxfm.specs.Rationals.{at, p0p06To0p75, q0p06To0p75, pAsymptSmall, qAsymptSmall, pAsymptLong, qAsymptLong};
-ghost use Rattle.pxfm.specs.Rationals.{paired10, paired11, paired14, centred, inverf0p06To0p75, inverfAsymptSmall, inverfAsymptLong};
-ghost use Rattle.pxfm.specs.Inverfc.{taylor4, taylor7, horner10, quickRational, roundsAlike, middle, zetaSqrt, tail, erfCore};
-ghost use Rattle.pxfm.specs.Inverfc.{inverfcExtraSmall, signOf, central, fErfcinv, fErfcinvBits};
+ghost use Rattle.pxfm.specs.Argument.{tenth, threeQuarters, mirroredOf, coreArgument};
+ghost use Rattle.pxfm.specs.Rationals.{PlainRow, pairOf, at, p0p06To0p75, q0p06To0p75, pAsymptSmall, qAsymptSmall, pAsymptLong, qAsymptLong};
+ghost use Rattle.pxfm.specs.Rationals.{paired10, paired11, paired14, centredOf, inverf0p06To0p75, inverfAsymptSmall, inverfAsymptLong};
+ghost use Rattle.pxfm.specs.Inverfc.{taylor4Of, taylor7Of, horner10, quickRational, roundsAlike, middleOf, zetaSqrt, tailOf, erfCore};
+ghost use Rattle.pxfm.specs.Inverfc.{inverfcExtraSmall, signOf, centralOf, fErfcinv, fErfcinvBits};
 use crate::common;
 use crate::double_double::BitPair;
 use crate::double_double::DoubleDouble;
 use crate::logs::fast_log_dd;
 use crate::polyeval;
 
-// The coefficients, each a constant of its own, so that a use names one pair and brings no array into a function's code.
-// From 0.06 to 0.75 (MID), of the shorter asymptotic rational (SMALL) and of the longer one (LONG); P above, Q below the line.
-const MID_P0: DoubleDouble = DoubleDouble {
-    lo: f64::from_bits(0xbc3e06eda42202a0),
-    hi: f64::from_bits(0x3f93c2fc5d00e0c8),
-};
-
-const MID_P1: DoubleDouble = DoubleDouble {
-    lo: f64::from_bits(0xbc6eb374406b33b4),
-    hi: f64::from_bits(0xbfc76fcfd022e3ff),
-};
-
-const MID_P2: DoubleDouble = DoubleDouble {
-    lo: f64::from_bits(0xbc857822d7ffd282),
-    hi: f64::from_bits(0x3fe6f8443546010a),
-};
-
-const MID_P3: DoubleDouble = DoubleDouble {
-    lo: f64::from_bits(0x3c68269c66dfb28a),
-    hi: f64::from_bits(0xbff80996754ceb79),
-};
-
-const MID_P4: DoubleDouble = DoubleDouble {
-    lo: f64::from_bits(0x3c543dce8990a9f9),
-    hi: f64::from_bits(0x3ffcf778d5ef0504),
-};
-
-const MID_P5: DoubleDouble = DoubleDouble {
-    lo: f64::from_bits(0xbc72fc55f73765f6),
-    hi: f64::from_bits(0xbff433be821423d0),
-};
-
-const MID_P6: DoubleDouble = DoubleDouble {
-    lo: f64::from_bits(0xbc66d05fb37c8592),
-    hi: f64::from_bits(0x3fdf15f19e9d8da4),
-};
-
-const MID_P7: DoubleDouble = DoubleDouble {
-    lo: f64::from_bits(0x3c56dfb85e83a2c5),
-    hi: f64::from_bits(0xbfb770b6827e0829),
-};
-
-const MID_P8: DoubleDouble = DoubleDouble {
-    lo: f64::from_bits(0x3bff1472ecdfa403),
-    hi: f64::from_bits(0x3f7a98a2980282bb),
-};
-
-const MID_P9: DoubleDouble = DoubleDouble {
-    lo: f64::from_bits(0x3baffb33d69d6276),
-    hi: f64::from_bits(0xbf142a246fd2c07c),
-};
-
-const MID_Q0: DoubleDouble = DoubleDouble {
-    lo: f64::from_bits(0xbc36337f24e57cb9),
-    hi: f64::from_bits(0x3f92388d5d757e3a),
-};
-
-const MID_Q1: DoubleDouble = DoubleDouble {
-    lo: f64::from_bits(0xbc63dfae43d60e0b),
-    hi: f64::from_bits(0xbfc6ca7da581358c),
-};
-
-const MID_Q2: DoubleDouble = DoubleDouble {
-    lo: f64::from_bits(0xbc77656389bd0e62),
-    hi: f64::from_bits(0x3fe7c82ce417b4e0),
-};
-
-const MID_Q3: DoubleDouble = DoubleDouble {
-    lo: f64::from_bits(0xbc93679667bef2f0),
-    hi: f64::from_bits(0xbffad58651fd1a51),
-};
-
-const MID_Q4: DoubleDouble = DoubleDouble {
-    lo: f64::from_bits(0x3ca2c6cb9eb17fb4),
-    hi: f64::from_bits(0x4001bdb67e93a242),
-};
-
-const MID_Q5: DoubleDouble = DoubleDouble {
-    lo: f64::from_bits(0xbc9b58961ba253bc),
-    hi: f64::from_bits(0xbffbdaeff6fbb81c),
-};
-
-const MID_Q6: DoubleDouble = DoubleDouble {
-    lo: f64::from_bits(0x3c7861f549c6aa61),
-    hi: f64::from_bits(0x3fe91b12cf47da3a),
-};
-
-const MID_Q7: DoubleDouble = DoubleDouble {
-    lo: f64::from_bits(0xbc696dfd665b2f5e),
-    hi: f64::from_bits(0xbfc7c5d0ffb7f1da),
-};
-
-const MID_Q8: DoubleDouble = DoubleDouble {
-    lo: f64::from_bits(0x3c1552b0ec0ba7b3),
-    hi: f64::from_bits(0x3f939ada247f7609),
-};
-
-const MID_Q9: DoubleDouble = DoubleDouble {
-    lo: f64::from_bits(0xbbcaa226fb7b30a8),
-    hi: f64::from_bits(0xbf41be65038ccfe6),
-};
-
-const SMALL_P0: DoubleDouble = DoubleDouble {
-    lo: f64::from_bits(0x3c936555853a8b2c),
-    hi: f64::from_bits(0x3ff0001df06a2515),
-};
-
-const SMALL_P1: DoubleDouble = DoubleDouble {
-    lo: f64::from_bits(0x3cea488e802db3c3),
-    hi: f64::from_bits(0x404406ba373221da),
-};
-
-const SMALL_P2: DoubleDouble = DoubleDouble {
-    lo: f64::from_bits(0xbce27d42419754e3),
-    hi: f64::from_bits(0x407b0442e38a9597),
-};
-
-const SMALL_P3: DoubleDouble = DoubleDouble {
-    lo: f64::from_bits(0xbd224a407624cbdf),
-    hi: f64::from_bits(0x409c9277e31ef446),
-};
-
-const SMALL_P4: DoubleDouble = DoubleDouble {
-    lo: f64::from_bits(0x3d4f16ce65d6fea0),
-    hi: f64::from_bits(0x40aec3ec005b1d8a),
-};
-
-const SMALL_P5: DoubleDouble = DoubleDouble {
-    lo: f64::from_bits(0x3d105bc37bc61b58),
-    hi: f64::from_bits(0x40b46be8f860f4d9),
-};
-
-const SMALL_P6: DoubleDouble = DoubleDouble {
-    lo: f64::from_bits(0x3d5ca133dcdecaa0),
-    hi: f64::from_bits(0x40b3826e6a32dad7),
-};
-
-const SMALL_P7: DoubleDouble = DoubleDouble {
-    lo: f64::from_bits(0x3d1d52013ba8aa38),
-    hi: f64::from_bits(0x40aae93a603cf3ea),
-};
-
-const SMALL_P8: DoubleDouble = DoubleDouble {
-    lo: f64::from_bits(0xbd07a75306df0fc3),
-    hi: f64::from_bits(0x4098ab8357dc2e51),
-};
-
-const SMALL_P9: DoubleDouble = DoubleDouble {
-    lo: f64::from_bits(0x3d1bb6770bb7a27e),
-    hi: f64::from_bits(0x407ebead00879010),
-};
-
-const SMALL_P10: DoubleDouble = DoubleDouble {
-    lo: f64::from_bits(0xbbfcbff4a9737936),
-    hi: f64::from_bits(0x3f8936117ccbff83),
-};
-
-const SMALL_Q1: DoubleDouble = DoubleDouble {
-    lo: f64::from_bits(0xbc75b1109d4a3262),
-    hi: f64::from_bits(0x40440782efaab17f),
-};
-
-const SMALL_Q2: DoubleDouble = DoubleDouble {
-    lo: f64::from_bits(0x3d1f7775b207d84f),
-    hi: f64::from_bits(0x407b2da74b0d39f2),
-};
-
-const SMALL_Q3: DoubleDouble = DoubleDouble {
-    lo: f64::from_bits(0xbd3291fdbab49501),
-    hi: f64::from_bits(0x409dac8d9e7c90b2),
-};
-
-const SMALL_Q4: DoubleDouble = DoubleDouble {
-    lo: f64::from_bits(0xbd58d8fdd27707a9),
-    hi: f64::from_bits(0x40b178dfeffa3192),
-};
-
-const SMALL_Q5: DoubleDouble = DoubleDouble {
-    lo: f64::from_bits(0xbd57fc74ad705ce0),
-    hi: f64::from_bits(0x40bad19b686f219f),
-};
-
-const SMALL_Q6: DoubleDouble = DoubleDouble {
-    lo: f64::from_bits(0x3d4075510031f2cd),
-    hi: f64::from_bits(0x40be70a598208cea),
-};
-
-const SMALL_Q7: DoubleDouble = DoubleDouble {
-    lo: f64::from_bits(0xbd5442e109152efb),
-    hi: f64::from_bits(0x40b9683ef36ae330),
-};
-
-const SMALL_Q8: DoubleDouble = DoubleDouble {
-    lo: f64::from_bits(0x3d5398192933962e),
-    hi: f64::from_bits(0x40b04b7c4c3ca8ee),
-};
-
-const SMALL_Q9: DoubleDouble = DoubleDouble {
-    lo: f64::from_bits(0x3d2d04d03598e303),
-    hi: f64::from_bits(0x409bd0080799fbf1),
-};
-
-const SMALL_Q10: DoubleDouble = DoubleDouble {
-    lo: f64::from_bits(0x3d2a988eb552ef44),
-    hi: f64::from_bits(0x40815a46f12bafe3),
-};
-
-const LONG_P0: DoubleDouble = DoubleDouble {
-    lo: f64::from_bits(0x3c97612f9b24a614),
-    hi: f64::from_bits(0x3ff0000ba84cc7a5),
-};
-
-const LONG_P1: DoubleDouble = DoubleDouble {
-    lo: f64::from_bits(0xbcee8fe2da463412),
-    hi: f64::from_bits(0x40515246546f5d88),
-};
-
-const LONG_P2: DoubleDouble = DoubleDouble {
-    lo: f64::from_bits(0x3d2fa4a2b891b526),
-    hi: f64::from_bits(0x40956b6837159b11),
-};
-
-const LONG_P3: DoubleDouble = DoubleDouble {
-    lo: f64::from_bits(0x3d5d673ffad4f817),
-    hi: f64::from_bits(0x40c5a1aa3be58652),
-};
-
-const LONG_P4: DoubleDouble = DoubleDouble {
-    lo: f64::from_bits(0x3d8867a1e5506f88),
-    hi: f64::from_bits(0x40e65ebb1e1e7c75),
-};
-
-const LONG_P5: DoubleDouble = DoubleDouble {
-    lo: f64::from_bits(0xbd9bbc0764ed8f5b),
-    hi: f64::from_bits(0x40fd2064a652e5c2),
-};
-
-const LONG_P6: DoubleDouble = DoubleDouble {
-    lo: f64::from_bits(0xbda78e569c0d237f),
-    hi: f64::from_bits(0x410a385c627c461c),
-};
-
-const LONG_P7: DoubleDouble = DoubleDouble {
-    lo: f64::from_bits(0xbdab3123ebc465d7),
-    hi: f64::from_bits(0x4110f05ca2b65fe5),
-};
-
-const LONG_P8: DoubleDouble = DoubleDouble {
-    lo: f64::from_bits(0x3d960def35955192),
-    hi: f64::from_bits(0x4110bb079af2fe08),
-};
-
-const LONG_P9: DoubleDouble = DoubleDouble {
-    lo: f64::from_bits(0xbd97904816054836),
-    hi: f64::from_bits(0x410911c24610c11c),
-};
-
-const LONG_P10: DoubleDouble = DoubleDouble {
-    lo: f64::from_bits(0xbd937745e9192593),
-    hi: f64::from_bits(0x40fc603244adca35),
-};
-
-const LONG_P11: DoubleDouble = DoubleDouble {
-    lo: f64::from_bits(0xbd65fbc476d63050),
-    hi: f64::from_bits(0x40e6399103188c21),
-};
-
-const LONG_P12: DoubleDouble = DoubleDouble {
-    lo: f64::from_bits(0xbd61016ef381cce6),
-    hi: f64::from_bits(0x40c6482b44995b89),
-};
-
-const LONG_P13: DoubleDouble = DoubleDouble {
-    lo: f64::from_bits(0x3c326105c49e5a1a),
-    hi: f64::from_bits(0xbfab44bd8b4e3138),
-};
-
-const LONG_Q0: DoubleDouble = DoubleDouble {
-    lo: f64::from_bits(0x0000000000000000),
-    hi: f64::from_bits(0x3ff0000000000000),
-};
-
-const LONG_Q1: DoubleDouble = DoubleDouble {
-    lo: f64::from_bits(0xbcfc7b886ee61417),
-    hi: f64::from_bits(0x405152838f711f3c),
-};
-
-const LONG_Q2: DoubleDouble = DoubleDouble {
-    lo: f64::from_bits(0xbd33f933c14e831a),
-    hi: f64::from_bits(0x409576cb78cab36e),
-};
-
-const LONG_Q3: DoubleDouble = DoubleDouble {
-    lo: f64::from_bits(0x3d33fb09e2c4898a),
-    hi: f64::from_bits(0x40c5e8a2c7602ced),
-};
-
-const LONG_Q4: DoubleDouble = DoubleDouble {
-    lo: f64::from_bits(0x3d7be430c664bf7e),
-    hi: f64::from_bits(0x40e766fdc8c7638c),
-};
-
-const LONG_Q5: DoubleDouble = DoubleDouble {
-    lo: f64::from_bits(0x3dac662e74cdfc0e),
-    hi: f64::from_bits(0x4100276b5f47b5f1),
-};
-
-const LONG_Q6: DoubleDouble = DoubleDouble {
-    lo: f64::from_bits(0x3da67d06e82a8495),
-    hi: f64::from_bits(0x410f843887f8a24a),
-};
-
-const LONG_Q7: DoubleDouble = DoubleDouble {
-    lo: f64::from_bits(0x3dbbf2e22fc2550a),
-    hi: f64::from_bits(0x4116d04271703e08),
-};
-
-const LONG_Q8: DoubleDouble = DoubleDouble {
-    lo: f64::from_bits(0xbdb2fb3aed100853),
-    hi: f64::from_bits(0x4119aff4ed32b74b),
-};
-
-const LONG_Q9: DoubleDouble = DoubleDouble {
-    lo: f64::from_bits(0x3dba75e7b7171c3c),
-    hi: f64::from_bits(0x4116b5eb8bf386bd),
-};
-
-const LONG_Q10: DoubleDouble = DoubleDouble {
-    lo: f64::from_bits(0x3dab2d8b8c1937eb),
-    hi: f64::from_bits(0x410f71c38e84cb34),
-};
-
-const LONG_Q11: DoubleDouble = DoubleDouble {
-    lo: f64::from_bits(0xbda4e2e8a50b7370),
-    hi: f64::from_bits(0x4100ca04b0f36b94),
-};
-
-const LONG_Q12: DoubleDouble = DoubleDouble {
-    lo: f64::from_bits(0xbd86ed6df34fdaf9),
-    hi: f64::from_bits(0x40e9151ded4cf4b7),
-};
-
-const LONG_Q13: DoubleDouble = DoubleDouble {
-    lo: f64::from_bits(0x3d6938ea702c0328),
-    hi: f64::from_bits(0x40c923ee1ab270c4),
-};
+// The coefficients of the rationals: the Rust's lists P, above the line, and Q, below it, of `inverf_0p06_to_0p75`, `inverf_asympt_small` and
+// `inverf_asympt_long`. A row is a pair's bit patterns, low part first. Read at literal places they are constants of the machine code.
+const P_0P06_TO_0P75: [[u64; 2]; 10] = [
+    [0xbc3e06eda42202a0, 0x3f93c2fc5d00e0c8],
+    [0xbc6eb374406b33b4, 0xbfc76fcfd022e3ff],
+    [0xbc857822d7ffd282, 0x3fe6f8443546010a],
+    [0x3c68269c66dfb28a, 0xbff80996754ceb79],
+    [0x3c543dce8990a9f9, 0x3ffcf778d5ef0504],
+    [0xbc72fc55f73765f6, 0xbff433be821423d0],
+    [0xbc66d05fb37c8592, 0x3fdf15f19e9d8da4],
+    [0x3c56dfb85e83a2c5, 0xbfb770b6827e0829],
+    [0x3bff1472ecdfa403, 0x3f7a98a2980282bb],
+    [0x3baffb33d69d6276, 0xbf142a246fd2c07c],
+];
+
+const Q_0P06_TO_0P75: [[u64; 2]; 10] = [
+    [0xbc36337f24e57cb9, 0x3f92388d5d757e3a],
+    [0xbc63dfae43d60e0b, 0xbfc6ca7da581358c],
+    [0xbc77656389bd0e62, 0x3fe7c82ce417b4e0],
+    [0xbc93679667bef2f0, 0xbffad58651fd1a51],
+    [0x3ca2c6cb9eb17fb4, 0x4001bdb67e93a242],
+    [0xbc9b58961ba253bc, 0xbffbdaeff6fbb81c],
+    [0x3c7861f549c6aa61, 0x3fe91b12cf47da3a],
+    [0xbc696dfd665b2f5e, 0xbfc7c5d0ffb7f1da],
+    [0x3c1552b0ec0ba7b3, 0x3f939ada247f7609],
+    [0xbbcaa226fb7b30a8, 0xbf41be65038ccfe6],
+];
+
+const P_ASYMPT_SMALL: [[u64; 2]; 11] = [
+    [0x3c936555853a8b2c, 0x3ff0001df06a2515],
+    [0x3cea488e802db3c3, 0x404406ba373221da],
+    [0xbce27d42419754e3, 0x407b0442e38a9597],
+    [0xbd224a407624cbdf, 0x409c9277e31ef446],
+    [0x3d4f16ce65d6fea0, 0x40aec3ec005b1d8a],
+    [0x3d105bc37bc61b58, 0x40b46be8f860f4d9],
+    [0x3d5ca133dcdecaa0, 0x40b3826e6a32dad7],
+    [0x3d1d52013ba8aa38, 0x40aae93a603cf3ea],
+    [0xbd07a75306df0fc3, 0x4098ab8357dc2e51],
+    [0x3d1bb6770bb7a27e, 0x407ebead00879010],
+    [0xbbfcbff4a9737936, 0x3f8936117ccbff83],
+];
+
+const Q_ASYMPT_SMALL: [[u64; 2]; 11] = [
+    [0x0000000000000000, 0x3ff0000000000000],
+    [0xbc75b1109d4a3262, 0x40440782efaab17f],
+    [0x3d1f7775b207d84f, 0x407b2da74b0d39f2],
+    [0xbd3291fdbab49501, 0x409dac8d9e7c90b2],
+    [0xbd58d8fdd27707a9, 0x40b178dfeffa3192],
+    [0xbd57fc74ad705ce0, 0x40bad19b686f219f],
+    [0x3d4075510031f2cd, 0x40be70a598208cea],
+    [0xbd5442e109152efb, 0x40b9683ef36ae330],
+    [0x3d5398192933962e, 0x40b04b7c4c3ca8ee],
+    [0x3d2d04d03598e303, 0x409bd0080799fbf1],
+    [0x3d2a988eb552ef44, 0x40815a46f12bafe3],
+];
+
+const P_ASYMPT_LONG: [[u64; 2]; 14] = [
+    [0x3c97612f9b24a614, 0x3ff0000ba84cc7a5],
+    [0xbcee8fe2da463412, 0x40515246546f5d88],
+    [0x3d2fa4a2b891b526, 0x40956b6837159b11],
+    [0x3d5d673ffad4f817, 0x40c5a1aa3be58652],
+    [0x3d8867a1e5506f88, 0x40e65ebb1e1e7c75],
+    [0xbd9bbc0764ed8f5b, 0x40fd2064a652e5c2],
+    [0xbda78e569c0d237f, 0x410a385c627c461c],
+    [0xbdab3123ebc465d7, 0x4110f05ca2b65fe5],
+    [0x3d960def35955192, 0x4110bb079af2fe08],
+    [0xbd97904816054836, 0x410911c24610c11c],
+    [0xbd937745e9192593, 0x40fc603244adca35],
+    [0xbd65fbc476d63050, 0x40e6399103188c21],
+    [0xbd61016ef381cce6, 0x40c6482b44995b89],
+    [0x3c326105c49e5a1a, 0xbfab44bd8b4e3138],
+];
+
+const Q_ASYMPT_LONG: [[u64; 2]; 14] = [
+    [0x0000000000000000, 0x3ff0000000000000],
+    [0xbcfc7b886ee61417, 0x405152838f711f3c],
+    [0xbd33f933c14e831a, 0x409576cb78cab36e],
+    [0x3d33fb09e2c4898a, 0x40c5e8a2c7602ced],
+    [0x3d7be430c664bf7e, 0x40e766fdc8c7638c],
+    [0x3dac662e74cdfc0e, 0x4100276b5f47b5f1],
+    [0x3da67d06e82a8495, 0x410f843887f8a24a],
+    [0x3dbbf2e22fc2550a, 0x4116d04271703e08],
+    [0xbdb2fb3aed100853, 0x4119aff4ed32b74b],
+    [0x3dba75e7b7171c3c, 0x4116b5eb8bf386bd],
+    [0x3dab2d8b8c1937eb, 0x410f71c38e84cb34],
+    [0xbda4e2e8a50b7370, 0x4100ca04b0f36b94],
+    [0xbd86ed6df34fdaf9, 0x40e9151ded4cf4b7],
+    [0x3d6938ea702c0328, 0x40c923ee1ab270c4],
+];
+
+// The first three coefficients of the inverse error function's Taylor series, as pairs: the root of pi over 2, and those that follow it.
+const TAYLOR: [[u64; 2]; 3] = [
+    [0xbc8618f13eb7ca89, 0x3fec5bf891b4ef6b],
+    [0xbc33ea2ef8dde075, 0x3fcdb29fb2fee5e4],
+    [0x3c2cec68daff0d80, 0x3fc053c2c0ab91c5],
+];
+
+// The pair whose bit patterns stand in a row.
+fn pair(row: [u64; 2]) -> DoubleDouble
+    requires { ⌜ PlainRow row ⌝ }
+    ensures { λ r. ⌜ r ≡ pairOf row ⌝ }
+{
+    DoubleDouble::from_bit_pair(BitPair {
+        lo: row[0],
+        hi: row[1],
+    })
+}
+
+// z × c1 + c0.
+fn two_terms(z: DoubleDouble, c1: [u64; 2], c0: [u64; 2]) -> DoubleDouble
+    requires { ⌜ PlainRow c1 × PlainRow c0 ⌝ }
+    ensures { λ r. ⌜ r ≡ mulAdd z (pairOf c1) (pairOf c0) ⌝ }
+{
+    DoubleDouble::mul_add(z, pair(c1), pair(c0))
+}
+
+// c1 × z + c0, which may differ from `two_terms` in the last bits.
+fn two_terms_turned(c1: [u64; 2], z: DoubleDouble, c0: [u64; 2]) -> DoubleDouble
+    requires { ⌜ PlainRow c1 × PlainRow c0 ⌝ }
+    ensures { λ r. ⌜ r ≡ mulAdd (pairOf c1) z (pairOf c0) ⌝ }
+{
+    DoubleDouble::mul_add(pair(c1), z, pair(c0))
+}
 
 fn mid_num(z: DoubleDouble, z2: DoubleDouble, z4: DoubleDouble, z8: DoubleDouble) -> DoubleDouble
     ensures { λ r. ⌜ r ≡ paired10 p0p06To0p75 z z2 z4 z8 ⌝ }
 {
-    let p0 = DoubleDouble::mul_add(z, MID_P1, MID_P0);
-    let p1 = DoubleDouble::mul_add(z, MID_P3, MID_P2);
-    let p2 = DoubleDouble::mul_add(z, MID_P5, MID_P4);
-    let p3 = DoubleDouble::mul_add(z, MID_P7, MID_P6);
-    let p4 = DoubleDouble::mul_add(z, MID_P9, MID_P8);
+    let p = P_0P06_TO_0P75;
+    let p0 = two_terms(z, p[1], p[0]);
+    let p1 = two_terms(z, p[3], p[2]);
+    let p2 = two_terms(z, p[5], p[4]);
+    let p3 = two_terms(z, p[7], p[6]);
+    let p4 = two_terms(z, p[9], p[8]);
     let q0 = DoubleDouble::mul_add(z2, p1, p0);
     let q1 = DoubleDouble::mul_add(z2, p3, p2);
     let r0 = DoubleDouble::mul_add(z4, q1, q0);
@@ -380,11 +158,12 @@ fn mid_num(z: DoubleDouble, z2: DoubleDouble, z4: DoubleDouble, z8: DoubleDouble
 fn mid_den(z: DoubleDouble, z2: DoubleDouble, z4: DoubleDouble, z8: DoubleDouble) -> DoubleDouble
     ensures { λ r. ⌜ r ≡ paired10 q0p06To0p75 z z2 z4 z8 ⌝ }
 {
-    let p0 = DoubleDouble::mul_add(z, MID_Q1, MID_Q0);
-    let p1 = DoubleDouble::mul_add(z, MID_Q3, MID_Q2);
-    let p2 = DoubleDouble::mul_add(z, MID_Q5, MID_Q4);
-    let p3 = DoubleDouble::mul_add(z, MID_Q7, MID_Q6);
-    let p4 = DoubleDouble::mul_add(z, MID_Q9, MID_Q8);
+    let q = Q_0P06_TO_0P75;
+    let p0 = two_terms(z, q[1], q[0]);
+    let p1 = two_terms(z, q[3], q[2]);
+    let p2 = two_terms(z, q[5], q[4]);
+    let p3 = two_terms(z, q[7], q[6]);
+    let p4 = two_terms(z, q[9], q[8]);
     let q0 = DoubleDouble::mul_add(z2, p1, p0);
     let q1 = DoubleDouble::mul_add(z2, p3, p2);
     let r0 = DoubleDouble::mul_add(z4, q1, q0);
@@ -394,43 +173,46 @@ fn mid_den(z: DoubleDouble, z2: DoubleDouble, z4: DoubleDouble, z8: DoubleDouble
 fn small_num(z: DoubleDouble, z2: DoubleDouble, z4: DoubleDouble, z8: DoubleDouble) -> DoubleDouble
     ensures { λ r. ⌜ r ≡ paired11 pAsymptSmall (mulAdd (at pAsymptSmall 1) z (at pAsymptSmall 0)) z z2 z4 z8 ⌝ }
 {
-    let q0 = DoubleDouble::mul_add(SMALL_P1, z, SMALL_P0);
-    let q1 = DoubleDouble::mul_add(SMALL_P3, z, SMALL_P2);
-    let q2 = DoubleDouble::mul_add(SMALL_P5, z, SMALL_P4);
-    let q3 = DoubleDouble::mul_add(SMALL_P7, z, SMALL_P6);
-    let q4 = DoubleDouble::mul_add(SMALL_P9, z, SMALL_P8);
+    let p = P_ASYMPT_SMALL;
+    let q0 = two_terms_turned(p[1], z, p[0]);
+    let q1 = two_terms_turned(p[3], z, p[2]);
+    let q2 = two_terms_turned(p[5], z, p[4]);
+    let q3 = two_terms_turned(p[7], z, p[6]);
+    let q4 = two_terms_turned(p[9], z, p[8]);
     let r0 = DoubleDouble::mul_add(z2, q1, q0);
     let r1 = DoubleDouble::mul_add(z2, q3, q2);
     let s0 = DoubleDouble::mul_add(z4, r1, r0);
-    let s1 = DoubleDouble::mul_add(z2, SMALL_P10, q4);
+    let s1 = DoubleDouble::mul_add(z2, pair(p[10]), q4);
     DoubleDouble::mul_add(z8, s1, s0)
 }
 
 fn small_den(z: DoubleDouble, z2: DoubleDouble, z4: DoubleDouble, z8: DoubleDouble) -> DoubleDouble
     ensures { λ r. ⌜ r ≡ paired11 qAsymptSmall (mulAddF64 (at qAsymptSmall 1) z one) z z2 z4 z8 ⌝ }
 {
-    let q0 = DoubleDouble::mul_add_f64(SMALL_Q1, z, 1.0);
-    let q1 = DoubleDouble::mul_add(SMALL_Q3, z, SMALL_Q2);
-    let q2 = DoubleDouble::mul_add(SMALL_Q5, z, SMALL_Q4);
-    let q3 = DoubleDouble::mul_add(SMALL_Q7, z, SMALL_Q6);
-    let q4 = DoubleDouble::mul_add(SMALL_Q9, z, SMALL_Q8);
+    let q = Q_ASYMPT_SMALL;
+    let q0 = DoubleDouble::mul_add_f64(pair(q[1]), z, 1.0);
+    let q1 = two_terms_turned(q[3], z, q[2]);
+    let q2 = two_terms_turned(q[5], z, q[4]);
+    let q3 = two_terms_turned(q[7], z, q[6]);
+    let q4 = two_terms_turned(q[9], z, q[8]);
     let r0 = DoubleDouble::mul_add(z2, q1, q0);
     let r1 = DoubleDouble::mul_add(z2, q3, q2);
     let s0 = DoubleDouble::mul_add(z4, r1, r0);
-    let s1 = DoubleDouble::mul_add(z2, SMALL_Q10, q4);
+    let s1 = DoubleDouble::mul_add(z2, pair(q[10]), q4);
     DoubleDouble::mul_add(z8, s1, s0)
 }
 
 fn long_num(z: DoubleDouble, z2: DoubleDouble, z4: DoubleDouble, z8: DoubleDouble) -> DoubleDouble
     ensures { λ r. ⌜ r ≡ paired14 pAsymptLong z z2 z4 z8 ⌝ }
 {
-    let g0 = DoubleDouble::mul_add(z, LONG_P1, LONG_P0);
-    let g1 = DoubleDouble::mul_add(z, LONG_P3, LONG_P2);
-    let g2 = DoubleDouble::mul_add(z, LONG_P5, LONG_P4);
-    let g3 = DoubleDouble::mul_add(z, LONG_P7, LONG_P6);
-    let g4 = DoubleDouble::mul_add(z, LONG_P9, LONG_P8);
-    let g5 = DoubleDouble::mul_add(z, LONG_P11, LONG_P10);
-    let g6 = DoubleDouble::mul_add(z, LONG_P13, LONG_P12);
+    let p = P_ASYMPT_LONG;
+    let g0 = two_terms(z, p[1], p[0]);
+    let g1 = two_terms(z, p[3], p[2]);
+    let g2 = two_terms(z, p[5], p[4]);
+    let g3 = two_terms(z, p[7], p[6]);
+    let g4 = two_terms(z, p[9], p[8]);
+    let g5 = two_terms(z, p[11], p[10]);
+    let g6 = two_terms(z, p[13], p[12]);
     let h0 = DoubleDouble::mul_add(z2, g1, g0);
     let h1 = DoubleDouble::mul_add(z2, g3, g2);
     let h2 = DoubleDouble::mul_add(z2, g5, g4);
@@ -442,13 +224,14 @@ fn long_num(z: DoubleDouble, z2: DoubleDouble, z4: DoubleDouble, z8: DoubleDoubl
 fn long_den(z: DoubleDouble, z2: DoubleDouble, z4: DoubleDouble, z8: DoubleDouble) -> DoubleDouble
     ensures { λ r. ⌜ r ≡ paired14 qAsymptLong z z2 z4 z8 ⌝ }
 {
-    let g0 = DoubleDouble::mul_add(z, LONG_Q1, LONG_Q0);
-    let g1 = DoubleDouble::mul_add(z, LONG_Q3, LONG_Q2);
-    let g2 = DoubleDouble::mul_add(z, LONG_Q5, LONG_Q4);
-    let g3 = DoubleDouble::mul_add(z, LONG_Q7, LONG_Q6);
-    let g4 = DoubleDouble::mul_add(z, LONG_Q9, LONG_Q8);
-    let g5 = DoubleDouble::mul_add(z, LONG_Q11, LONG_Q10);
-    let g6 = DoubleDouble::mul_add(z, LONG_Q13, LONG_Q12);
+    let q = Q_ASYMPT_LONG;
+    let g0 = two_terms(z, q[1], q[0]);
+    let g1 = two_terms(z, q[3], q[2]);
+    let g2 = two_terms(z, q[5], q[4]);
+    let g3 = two_terms(z, q[7], q[6]);
+    let g4 = two_terms(z, q[9], q[8]);
+    let g5 = two_terms(z, q[11], q[10]);
+    let g6 = two_terms(z, q[13], q[12]);
     let h0 = DoubleDouble::mul_add(z2, g1, g0);
     let h1 = DoubleDouble::mul_add(z2, g3, g2);
     let h2 = DoubleDouble::mul_add(z2, g5, g4);
@@ -459,7 +242,7 @@ fn long_den(z: DoubleDouble, z2: DoubleDouble, z4: DoubleDouble, z8: DoubleDoubl
 
 // x² - 0.5625
 fn centred(x: DoubleDouble) -> DoubleDouble
-    ensures { λ r. ⌜ r ≡ centred x ⌝ }
+    ensures { λ r. ⌜ r ≡ centredOf x ⌝ }
 {
     let x2 = DoubleDouble::quick_mult(x, x);
     DoubleDouble::full_add_f64(x2, -0.5625)
@@ -504,28 +287,9 @@ pub(crate) fn inverf_asympt_long(z: DoubleDouble, zeta_sqrt: DoubleDouble) -> Do
     DoubleDouble::quick_mult(r, zeta_sqrt)
 }
 
-// The Taylor series' first two coefficients.
-fn taylor0() -> DoubleDouble
-    ensures { λ r. ⌜ r ≡ Rattle.pxfm.specs.Inverfc.taylor0 ⌝ }
-{
-    DoubleDouble::from_bit_pair(BitPair {
-        lo: 0xbc8618f13eb7ca89,
-        hi: 0x3fec5bf891b4ef6b,
-    })
-}
-
-fn taylor1() -> DoubleDouble
-    ensures { λ r. ⌜ r ≡ Rattle.pxfm.specs.Inverfc.taylor1 ⌝ }
-{
-    DoubleDouble::from_bit_pair(BitPair {
-        lo: 0xbc33ea2ef8dde075,
-        hi: 0x3fcdb29fb2fee5e4,
-    })
-}
-
 // Up to 0.0095.
 fn taylor4(x: DoubleDouble) -> DoubleDouble
-    ensures { λ r. ⌜ r ≡ taylor4 x ⌝ }
+    ensures { λ r. ⌜ r ≡ taylor4Of x ⌝ }
 {
     let z2 = DoubleDouble::quick_mult(x, x);
     let p = common::f_fmla(
@@ -533,14 +297,14 @@ fn taylor4(x: DoubleDouble) -> DoubleDouble
         f64::from_bits(0x3fb62847c47dda48),
         f64::from_bits(0x3fc053c2c0ab91c5),
     );
-    let r1 = DoubleDouble::mul_f64_add(z2, p, taylor1());
-    let r0 = DoubleDouble::mul_add(z2, r1, taylor0());
+    let r1 = DoubleDouble::mul_f64_add(z2, p, pair(TAYLOR[1]));
+    let r0 = DoubleDouble::mul_add(z2, r1, pair(TAYLOR[0]));
     DoubleDouble::quick_mult(r0, x)
 }
 
 // Up to 0.06.
 fn taylor7(x: DoubleDouble) -> DoubleDouble
-    ensures { λ r. ⌜ r ≡ taylor7 x ⌝ }
+    ensures { λ r. ⌜ r ≡ taylor7Of x ⌝ }
 {
     let z2 = DoubleDouble::quick_mult(x, x);
     let p = polyeval::f_polyeval4(
@@ -550,13 +314,9 @@ fn taylor7(x: DoubleDouble) -> DoubleDouble
         f64::from_bits(0x3faa7c85c89bb08b),
         f64::from_bits(0x3fa5eeb1d488e312),
     );
-    let c2 = DoubleDouble::from_bit_pair(BitPair {
-        lo: 0x3c2cec68daff0d80,
-        hi: 0x3fc053c2c0ab91c5,
-    });
-    let r2 = DoubleDouble::mul_f64_add(z2, p, c2);
-    let r1 = DoubleDouble::mul_add(z2, r2, taylor1());
-    let r0 = DoubleDouble::mul_add(z2, r1, taylor0());
+    let r2 = DoubleDouble::mul_f64_add(z2, p, pair(TAYLOR[2]));
+    let r1 = DoubleDouble::mul_add(z2, r2, pair(TAYLOR[1]));
+    let r0 = DoubleDouble::mul_add(z2, r1, pair(TAYLOR[0]));
     DoubleDouble::quick_mult(r0, x)
 }
 
@@ -564,23 +324,39 @@ fn taylor7(x: DoubleDouble) -> DoubleDouble
 fn quick_num(vz: DoubleDouble) -> DoubleDouble
     ensures { λ r. ⌜ r ≡ horner10 p0p06To0p75 vz ⌝ }
 {
-    let ps = polyeval::f_polyeval5(vz.hi, MID_P5.hi, MID_P6.hi, MID_P7.hi, MID_P8.hi, MID_P9.hi);
-    let n4 = DoubleDouble::mul_f64_add(vz, ps, MID_P4);
-    let n3 = DoubleDouble::mul_add(vz, n4, MID_P3);
-    let n2 = DoubleDouble::mul_add(vz, n3, MID_P2);
-    let n1 = DoubleDouble::mul_add(vz, n2, MID_P1);
-    DoubleDouble::mul_add(vz, n1, MID_P0)
+    let p = P_0P06_TO_0P75;
+    let ps = polyeval::f_polyeval5(
+        vz.hi,
+        f64::from_bits(p[5][1]),
+        f64::from_bits(p[6][1]),
+        f64::from_bits(p[7][1]),
+        f64::from_bits(p[8][1]),
+        f64::from_bits(p[9][1]),
+    );
+    let n4 = DoubleDouble::mul_f64_add(vz, ps, pair(p[4]));
+    let n3 = DoubleDouble::mul_add(vz, n4, pair(p[3]));
+    let n2 = DoubleDouble::mul_add(vz, n3, pair(p[2]));
+    let n1 = DoubleDouble::mul_add(vz, n2, pair(p[1]));
+    DoubleDouble::mul_add(vz, n1, pair(p[0]))
 }
 
 fn quick_den(vz: DoubleDouble) -> DoubleDouble
     ensures { λ r. ⌜ r ≡ horner10 q0p06To0p75 vz ⌝ }
 {
-    let ps = polyeval::f_polyeval5(vz.hi, MID_Q5.hi, MID_Q6.hi, MID_Q7.hi, MID_Q8.hi, MID_Q9.hi);
-    let n4 = DoubleDouble::mul_f64_add(vz, ps, MID_Q4);
-    let n3 = DoubleDouble::mul_add(vz, n4, MID_Q3);
-    let n2 = DoubleDouble::mul_add(vz, n3, MID_Q2);
-    let n1 = DoubleDouble::mul_add(vz, n2, MID_Q1);
-    DoubleDouble::mul_add(vz, n1, MID_Q0)
+    let q = Q_0P06_TO_0P75;
+    let ps = polyeval::f_polyeval5(
+        vz.hi,
+        f64::from_bits(q[5][1]),
+        f64::from_bits(q[6][1]),
+        f64::from_bits(q[7][1]),
+        f64::from_bits(q[8][1]),
+        f64::from_bits(q[9][1]),
+    );
+    let n4 = DoubleDouble::mul_f64_add(vz, ps, pair(q[4]));
+    let n3 = DoubleDouble::mul_add(vz, n4, pair(q[3]));
+    let n2 = DoubleDouble::mul_add(vz, n3, pair(q[2]));
+    let n1 = DoubleDouble::mul_add(vz, n2, pair(q[1]));
+    DoubleDouble::mul_add(vz, n1, pair(q[0]))
 }
 
 // The quicker rational from 0.06 to 0.75.
@@ -610,7 +386,7 @@ fn rounds_alike(k: DoubleDouble) -> bool
 
 // From 0.06 to 0.75.
 fn middle(x: DoubleDouble) -> DoubleDouble
-    ensures { λ r. ⌜ r ≡ middle x ⌝ }
+    ensures { λ r. ⌜ r ≡ middleOf x ⌝ }
 {
     let k = quick_rational(x);
     if rounds_alike(k) {
@@ -631,7 +407,7 @@ fn zeta_sqrt(log: DoubleDouble) -> DoubleDouble
 fn tail(x: DoubleDouble) -> DoubleDouble
     requires { ⌜ lt (x .hi) one ≡ true ⌝ }
     requires { ⌜ le (x .hi) threeQuarters ≡ false ⌝ }
-    ensures { λ r. ⌜ r ≡ tail x ⌝ }
+    ensures { λ r. ⌜ r ≡ tailOf x ⌝ }
 {
     let q = DoubleDouble::full_add_f64(x.neg(), 1.0);
     let root = zeta_sqrt(fast_log_dd::fast_log_dd(q));
@@ -675,7 +451,7 @@ fn inverfc_extra_small(x: f64) -> DoubleDouble
 
 // x itself, or 2 - x above 1.
 fn mirrored(x: f64) -> DoubleDouble
-    ensures { λ r. ⌜ r ≡ mirrored x ⌝ }
+    ensures { λ r. ⌜ r ≡ mirroredOf x ⌝ }
 {
     if x > 1.0 {
         return DoubleDouble::from_full_exact_sub(2.0, x);
@@ -706,7 +482,7 @@ fn central(x: f64) -> f64
     requires { ⌜ toBits binary64 x < 0x4000_0000_0000_0000 ⌝ }
     requires { ⌜ eq x one ≡ false ⌝ }
     requires { ⌜ lt x tenth ≡ false ⌝ }
-    ensures { λ r. ⌜ r ≡ central x ⌝ }
+    ensures { λ r. ⌜ r ≡ centralOf x ⌝ }
 {
     let dx = core_argument(x);
     let r = erf_core(dx).to_f64();

@@ -1,7 +1,7 @@
 -- `central`: that the pair's high part is below 1 is the law `argument-below-one`, from the three requirements;
 -- the equations of its four calls rewrite the result to the definition's. Assumes nothing.
 use borrow.Author.Needs.{needs}
-use Rattle.pxfm.specs.Inverfc.{central}
+use Rattle.pxfm.specs.Inverfc.{centralOf}
 use Rattle.pxfm.proofs.Argument.{argument-below-one}
 use Rattle.pxfm.proofs.Calls.{ok}
 use Rattle.pxfm.proofs.err.inverfc.central.Statement.{statement}
@@ -13,7 +13,7 @@ erf-core-requires c κs =
     rw (c .core-argument .ensures) (argument-below-one (o .args .x) (search needs) (o .pre .0) (o .pre .1 .0) (o .pre .1 .1))
 
 pub central-spec : {M : Type 1} → statement M
-unfolding central
+unfolding centralOf
 central-spec = tie.close (tie.spec ok erf-core-requires ok ok
     (λ c.
     let p = c .before .before in

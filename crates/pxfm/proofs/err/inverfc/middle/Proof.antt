@@ -1,12 +1,12 @@
 -- `middle`: the definition's condition is turned into the answers that the two calls gave, so that the branch taken decides it;
 -- the other branch adds the equation of the slower rational. Assumes nothing.
-use Rattle.pxfm.specs.Inverfc.{middle}
+use Rattle.pxfm.specs.Inverfc.{middleOf}
 use Rattle.pxfm.proofs.Calls.{ok}
 use Rattle.pxfm.proofs.err.inverfc.middle.Statement.{statement}
 use Rattle.pxfm.proofs.err.inverfc.middle.Tie as tie
 
 pub middle-spec : {M : Type 1} → statement M
-unfolding middle
+unfolding middleOf
 middle-spec =
     tie.close
     (tie.spec
