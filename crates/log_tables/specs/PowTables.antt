@@ -2,12 +2,6 @@
 -- The entry at i belongs to the arguments t with (i + 181) / 256 ≤ t < (i + 182) / 256.
 use Prim.Native.Nat.{ℕ}
 use mathlib.Core.List.{List, [], _∷_}
-use lib.ListN.{getD}
-use lib.Ieee.{Float, binary64, ofBits}
-
--- The double at a place of a table of bit patterns.
-abbrev pub entryAt : List ℕ → ℕ → Float
-entryAt t i = ofBits binary64 (getD t i 0)
 
 -- The reciprocals.
 unfoldable pub powInverse : List ℕ

@@ -1,13 +1,7 @@
 -- The 182 logarithms of the reciprocals in specs/PowTables.antt, with the other sign, as pairs in two columns of bit patterns
 -- (document 01, src/logs/fast_log_dd.rs).
 use Prim.Native.Nat.{ℕ}
-use mathlib.Core.Path.{_≡_}
 use mathlib.Core.List.{List, [], _∷_}
-use lib.ListN.{getD}
-use Rattle.pxfm.specs.declared.double_double.DoubleDouble.{DoubleDouble}
-use Rattle.pxfm.specs.declared.pow_tables.Row.{Row}
-use Rattle.pxfm.specs.DoubleDouble.{newOf}
-use Rattle.pxfm.specs.PowTables.{entryAt, powInverse}
 
 -- The low parts.
 unfoldable pub fastLogDdInvLo : List ℕ
@@ -382,13 +376,3 @@ fastLogDdInvHi =
     0x3fd602d08af091ec ∷
     0x3fd630030b3aac49 ∷
     []
-
--- r is the row at a place of both tables.
-pub record RowAt (i : ℕ) (r : Row) : Type 0 where
-  pub inverse : r .0 ≡ getD powInverse i 0
-  pub low : r .1 ≡ getD fastLogDdInvLo i 0
-  pub high : r .2 ≡ getD fastLogDdInvHi i 0
-
--- The pair at a place of the two columns.
-abbrev pub fastLogDdInv : ℕ → DoubleDouble
-fastLogDdInv i = newOf (entryAt fastLogDdInvLo i) (entryAt fastLogDdInvHi i)
