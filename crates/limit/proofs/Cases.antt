@@ -8,9 +8,9 @@ use lib.Ieee.{binary64, ofBits, toBits, ofInt, isNan, eq, lt, le, add, sub, mul,
 use Rattle.sqrt.specs.Sqrt.{isqrt, roundRoot, roundSqrt, sqrtIn, sqrtOf}
 use Rattle.pxfm.specs.DoubleDouble.{fromBitPair, negOf, splitOf, fromExactMult, fromExactAdd, fromFullExactAdd, fullAddF64, f64Add, quickMult}
 use Rattle.pxfm.specs.DoubleDouble.{quickMultF64, mulAdd, mulF64Add, divOf, recipOf, fastSqrt, toF64, ddF64MulAdd, log2Dd}
-use Rattle.pxfm.specs.PowTables.{powInverse}
+use Rattle.log_tables.specs.PowTables.{powInverse}
 use Rattle.pxfm.specs.PowExec.{p1, logPoly1}
-use Rattle.pxfm.specs.LogTable.{fastLogDdInvLo, fastLogDdInvHi}
+use Rattle.log_tables.specs.LogTable.{fastLogDdInvLo, fastLogDdInvHi}
 use Rattle.pxfm.specs.FastLogDd.{scaledOf, indexOf, factorOf, carryOf, reducedOf, exponentOf, partsOf, fastLogDToDd}
 use Rattle.pxfm.specs.Rationals.{paired14, pAsymptLong, qAsymptLong, inverfAsymptLong}
 use Rattle.pxfm.specs.Inverfc.{zetaSqrt, asymptotic, inverfcExtraSmall, fErfcinv, fErfcinvBits}

@@ -11,7 +11,8 @@ use lib.Dec.{T, leb, ltb, leb→le, ltb→lt}
 use lib.Ieee.{Float, binary64, ofBits}
 use lib.Ieee.Fits.{and-l, and-r}
 use lib.Ieee.Positive.{num, den}
-use Rattle.pxfm.specs.PowTables.{entryAt, powInverse}
+use Rattle.log_tables.specs.PowTables.{powInverse}
+use Rattle.log_tables.specs.Rows.{entryAt}
 use Rattle.pxfm.specs.FastLogDd.{halved, indexOf}
 use Rattle.pxfm.specs.Bins.{InBin, NearOne, unitOf}
 use Rattle.pxfm.proofs.Tables.{every-at}

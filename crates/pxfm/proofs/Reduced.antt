@@ -16,7 +16,8 @@ use lib.Ieee.Exact.{HasValue, round-exact}
 use lib.Ieee.Positive.{num, den, den-pos, value→cross, positive-of-value, mul-at}
 use Rattle.sqrt.proofs.Scaling.{pattern-mid}
 use Rattle.pxfm.specs.DoubleDouble.{one}
-use Rattle.pxfm.specs.PowTables.{entryAt, powInverse}
+use Rattle.log_tables.specs.PowTables.{powInverse}
+use Rattle.log_tables.specs.Rows.{entryAt}
 use Rattle.pxfm.specs.PowExec.{half}
 use Rattle.pxfm.specs.FastLogDd.{halved, factorOf, indexOf, reducedOf}
 use Rattle.pxfm.specs.Bins.{NearOne, AroundOne, unitOf}

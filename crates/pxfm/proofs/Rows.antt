@@ -2,9 +2,10 @@
 -- Assumes nothing.
 use Prim.Native.Nat.{ℕ}
 use lib.Ieee.{nanBits}
-use Rattle.pxfm.specs.declared.pow_tables.Row.{Row}
-use Rattle.pxfm.specs.PowTables.{powInverse}
-use Rattle.pxfm.specs.LogTable.{fastLogDdInvLo, fastLogDdInvHi, RowAt}
+use Rattle.log_tables.specs.declared.Row.{Row}
+use Rattle.log_tables.specs.PowTables.{powInverse}
+use Rattle.log_tables.specs.LogTable.{fastLogDdInvLo, fastLogDdInvHi}
+use Rattle.log_tables.specs.Rows.{RowAt}
 use Rattle.pxfm.proofs.Tables.{Plain, plain-at}
 
 pub plain-inverse : {i : ℕ} {r : Row} → RowAt i r → Plain (r .0)

@@ -1,12 +1,8 @@
--- A test that antt computes at each entry of a table, and what it shows of the entry at a place; and what the last arm of a `match`
--- over a table or a list knows.
--- Assumes nothing.
-use mathlib.Core.Path.{_≡_, refl}
+-- A test that antt computes at each entry of a table, and what it shows of the entry at a place. Assumes nothing.
 use mathlib.Core.Bool.{Bool, true, not, _&&_}
 use mathlib.Core.List.{List, [], _∷_}
-use Prim.Native.Nat.{ℕ, zero, suc, _+_, _<_, _≤_}
+use Prim.Native.Nat.{ℕ, zero, suc, _+_, _<_}
 use native.Mathlib.Nat.{add-zero, zero-add, add-suc, suc-add, le-of-suc-le-suc, not-suc-le-zero}
-use native.Mathlib.Omega.{arith}
 use lib.Dec.{T}
 use lib.ListN.{length, getD}
 use lib.Ieee.{binary64, nanBits}
@@ -42,22 +38,3 @@ every-from f (x ∷ xs) i t (suc k) h =
 -- So it passes at the place k.
 pub every-at : (f : ℕ → ℕ → Bool) (xs : List ℕ) → T (every f 0 xs) → (k : ℕ) → k < length xs → T (f k (getD xs k 0))
 every-at f xs t k h = rw zero-add at (every-from f xs 0 t k h)
-
--- i is none of the n numbers below n: what is left to the last arm of a `match` with an arm for each of them.
-abbrev pub Missed : ℕ → ℕ → Type 0
-Missed zero i = Unit {0}
-Missed (suc n) i = Missed n i × (i ≡ n → ⊥)
-
-above-each : (n i : ℕ) → n ≤ i → (i ≡ n → ⊥) → suc n ≤ i
-above-each n i l h = omega arith
-
--- So it is n or more,
-pub missed-le : (n i : ℕ) → Missed n i → n ≤ i
-missed-le zero i m = omega arith
-missed-le (suc n) i m = above-each n i (missed-le n i (m .0)) (m .1)
-
--- and past the end of a list of n entries, where the look-up answers d.
-pub past-end : {A : Type 0} (d : A) (xs : List A) (i : ℕ) → length xs ≤ i → d ≡ getD xs i d
-past-end d [] i h = refl
-past-end d (x ∷ xs) zero h = absurd (omega arith)
-past-end d (x ∷ xs) (suc i) h = past-end d xs i (le-of-suc-le-suc h)

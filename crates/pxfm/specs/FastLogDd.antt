@@ -5,14 +5,15 @@ use mathlib.Core.Bool.{Bool, cond, _||_}
 use lib.Dec.{leb, eqb}
 use lib.Count.{leadingZeros}
 use lib.Ieee.{Float, binary64, ofBits, toBits, ofInt, minus, le, neg, add, mul, div}
+use Rattle.log_tables.specs.PowTables.{powInverse}
+use Rattle.log_tables.specs.LogTable.{fastLogDdInvLo, fastLogDdInvHi}
+use Rattle.log_tables.specs.Rows.{entryAt}
 use Rattle.pxfm.specs.declared.double_double.DoubleDouble.{DoubleDouble}
 use Rattle.pxfm.specs.declared.logs.fast_log_dd.Scaled.{Scaled}
 use Rattle.pxfm.specs.declared.logs.fast_log_dd.Parts.{Parts}
 use Rattle.pxfm.specs.DoubleDouble.{newOf, one, log2Dd, fromExactAdd, f64Add, mulF64Add}
 use Rattle.pxfm.specs.Common.{ddFmla}
-use Rattle.pxfm.specs.PowTables.{entryAt, powInverse}
 use Rattle.pxfm.specs.PowExec.{half, logPoly1}
-use Rattle.pxfm.specs.LogTable.{fastLogDdInv}
 
 -- A significand and the exponent with 1074 added.
 abbrev pub scaled : ℕ → ℕ → Scaled
@@ -50,6 +51,10 @@ carryOf m = cond (halved m) 1 0
 -- The place of m in both tables (document 01's index).
 unfoldable pub indexOf : ℕ → ℕ
 indexOf m = cond (halved m) (m / 2 ^ 45) (m / 2 ^ 44) - 181
+
+-- The logarithm at a place of its two columns.
+abbrev pub fastLogDdInv : ℕ → DoubleDouble
+fastLogDdInv i = newOf (entryAt fastLogDdInvLo i) (entryAt fastLogDdInvHi i)
 
 -- The reduced argument t, from the root of 1/2 up to the root of 2.
 unfoldable pub reducedOf : ℕ → Float

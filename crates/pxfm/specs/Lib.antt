@@ -3,9 +3,7 @@
 pub mod DoubleDouble
 pub mod Common
 pub mod Polyeval
-pub mod PowTables
 pub mod PowExec
-pub mod LogTable
 pub mod FastLogDd
 pub mod Bins
 pub mod Rationals

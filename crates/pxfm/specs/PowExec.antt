@@ -6,7 +6,7 @@ use lib.Ieee.{Float, binary64, ofBits, neg, mul}
 use Rattle.pxfm.specs.declared.double_double.DoubleDouble.{DoubleDouble}
 use Rattle.pxfm.specs.DoubleDouble.{newOf, fromExactMult}
 use Rattle.pxfm.specs.Common.{ddFmla}
-use Rattle.pxfm.specs.PowTables.{entryAt}
+use Rattle.log_tables.specs.Rows.{entryAt}
 
 -- The double 0.5.
 abbrev pub half : Float

@@ -7,5 +7,4 @@ pub mod err;
 mod logs;
 mod polyeval;
 mod pow_exec;
-mod pow_tables;
 pub mod steps;

@@ -8,7 +8,6 @@ ghost use Rattle.pxfm.specs.FastLogDd.{partsOf, fastLogDToDd, logLo, fas
 use crate::common;
 use crate::double_double::DoubleDouble;
 use crate::pow_exec;
-use crate::pow_tables;
 
 // The weight of a significand's leading bit.
 const UNIT: u64 = 0x10000000000000;
@@ -103,7 +102,7 @@ fn log_parts(x: f64) -> Parts
     let s = scale(f64::to_bits(x));
     let m = s.m;
     let i = index(m);
-    let row = pow_tables::row_at(i);
+    let row = log_tables::row_at(i);
     let r = f64::from_bits(row.0);
     let z = common::dd_fmla(r, reduced(m), -1.0);
     let be = exponent(m, s.e);

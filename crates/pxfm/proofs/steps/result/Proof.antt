@@ -1,10 +1,10 @@
 -- `result`: the arm with number k calls the function whose definition stands at k in the list `results`, and its equations rewrite the result.
 -- Assumes nothing.
 use mathlib.Core.Path.{ap}
+use Rattle.log_tables.proofs.Arms.{missed-le, past-end}
 use Rattle.pxfm.specs.DoubleDouble.{nanPair}
 use Rattle.pxfm.specs.Steps.{patternsOf, results, resultOf}
 use Rattle.pxfm.proofs.Calls.{ok}
-use Rattle.pxfm.proofs.Tables.{missed-le, past-end}
 use Rattle.pxfm.proofs.steps.result.Statement.{statement}
 use Rattle.pxfm.proofs.steps.result.Tie as tie
 

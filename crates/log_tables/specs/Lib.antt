@@ -1,0 +1,3 @@
+pub mod PowTables
+pub mod LogTable
+pub mod Rows
