@@ -1,31 +1,20 @@
--- The bit pattern of a finite double from its number of units, and what patterns below 2's and below an infinity's say.
--- With k digits more than 53 the pattern is k in the exponent's field and the first 53 digits added to it. Assumes nothing.
-use mathlib.Core.Path.{_≡_, sym, ap, _∙_}
-use mathlib.Core.Bool.{Bool, true, false, cond}
+-- What the patterns of doubles above zero, below 2 and below an infinity say of their numbers of units, and the other way round.
+-- Assumes nothing.
+use mathlib.Core.Path.{_≡_, sym}
+use mathlib.Core.Bool.{Bool, true, false}
 use Prim.Native.Nat.{ℕ, _+_, _-_, _*_, _/_, _^_, _≤_, _<_}
-use native.Mathlib.Nat.{le-of-eq, le-trans, lt-of-lt-of-le, lt-of-not-le, one-mul, mul-pos, mul-div-cancel, le-div-iff-mul-le}
+use native.Mathlib.Nat.{le-of-eq, le-trans, lt-of-lt-of-le, lt-of-not-le, one-mul, mul-pos, le-div-iff-mul-le}
 use native.Mathlib.Omega.{arith}
 use lib.Dec.{T}
 use lib.Pow.{pow-add, pow-pos, pow-mono, shl-lt}
-use lib.Ieee.{Float, nan, inf, fin, binary64, up, down, size, fits, toBits, top, hid}
+use lib.Ieee.{Float, nan, inf, fin, binary64, size, fits, toBits}
 use lib.Ieee.Digits.{size-le, size-reaches}
 use lib.Ieee.Exact.{HasValue}
-use lib.Ieee.Fits.{down-pos, kept-lt}
-use Rattle.pxfm.proofs.Digits.{size-above}
+use lib.Ieee.Fits.{kept-lt}
+use Rattle.sqrt.proofs.Digits.{size-above}
+use Rattle.sqrt.proofs.Patterns.{pattern, bits-of-units}
 use Rattle.pxfm.proofs.Value.{Gap, Val}
 use Rattle.pxfm.proofs.Units.{in-units}
-
--- The pattern of a double with the sign s and of a units.
-abbrev pub pattern : Bool → ℕ → ℕ
-pattern s a = cond s (top binary64) 0 + (size a - 53) * hid binary64 + a / 2 ^ (size a - 53)
-
-pub bits-of-units : (x : Float) (s : Bool) (a : ℕ) → HasValue x s a (2 ^ 1074) → toBits binary64 x ≡ pattern s a
-unfolding toBits
-bits-of-units nan s a h = absurd h
-bits-of-units (inf t) s a h = absurd h
-bits-of-units (fin t m e) s a h =
-    let n : m * up e * 2 ^ 1074 / down e ≡ a = ap (λ (x : ℕ). x / down e) (h .1) ∙ mul-div-cancel a (down-pos e) in
-    ap (λ (b : Bool). pattern b (m * up e * 2 ^ 1074 / down e)) (h .0) ∙ ap (λ (x : ℕ). pattern s x) n
 
 -- x is above zero, and finite.
 abbrev pub PositiveBits : Float → Type 0
@@ -33,7 +22,7 @@ PositiveBits x = (0 < toBits binary64 x) × (toBits binary64 x < 0x7ff0_0000_000
 
 positive-of-units : (x : Float) (a : ℕ) → HasValue x false a (2 ^ 1074) → 0 < a → a < 2 ^ 2098 → PositiveBits x
 positive-of-units x a h A B =
-    let e = bits-of-units x false a h in
+    let e = bits-of-units binary64 x false a h in
     let z : 0 < size a = size-above 0 a A in
     let k = size a - 53 in
     let lo : 2 ^ k ≤ a = size-reaches a k (omega arith) in
@@ -76,12 +65,19 @@ bits-below-two (fin true m e) f h = absurd (omega arith)
 bits-below-two (fin false m e) f h =
     let c = in-units false m e f in
     let a = m * 2 ^ c .w in
-    record { a = a; val = c .val; high = lt-of-not-le (λ g. from-two a g (rw (bits-of-units (fin false m e) false a (c .val)) at h)) }
+    record { a = a; val = c .val; high = lt-of-not-le (λ g. from-two a g (rw (bits-of-units binary64 (fin false m e) false a (c .val)) at h)) }
   where
-    from-two : (a : ℕ) → 2 ^ 1075 ≤ a → pattern false a < 0x4000_0000_0000_0000 → ⊥
+    from-two : (a : ℕ) → 2 ^ 1075 ≤ a → pattern binary64 false a < 0x4000_0000_0000_0000 → ⊥
     from-two a g h =
         let z : 1075 < size a = size-above 1075 a g in
         let k = size a - 53 in
         let lo : 2 ^ (52 + k) ≤ a = size-reaches a (52 + k) (omega arith) in
         let q : 2 ^ 52 ≤ a / 2 ^ k = le-div-iff-mul-le (pow-pos k) .1 (le-trans (le-of-eq (sym (pow-add 2 52 k))) lo) in
         omega arith
+
+pub below-two-bits : (x : Float) → BelowTwo x → toBits binary64 x < 0x4000_0000_0000_0000
+below-two-bits x u =
+    let k = size (u .a) - 53 in
+    let s : size (u .a) ≤ 1075 = size-le (u .a) 1075 (u .high) in
+    let first : u .a / 2 ^ k < 2 ^ 53 = kept-lt 53 (u .a) in
+    rw (bits-of-units binary64 x false (u .a) (u .val)) (omega arith)

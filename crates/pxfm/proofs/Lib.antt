@@ -1,9 +1,8 @@
 -- The laws behind the port's proofs, one idea to a file, in the order in which they build on each other.
--- Document 01's statements on the port are in `Argument`, `Rows`, `Shift`, `Exponent`, `Bins`, `Reduced`, `ScaledValue` and `Answers`.
+-- Document 01's statements on the port are in `Argument`, `Rows`, `Shift`, `Exponent`, `Bins`, `Reduced`, `ScaledValue`, `FirstTests` and `Answers`.
 pub mod Calls
 mod Paired
 pub mod Nan
-pub mod Digits
 pub mod Value
 pub mod Exact
 pub mod Error
@@ -21,5 +20,6 @@ pub mod Exponent
 pub mod Bins
 pub mod Reduced
 pub mod ScaledValue
+pub mod FirstTests
 pub mod Answers
 pub mod PositiveFinite

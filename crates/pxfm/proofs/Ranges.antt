@@ -5,7 +5,7 @@
 use mathlib.Core.Path.{_≡_, refl, sym, ap, _∙_}
 use mathlib.Core.Bool.{true, false, not}
 use Prim.Native.Nat.{ℕ, _+_, _*_, _^_, _≤_, _<_}
-use native.Mathlib.Nat.{le-of-eq, le-trans, lt-of-le-of-lt, le-of-mul-le-mul-right, mul-assoc, zero-mul}
+use native.Mathlib.Nat.{le-of-eq, le-trans, lt-of-le-of-lt, lt-of-mul-lt-mul-right, le-of-mul-le-mul-right, mul-assoc, zero-mul}
 use native.Mathlib.Omega.{arith}
 use lib.Dec.{T}
 use lib.Pow.{pow-add, pow-pos}
@@ -13,7 +13,6 @@ use lib.Ieee.{Float, nan, inf, fin, binary64, ofBits, fits, lt, le}
 use lib.Ieee.Exact.{HasValue}
 use Rattle.pxfm.specs.DoubleDouble.{one, two}
 use Rattle.pxfm.specs.Argument.{zero, tenth, threeQuarters}
-use Rattle.pxfm.proofs.Digits.{lt-of-mul-lt}
 use Rattle.pxfm.proofs.Value.{Val}
 use Rattle.pxfm.proofs.Units.{in-units, units-multiple, val-of-units, val-whole, val-whole-negative}
 use Rattle.pxfm.proofs.Order.{val-of-lt, val-of-not-lt, val-of-not-le}
@@ -72,7 +71,7 @@ lower-half x f u nl h =
     let g = units-multiple 1018 x false (u .a) f (u .val) b in
     let v = val-of-units (g .0) 1018 (u .val) (g .1) in
     let c : g .0 * 2 ^ 1018 < 2 ^ 55 * 2 ^ 1018 = lt-of-le-of-lt (le-of-eq (sym (g .1))) h in
-    record { a = g .0; val = v; from = le-plain (val-of-not-lt v (tenth-val 0 1018 refl) nl); to = lt-of-mul-lt (2 ^ 1018) c }
+    record { a = g .0; val = v; from = le-plain (val-of-not-lt v (tenth-val 0 1018 refl) nl); to = lt-of-mul-lt-mul-right (2 ^ 1018) c }
   where
     tenth-above : (u a : ℕ) → tenthUnits * u + 0 ≤ a + 0 → 2 ^ 52 * u ≤ a
     tenth-above u a h = omega arith
@@ -108,7 +107,7 @@ above-one x f u l =
     let g = units-multiple 1022 x false (u .a) f (u .val) b in
     let v = val-of-units (2 * g .0) 1021 (u .val) (g .1 ∙ double (g .0) (2 ^ 1021)) in
     let c : g .0 * 2 ^ 1022 < 2 ^ 53 * 2 ^ 1022 = lt-of-le-of-lt (le-of-eq (sym (g .1))) (u .high) in
-    record { a = g .0; val = v; from = half (val-of-lt (one-val 53 1021 refl) v l); to = lt-of-mul-lt (2 ^ 1022) c }
+    record { a = g .0; val = v; from = half (val-of-lt (one-val 53 1021 refl) v l); to = lt-of-mul-lt-mul-right (2 ^ 1022) c }
   where
     one-above : (u a : ℕ) → 2 ^ 52 * u + 0 < a + 0 → 2 ^ 52 * u ≤ a
     one-above u a h = omega arith

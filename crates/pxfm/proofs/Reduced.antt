@@ -5,7 +5,7 @@
 use mathlib.Core.Path.{_≡_, refl, sym, ap, _∙_, subst}
 use mathlib.Core.Bool.{Bool, true, false, cond}
 use Prim.Native.Nat.{ℕ, _+_, _-_, _*_, _/_, _%_, _^_, _≤_, _<_}
-use native.Mathlib.Nat.{lt-of-lt-of-le, le-of-mul-le-mul-right, mul-one, mul-comm, mul-assoc, mul-right-comm, mul-mul-mul-comm, mul-pos}
+use native.Mathlib.Nat.{lt-of-lt-of-le, lt-of-mul-lt-mul-right, le-of-mul-le-mul-right, mul-one, mul-comm, mul-assoc, mul-right-comm, mul-mul-mul-comm, mul-pos}
 use native.Mathlib.Nat.{mul-le-mul, mul-le-mul-right, mul-lt-mul-of-pos-right}
 use native.Mathlib.Omega.{arith}
 use borrow.Author.Tests.{leb-true, leb-false}
@@ -14,6 +14,7 @@ use lib.Pow.{pow-add, pow-pos, pow-mono, shl-lt}
 use lib.Ieee.{Float, binary64, ofBits, mul, round}
 use lib.Ieee.Exact.{HasValue, round-exact}
 use lib.Ieee.Positive.{num, den, den-pos, value→cross, positive-of-value, mul-at}
+use Rattle.sqrt.proofs.Digits.{add-exponents}
 use Rattle.sqrt.proofs.Scaling.{pattern-mid}
 use Rattle.pxfm.specs.DoubleDouble.{one}
 use Rattle.log_tables.specs.PowTables.{powInverse}
@@ -21,7 +22,6 @@ use Rattle.log_tables.specs.Rows.{entryAt}
 use Rattle.pxfm.specs.PowExec.{half}
 use Rattle.pxfm.specs.FastLogDd.{halved, factorOf, indexOf, reducedOf}
 use Rattle.pxfm.specs.Bins.{NearOne, AroundOne, unitOf}
-use Rattle.pxfm.proofs.Digits.{lt-of-mul-lt, add-exponents}
 use Rattle.pxfm.proofs.Exact.{value-same}
 use Rattle.pxfm.proofs.Bins.{reduced-near}
 
@@ -79,7 +79,7 @@ reduced-value m l h = go (halved m)
 -- a * d < b * n is the same of n / d and n' / d'.
 cross-lt : (a b n d n' d' : ℕ) → 0 < d' → n' * d ≡ n * d' → a * d < b * n → a * d' < b * n'
 cross-lt a b n d n' d' D e h =
-    lt-of-mul-lt d
+    lt-of-mul-lt-mul-right d
     (let p : b * n * d' ≡ b * n' * d = mul-assoc b n d' ∙ ap (λ (z : ℕ). b * z) (sym e) ∙ sym (mul-assoc b n' d) in
     let q : a * d * d' ≡ a * d' * d = mul-right-comm a d d' in
     let r : a * d * d' < b * n * d' = mul-lt-mul-of-pos-right h D in
@@ -87,7 +87,7 @@ cross-lt a b n d n' d' D e h =
 
 cross-gt : (a b n d n' d' : ℕ) → 0 < d' → n' * d ≡ n * d' → b * n < a * d → b * n' < a * d'
 cross-gt a b n d n' d' D e h =
-    lt-of-mul-lt d
+    lt-of-mul-lt-mul-right d
     (let p : b * n * d' ≡ b * n' * d = mul-assoc b n d' ∙ ap (λ (z : ℕ). b * z) (sym e) ∙ sym (mul-assoc b n' d) in
     let q : a * d * d' ≡ a * d' * d = mul-right-comm a d d' in
     let r : b * n * d' < a * d * d' = mul-lt-mul-of-pos-right h D in
@@ -155,7 +155,7 @@ around-same n d n' d' D D' e h =
     let q' = mul-assoc 2 (d' * d') (d * d) in
     let low : d' * d' * (d * d) ≤ 2 * (n' * n') * (d * d) = omega arith in
     let high : n' * n' * (d * d) < 2 * (d' * d') * (d * d) = omega arith in
-    record { from = le-of-mul-le-mul-right low (mul-pos D D); to = lt-of-mul-lt (d * d) high }
+    record { from = le-of-mul-le-mul-right low (mul-pos D D); to = lt-of-mul-lt-mul-right (d * d) high }
 
 -- The double t lies from the root of 1/2 up to the root of 2.
 pub reduced-range : (m : ℕ) → 2 ^ 52 ≤ m → m < 2 ^ 53 → AroundOne (num (reducedOf m)) (den (reducedOf m))

@@ -13,12 +13,12 @@ use lib.Ieee.{Float, binary64, fits, ofBits, toBits}
 use lib.Ieee.Bits.{ofBits-toBits}
 use lib.Ieee.Exact.{HasValue}
 use lib.Ieee.Positive.{num, den, value→cross}
+use Rattle.sqrt.proofs.Digits.{add-exponents}
 use Rattle.sqrt.proofs.Scaling.{pattern-low, pattern-mid}
 use Rattle.pxfm.specs.declared.logs.fast_log_dd.Scaled.{Scaled}
 use Rattle.pxfm.specs.FastLogDd.{scaled, shiftOf, scaledOf}
 use Rattle.pxfm.proofs.Exact.{value-same}
 use Rattle.pxfm.proofs.Shift.{shifted}
-use Rattle.pxfm.proofs.Digits.{add-exponents}
 
 -- The number m / 2 ^ 52 × 2 ^ (e - 1074), as the fraction m * 2 ^ e / 2 ^ 1126.
 abbrev Stands : Float → Scaled → Type 0
@@ -28,7 +28,7 @@ Stands x s = HasValue x false (s .m * 2 ^ s .e) (2 ^ 1126)
 stands-low : (b : ℕ) → 0 < b → b / 2 ^ 52 ≡ 0 → Stands (ofBits binary64 b) (scaled (b * 2 ^ shiftOf b) (52 - shiftOf b))
 stands-low b p E =
     let k = shiftOf b in
-    let s = shifted b p (omega arith) in
+    let s = shifted 64 52 b (omega arith) p (omega arith) in
     let t : b % 2 ^ 52 ≡ b = omega arith in
     let i : k ≤ 52 = let n = s .most in omega arith in
     let j : k + (52 - k) ≡ 52 = omega arith in

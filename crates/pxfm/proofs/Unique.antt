@@ -1,5 +1,5 @@
--- Two doubles with the same sign and size are the same double; away from zero the number alone says so. A double less
--- itself is +0. The pattern is a function of sign and size, and the double is read back from it. Assumes nothing.
+-- Two doubles that are the same number away from zero are the same double, and a double less itself is +0.
+-- Assumes nothing.
 use mathlib.Core.Path.{_≡_, refl, sym, ap, _∙_, subst}
 use mathlib.Core.Bool.{Bool, true, false, not, _&&_, Bool·beq, cond}
 use Prim.Native.Nat.{ℕ, _+_, _-_, _*_, _^_, _<_}
@@ -9,17 +9,10 @@ use lib.Dec.{T, ltb, ltb→lt, lit<, lit≤}
 use lib.Ieee.{Float, nan, inf, fin, binary64, up, down, fits, ofBits, sum, round, add, sub, neg}
 use lib.Ieee.Exact.{HasValue}
 use lib.Ieee.Fits.{round-fits, down-pos}
-use lib.Ieee.Bits.{ofBits-toBits, ofBits-fits}
+use lib.Ieee.Bits.{ofBits-fits}
+use Rattle.sqrt.proofs.Patterns.{value-unique}
 use Rattle.pxfm.proofs.Value.{Gap, Val}
 use Rattle.pxfm.proofs.Exact.{round-few}
-use Rattle.pxfm.proofs.Bits.{bits-of-units}
-
-pub value-unique : (x y : Float) (s : Bool) (a : ℕ) → T (fits binary64 x) → T (fits binary64 y) → HasValue x s a (2 ^ 1074)
-    → HasValue y s a (2 ^ 1074) → x ≡ y
-value-unique x y s a f g h k =
-    sym (ofBits-toBits binary64 x f)
-    ∙ ap (ofBits binary64) (bits-of-units x s a h ∙ sym (bits-of-units y s a k))
-    ∙ ofBits-toBits binary64 y g
 
 pub val-unique : {x y : Float} {p n q m j : ℕ} → T (fits binary64 x) → T (fits binary64 y) → Val binary64 x p n j → Val binary64 y q m j
     → p + m ≡ q + n → (p ≡ n → ⊥) → x ≡ y
@@ -27,7 +20,7 @@ val-unique {x = x} {y = y} {p = p} {n = n} {q = q} {m = m} {j = j} f g v w e d =
     go (v .sign) (w .sign) (v .gap) (w .gap) (v .val) (w .val)
   where
     same-sign : (s : Bool) → v .mag ≡ w .mag → HasValue x s (v .mag * 2 ^ j) (2 ^ 1074) → HasValue y s (w .mag * 2 ^ j) (2 ^ 1074) → x ≡ y
-    same-sign s r h k = value-unique x y s (v .mag * 2 ^ j) f g h (subst (λ (z : ℕ). HasValue y s (z * 2 ^ j) (2 ^ 1074)) (sym r) k)
+    same-sign s r h k = value-unique binary64 x y s (v .mag * 2 ^ j) f g h (subst (λ (z : ℕ). HasValue y s (z * 2 ^ j) (2 ^ 1074)) (sym r) k)
 
     go : (s t : Bool) → Gap s (v .mag) p n → Gap t (w .mag) q m → HasValue x s (v .mag * 2 ^ j) (2 ^ 1074)
         → HasValue y t (w .mag * 2 ^ j) (2 ^ 1074) → x ≡ y
@@ -40,7 +33,7 @@ val-unique {x = x} {y = y} {p = p} {n = n} {q = q} {m = m} {j = j} f g v w e d =
 
 round-zero : (c : ℕ) → 0 < c → round binary64 false 0 c ≡ ofBits binary64 0
 round-zero c C =
-    value-unique (round binary64 false 0 c) (ofBits binary64 0) false 0 (round-fits binary64 false 0 c) (ofBits-fits binary64 0)
+    value-unique binary64 (round binary64 false 0 c) (ofBits binary64 0) false 0 (round-fits binary64 false 0 c) (ofBits-fits binary64 0)
     (round-few binary64 false 0 c 0 0 C (sym (zero-mul c)) (lit< tt) (lit≤ tt)) zero-value
   where
     zero-value : HasValue (ofBits binary64 0) false 0 (2 ^ 1074)

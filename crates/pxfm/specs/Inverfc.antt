@@ -1,12 +1,11 @@
 -- The quantile (document 01, src/err/inverfc.rs): `f_erfcinv` of every double, the cuts of `erf_core` on the high part,
 -- and the pieces between them. Each line is one rounded operation, one pair operation or one test.
-use Prim.Native.Nat.{ℕ, _+_, _%_, _^_}
-use mathlib.Core.Bool.{Bool, true, false, cond}
+use Prim.Native.Nat.{ℕ}
+use mathlib.Core.Bool.{Bool, true, false, _||_, cond}
 use mathlib.Core.List.{List, [], _∷_}
-use lib.Dec.{eqb, leb}
 use lib.Ieee.{Float, nan, inf, binary64, ofBits, toBits, isNan, eq, lt, le, neg, add, sub, mul}
 use Rattle.pxfm.specs.declared.double_double.DoubleDouble.{DoubleDouble}
-use Rattle.pxfm.specs.DoubleDouble.{one, negOf, fromExactAdd, quickMult, fullAddF64, mulF64Add, mulAdd, divOf, recipOf, fastSqrt, toF64}
+use Rattle.pxfm.specs.DoubleDouble.{one, two, negOf, fromExactAdd, quickMult, fullAddF64, mulF64Add, mulAdd, divOf, recipOf, fastSqrt, toF64}
 use Rattle.pxfm.specs.Common.{fFmla}
 use Rattle.pxfm.specs.Polyeval.{fPolyeval4, fPolyeval5}
 use Rattle.pxfm.specs.FastLogDd.{fastLogDToDd, fastLogDd}
@@ -110,17 +109,19 @@ signOf x = cond (lt one x) (neg one) one
 unfoldable pub centralOf : Float → Float
 centralOf x = mul binary64 (toF64 (erfCore (coreArgument x))) (signOf x)
 
+-- Below 0, above 2 or a NaN.
+abbrev pub outside : Float → Bool
+outside x = lt x zero || (lt two x || isNan x)
+
 -- The quantile (`f_erfcinv`) of every double, by document 01's order.
 unfoldable pub fErfcinv : Float → Float
 fErfcinv x =
-    let ix = toBits binary64 x in
-    cond (isNan x) nan
-    (cond (eqb ((ix + ix) % 2 ^ 64) 0) (inf false)
-    (cond (eqb ix 0x4000_0000_0000_0000) (inf true)
-    (cond (leb 0x4000_0000_0000_0000 ix) nan
+    cond (eq x zero) (inf false)
+    (cond (eq x two) (inf true)
+    (cond (outside x) nan
     (cond (eq x one) zero
     (cond (lt x tenth) (toF64 (inverfcExtraSmall x))
-    (centralOf x))))))
+    (centralOf x)))))
 
 -- The same over bit patterns. `toBits` gives 7ff8000000000000 for a NaN.
 abbrev pub fErfcinvBits : ℕ → ℕ

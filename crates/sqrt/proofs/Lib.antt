@@ -1,5 +1,7 @@
 -- The laws behind the root's proofs, one idea to a file, in the order in which they build on each other, and worked cases.
 -- `Nearest` has the theorem that the root is the nearest double, `Negative` that no negative one is nearer.
+pub mod Digits
+pub mod Patterns
 pub mod Squares
 pub mod Extending
 pub mod Checking

@@ -21,10 +21,9 @@ use lib.Ieee.Positive.{num, den, den-pos, positive, positive-of-value, value-pos
 use Rattle.sqrt.specs.Sqrt.{isqrt, roundRoot, roundSqrt, radicand, sqrtIn}
 use Rattle.sqrt.specs.Nearest.{notNegative, sumNum, sumDen, Less, MidBelow, MidAbove, NearestRoot}
 use Rattle.sqrt.proofs.Squares.{sq-dbl, root-lt, root-le, isqrt-is}
-use Rattle.sqrt.proofs.OneRounding.{round-units, round-root-fits, sticky-le, sticky-one, bits-val}
+use Rattle.sqrt.proofs.OneRounding.{round-units, round-root-fits, sticky-le, sticky-one}
 use Rattle.sqrt.proofs.Scaling.{radicand-of}
-use lib.Ieee.{ofBits}
-use lib.Ieee.Bits.{ofBits-toBits}
+use Rattle.sqrt.proofs.Patterns.{value-unique}
 use Rattle.sqrt.proofs.Midpoints.{closest-near, Rounded, times4, times2, larger, smaller, shorter}
 use Rattle.sqrt.proofs.Counted.{Counted, counted, on-grid, tie-free, units-less, above-fractions, below-fractions}
 
@@ -256,11 +255,6 @@ sqrt-nearest f (fin false (suc m) e) F p = nearest-at f m e F
 
 -- ---- and there is no other such value
 
--- two values of the format with the same count of units are one
-same-count : (f : Format) (r y : Float) (u : ℕ) → T (fits f r) → T (fits f y) → HasValue r false u (2 ^ low f) → HasValue y false u (2 ^ low f) → r ≡ y
-same-count f r y u R Y v w =
-    sym (ofBits-toBits f r R) ∙ ap (ofBits f) (bits-val f r u v ∙ sym (bits-val f y u w)) ∙ ofBits-toBits f y Y
-
 positive-not-negative : (y : Float) → T (positive y) → T (notNegative y)
 positive-not-negative nan p = p
 positive-not-negative (inf s) p = p
@@ -298,7 +292,7 @@ module _ (f : Format) (x r y : Float) (R : NearestRoot f x r) (Y : NearestRoot f
       ∙ ap (λ (z : ℕ). B .u * z) (mul-comm (den y) (den r))) in
       let u : A .u ≡ B .u =
       eq-of-mul-eq-mul-right (den r * den y) (mul-pos (den-pos r) (den-pos y)) (A .u) (B .u) (a ∙ ap (λ (z : ℕ). z * 2 ^ low f) e ∙ sym b) in
-      same-count f r y (B .u) (R .holds) (Y .holds)
+      value-unique f r y false (B .u) (R .holds) (Y .holds)
       (subst (λ (z : ℕ). HasValue r false z (2 ^ low f)) u (counted-value f r (positive-not-negative r (R .above-zero)) A))
       (counted-value f y (positive-not-negative y (Y .above-zero)) B)
 

@@ -4,7 +4,7 @@ use mathlib.Core.Path.{_≡_, refl, sym, ap, _∙_, subst}
 use mathlib.Core.Logic.{_⊎_, inl, inr}
 use mathlib.Core.Bool.{Bool, true, false, not, cond}
 use Prim.Native.Nat.{ℕ, zero, suc, _+_, _-_, _*_, _/_, _%_, _^_, _≤_, _<_, compare, Ordering, Ordering·lt, Ordering·eq, Ordering·gt}
-use native.Mathlib.Nat.{le-trans, le-of-eq, le-antisymm, lt-of-lt-of-le, lt-of-le-of-lt, lt-of-not-le, not-le-of-lt, eq-or-lt-of-le, mul-comm}
+use native.Mathlib.Nat.{le-trans, le-of-eq, lt-of-lt-of-le, lt-of-le-of-lt, eq-or-lt-of-le, mul-comm}
 use native.Mathlib.Nat.{mul-assoc, mul-left-comm, mul-right-comm, mul-mul-mul-comm, mul-pos, mul-one, mul-le-mul-right, mul-lt-mul-of-pos-right}
 use native.Mathlib.Nat.{eq-of-mul-eq-mul-right, mul-div-mul-right, mul-div-cancel, pow-suc, add-suc, suc-mul, zero-lt-suc, add-mul, suc-add, zero-add}
 use native.Mathlib.Nat.{add-zero, lt-suc-self, mul-le-mul}
@@ -13,14 +13,15 @@ use native.Mathlib.Omega.{arith}
 use lib.Dec.{T, eqb, isLe, isEq, leb→le, nleb→lt, eqb→eq, lit<}
 use lib.Arith.{digits-div, digits-mod}
 use lib.Pow.{pow-add, pow-pos, pow-mono, pow-lt, shl-lt}
-use lib.Ieee.{Float, nan, inf, fin, Format, binary64, prec, emax, low, hid, top, up, down, size, nearest, units, round, toBits, ofBits, fits}
-use lib.Ieee.Digits.{size-lt, size-le}
-use lib.Ieee.Exact.{HasValue, units-val}
-use lib.Ieee.Fits.{core, round-is, round-fits, down-pos}
+use lib.Ieee.{Float, Format, binary64, prec, emax, low, size, nearest, units, round, toBits, ofBits, fits}
+use lib.Ieee.Exact.{units-val}
+use lib.Ieee.Fits.{core, round-is, round-fits}
 use lib.Ieee.Nearest.{closest, closest-same}
 use lib.Ieee.Bits.{ofBits-toBits}
 use Rattle.sqrt.specs.Sqrt.{IsRoot, isqrt, roundRoot, roundSqrt}
 use Rattle.sqrt.specs.Steps.{IsRest}
+use Rattle.sqrt.proofs.Digits.{size-exact}
+use Rattle.sqrt.proofs.Patterns.{bits-of-units}
 use Rattle.sqrt.proofs.Squares.{sq-suc, sq-dbl, root-lt, root-le, rest-root, isqrt-is}
 
 -- ---- to the nearest whole number, where there is no tie
@@ -99,12 +100,6 @@ half r p s t lo hi T1 no-tie = go (r % 2) refl (lt2 r)
     go (suc (suc b)) q l = absurd (omega arith)
 
 -- ---- `round` at (s + t / 2) * 2 ^ z units, where s has k + 1 binary digits more than the format keeps
-
-pow-lt-back : (a b : ℕ) → 2 ^ a < 2 ^ b → a < b
-pow-lt-back a b h = lt-of-not-le (λ (g : b ≤ a). not-le-of-lt h (pow-mono g))
-
-pub size-exact : (a n : ℕ) → 2 ^ a ≤ n → n < 2 ^ suc a → size n ≡ suc a
-size-exact a n lo hi = le-antisymm (size-le n (suc a) hi) (pow-lt-back a (size n) (lt-of-le-of-lt lo (size-lt n)))
 
 module _ (f : Format) (s t k z : ℕ) (T1 : t ≤ 1) (lo : 2 ^ (prec f + k) ≤ s) (hi : s < 2 ^ suc (prec f + k)) where
   apart : (2 * s + t) * 2 ^ z ≡ 2 * (s * 2 ^ z) + t * 2 ^ z
@@ -265,17 +260,6 @@ round-sqrt-scaled f m s r z R even lo hi =
 
 -- ---- the bits of q * 2 ^ k units, for a q of as many digits as f keeps, or one more where it is a power of two
 
-pub bits-val : (f : Format) (x : Float) (a : ℕ) → HasValue x false a (2 ^ low f) → toBits f x ≡ (size a - prec f) * hid f + a / 2 ^ (size a - prec f)
-unfolding toBits
-bits-val f nan a h = absurd h
-bits-val f (inf s) a h = absurd h
-bits-val f (fin s m e) a h =
-    let w = m * up e * 2 ^ low f / down e in
-    let n : w ≡ a = ap (λ (x : ℕ). x / down e) (h .1) ∙ mul-div-cancel a (down-pos e) in
-    ap (λ (b : Bool). cond b (top f) 0 + (size w - prec f) * hid f + w / 2 ^ (size w - prec f)) (h .0)
-    ∙ ap (λ (x : ℕ). 0 + (size x - prec f) * hid f + x / 2 ^ (size x - prec f)) n
-    ∙ ap (λ (x : ℕ). x + a / 2 ^ (size a - prec f)) (zero-add ((size a - prec f) * hid f))
-
 -- p is one less than the format's precision
 unit-bits : (p q k : ℕ) → 2 ^ p ≤ q → q ≤ 2 ^ suc p
     → (size (q * 2 ^ k) - suc p) * 2 ^ p + q * 2 ^ k / 2 ^ (size (q * 2 ^ k) - suc p) ≡ k * 2 ^ p + q
@@ -330,6 +314,8 @@ round-root-bits s r z even lo hi Z =
     let q-lo : 2 ^ 52 ≤ q = omega arith in
     let v = units-val binary64 false q (suc z) (overflow-free q (suc z) q-hi Z) in
     let b : toBits binary64 (units binary64 false q (suc z)) ≡ suc z * 2 ^ 52 + q =
-    bits-val binary64 (units binary64 false q (suc z)) (q * 2 ^ suc z) v ∙ unit-bits 52 q (suc z) q-lo q-hi in
+    bits-of-units binary64 (units binary64 false q (suc z)) false (q * 2 ^ suc z) v
+    ∙ ap (λ (x : ℕ). x + q * 2 ^ suc z / 2 ^ (size (q * 2 ^ suc z) - 53)) (zero-add ((size (q * 2 ^ suc z) - 53) * 2 ^ 52))
+    ∙ unit-bits 52 q (suc z) q-lo q-hi in
     ap (ofBits binary64) (sym b)
     ∙ ofBits-toBits binary64 (units binary64 false q (suc z)) (subst (λ (x : Float). T (fits binary64 x)) u (round-root-fits binary64 s r z)) ∙ sym u

@@ -14,17 +14,14 @@ use lib.Ieee.Exact.{HasValue, odd-sign}
 use lib.Ieee.Fits.{down-pos}
 use Rattle.sqrt.specs.Sqrt.{radicand}
 use Rattle.sqrt.specs.Steps.{IsScaled}
+use Rattle.sqrt.proofs.Digits.{add-exponents}
 use Rattle.sqrt.proofs.OneRounding.{four-pow}
 
 -- ---- powers of four
 
 -- q * 2 ^ a * 4 ^ n with the exponents added up
 exponents : (q a n k l : ℕ) → a + (n + n) ≡ k + l → q * 2 ^ a * 4 ^ n ≡ q * 2 ^ k * 2 ^ l
-exponents q a n k l e =
-    ap (λ (x : ℕ). q * 2 ^ a * x) (four-pow n ∙ sym (pow-add 2 n n))
-    ∙ mul-assoc q (2 ^ a) (2 ^ (n + n))
-    ∙ ap (λ (x : ℕ). q * x) (sym (pow-add 2 a (n + n)) ∙ ap (λ (x : ℕ). 2 ^ x) e ∙ pow-add 2 k l)
-    ∙ sym (mul-assoc q (2 ^ k) (2 ^ l))
+exponents q a n k l e = ap (λ (x : ℕ). q * 2 ^ a * x) (four-pow n ∙ sym (pow-add 2 n n)) ∙ add-exponents q a (n + n) k l e
 
 -- ---- the loop of `subnormal`: q * 4 ^ z stays m * 4 ^ 510
 

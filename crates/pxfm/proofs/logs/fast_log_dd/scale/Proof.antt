@@ -10,8 +10,8 @@ use Rattle.pxfm.proofs.Shift.{Shifted, shifted}
 use Rattle.pxfm.proofs.logs.fast_log_dd.scale.Statement.{statement}
 use Rattle.pxfm.proofs.logs.fast_log_dd.scale.Tie as tie
 
-subnormal : (c : tie.Then1) → Shifted (c .before .args .b)
-subnormal c = shifted (c .before .args .b) (omega arith) (omega arith)
+subnormal : (c : tie.Then1) → Shifted 64 52 (c .before .args .b)
+subnormal c = shifted 64 52 (c .before .args .b) (omega arith) (omega arith) (omega arith)
 
 pub scale-spec : {M : Type 1} → statement M
 unfolding scaledOf
