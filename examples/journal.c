@@ -13,10 +13,10 @@ static size_t length; /* the volume's length in bytes */
 /* The answer of an append; where it is a length, that is the volume's from now on. */
 static void answer(const char *name, const uint64_t out[3])
 {
-    if (out[0] == 0) {
+    if (out[0] == JOURNAL_EXTENDED) {
         length = (size_t)out[1];
         printf("%s: length %zu\n", name, length);
-    } else if (out[0] == 1) {
+    } else if (out[0] == JOURNAL_DECLINED) {
         printf("%s: declined %" PRIu64 "\n", name, out[1]);
     } else {
         printf("%s: damaged %" PRIu64 " %" PRIu64 "\n", name, out[1], out[2]);

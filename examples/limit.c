@@ -38,7 +38,7 @@ int main(int argc, char **argv)
     uint64_t out[2];
     limit_bits(times, n, number(argv[1]), out);
     free(times);
-    if (out[0] != 0) {
+    if (out[0] == LIMIT_REFUSED) {
         printf("refused %" PRIu64 "\n", out[1]);
         return 1;
     }

@@ -1,12 +1,40 @@
-/* What the archive of the crate capi exports (rt staticlib capi writes target/staticlib/libcapi.a).
+/* What the archive of the crate capi exports (rt staticlib capi writes target/staticlib/libcapi.a), for C and C++.
    Doubles go as bit patterns; a NaN comes out as 7ff8000000000000. Every argument is answered or refused.
    What a call writes to (v of the appends, every out) overlaps nothing else that the call is handed.
-   A pointer must not be NULL, even where its length is 0. */
+   A pointer must not be NULL, even where its length is 0.
+   No function keeps anything between calls, so any number of threads may call at once, as long as none writes to what another uses. */
 #ifndef AWAQLLA_H
 #define AWAQLLA_H
 
 #include <stddef.h>
 #include <stdint.h>
+
+#ifdef __cplusplus
+extern "C" {
+#endif
+
+#define JOURNAL_MAX_LENGTH 65536 /* the most bytes of a journal */
+#define JOURNAL_MAX_RECORD 652   /* the most bytes of a record */
+#define JOURNAL_MAX_LINE 233     /* the most bytes of a line of the listing, with its line end */
+
+/* The first number of an answer: of the limit, of a scan, and of an append, which may answer JOURNAL_DAMAGED too. */
+enum { LIMIT_ANSWERED = 0, LIMIT_REFUSED = 1 };
+enum { JOURNAL_WHOLE = 0, JOURNAL_TORN = 1, JOURNAL_DAMAGED = 2 };
+enum { JOURNAL_EXTENDED = 0, JOURNAL_DECLINED = 1 };
+
+/* The refusals' numbers (docs/DEFINITION.md, section 10). */
+enum {
+    AWAQLLA_REFUSAL_LENGTH = 1,  /* the length is beyond the slice or JOURNAL_MAX_LENGTH */
+    AWAQLLA_REFUSAL_FORM = 2,    /* a form other than 1 */
+    AWAQLLA_REFUSAL_DAY = 3,     /* a day before that of the record before */
+    AWAQLLA_REFUSAL_NAME = 4,    /* a name has 1 to 32 bytes, each 0x21 to 0x7e */
+    AWAQLLA_REFUSAL_CHANCES = 5, /* 1 to 8 chances, rising, each 1 to 999,999 in a million */
+    AWAQLLA_REFUSAL_TIMES = 6,   /* 2 to 128 times, each 1 to 1,048,575 ticks */
+    AWAQLLA_REFUSAL_LIMIT = 7,   /* the limits' count, or the bits of one that does not come out again */
+    AWAQLLA_REFUSAL_FINITE = 8,  /* a limit worked out is not finite */
+    AWAQLLA_REFUSAL_ROOM = 9,    /* the record ends beyond the slice or JOURNAL_MAX_LENGTH */
+    AWAQLLA_REFUSAL_ABSENT = 10  /* there are not so many records */
+};
 
 /* The square root, correctly rounded. */
 uint64_t sqrt_bits(uint64_t x);
@@ -15,26 +43,28 @@ uint64_t sqrt_bits(uint64_t x);
 uint64_t f_erfcinv_bits(uint64_t x);
 
 /* The limit of n times in ticks of ten microseconds at a chance in a million:
-   {0, bits of the limit}, or {1, refusal}: 5 chance out of range, 6 count or a time out of range, 8 not finite.
+   {LIMIT_ANSWERED, bits of the limit}, or {LIMIT_REFUSED, refusal}: CHANCES, TIMES or FINITE, the first that holds.
    times points to n numbers; out to two places. */
 void limit_bits(const uint32_t *times, size_t n, uint32_t chance, uint64_t out[2]);
 
-/* The journal that fills the first len bytes of the size bytes at v. A len beyond size or 65,536 is refused by 1, at place 0. i counts the
-   records from 0. The refusals' numbers are those of docs/DEFINITION.md, section 10. */
+/* The journal that fills the first len bytes of the size bytes at v. A len beyond size or JOURNAL_MAX_LENGTH is refused by LENGTH, at place 0.
+   i counts the records from 0. */
 
-/* Scan: {0 whole or 1 torn, records, committed length}, or {2, refusal, place of the refused field}. out points to three places. */
+/* Scan: {JOURNAL_WHOLE or JOURNAL_TORN, records, committed length}, or {JOURNAL_DAMAGED, refusal, place of the refused field}. out points to
+   three places. */
 void journal_scan(const uint8_t *v, size_t size, size_t len, uint64_t out[3]);
 
 /* Where record i stands: {place of its first byte, number of its bytes}; both are 0 where it cannot be read. out points to two places. */
 void journal_part(const uint8_t *v, size_t size, size_t len, size_t i, uint64_t out[2]);
 
-/* The mark of record i: 'F' all times equal, 'S' fewer than 8, 'N' others; or the refusal: scan's, or 10, i not below the number of records. */
+/* The mark of record i: 'F' all times equal, 'S' fewer than 8, 'N' others; or the refusal: scan's, or ABSENT, i not below
+   the number of records. Every refusal is below 'A'. */
 uint64_t journal_mark(const uint8_t *v, size_t size, size_t len, size_t i);
 
 /* Append on the journal that fills the first len bytes of the size bytes at v: the record of what is offered is written from the committed
-   length on, over a torn tail. Its limits are worked out from the times. {0, length after the call, 0}; {1, refusal, 0}: 3 day, 4 name,
-   5 chances, 6 times, 8 limit not finite, 9 no room; or {2, refusal, place} as scan's. Only where the first is 0 is a byte of v changed.
-   Each pointer points to as many items as the length behind it says; out to three places. */
+   length on, over a torn tail. Its limits are worked out from the times. {JOURNAL_EXTENDED, length after the call, 0}; {JOURNAL_DECLINED,
+   refusal, 0}: DAY, NAME, CHANCES, TIMES, FINITE or ROOM, the first that holds; or {JOURNAL_DAMAGED, refusal, place} as scan's. Only an
+   append that extends changes a byte of v. Each pointer points to as many items as the length behind it says; out to three places. */
 void journal_append(uint8_t *v, size_t size, size_t len, uint16_t day, const uint8_t *name, size_t name_len,
     const uint32_t *chances, size_t chances_len, const uint32_t *times, size_t times_len, uint64_t out[3]);
 
@@ -45,7 +75,10 @@ void journal_append_upto(uint8_t *v, size_t size, size_t len, uint16_t day, cons
 /* Line i, counted from 0, of the listing of the journal that is all of the len bytes at v: a line for each record, then the end state's, each
    with its line end. As much of it as there is room for is written to the size bytes at out; the answer is how many bytes those are,
    0 behind the last line. JOURNAL_MAX_LINE bytes have room for every line. Each call scans the journal. */
-#define JOURNAL_MAX_LINE 233
 size_t journal_line(const uint8_t *v, size_t len, size_t i, uint8_t *out, size_t size);
+
+#ifdef __cplusplus
+}
+#endif
 
 #endif

@@ -6,9 +6,14 @@ use crate::extend::extend;
 use crate::output::complain;
 use crate::output::fail_file;
 use crate::output::print_verdict;
+use crate::output::refuse_file;
+use crate::streams;
 
 // Appends to the file that the first argument names.
 pub(crate) fn append_to_file(day: u16, name: &[u8], chances: &[u32], ticks: &[u32]) {
+    if !streams::are_open() {
+        return;
+    }
     let mut path = io::buffer();
     let size = os::arg(1, &mut path);
     if size == 0 {
@@ -21,7 +26,7 @@ pub(crate) fn append_to_file(day: u16, name: &[u8], chances: &[u32], ticks: &[u3
 // Reads the file, or takes a missing one as empty.
 fn append_at(path: &[u8], day: u16, name: &[u8], chances: &[u32], ticks: &[u32]) {
     let fd = os::open_update(path);
-    let mut room = arguments::journal_room();
+    let mut room = arguments::input_room();
     if fd < 0 {
         if os::errno() == libc::ENOENT {
             append_read(path, fd, &mut room, 0, day, name, chances, ticks);
@@ -30,12 +35,25 @@ fn append_at(path: &[u8], day: u16, name: &[u8], chances: &[u32], ticks: &[u32])
         }
         return;
     }
-    let size = io::read_full(fd, &mut room);
-    if !arguments::journal_is_read(fd, size) {
+    if !has_places(fd) {
+        refuse_file(path, b"not a regular file");
+        return;
+    }
+    let read = arguments::read_input(fd, &mut room);
+    if read.failed {
         fail_file(path);
         return;
     }
-    append_read(path, fd, &mut room, size, day, name, chances, ticks);
+    append_read(path, fd, &mut room, read.size, day, name, chances, ticks);
+}
+
+// Whether a position can be set, as in a regular file: a pipe and a terminal refuse it, and such devices as /dev/null stay at their start.
+// The position is the start afterwards.
+fn has_places(fd: i32) -> bool {
+    if libc::lseek(fd, 1, libc::SEEK_SET) != 1 {
+        return false;
+    }
+    libc::lseek(fd, 0, libc::SEEK_SET) == 0
 }
 
 // Appends to the journal of a length that was read, and gives the file what is written.
@@ -55,14 +73,13 @@ fn append_read(
     let answer = e.answer;
     if start < end {
         if !write_record(path, fd, len, start, &v[start..end]) {
-            fail_file(path);
             return;
         }
     }
     print_verdict(answer);
 }
 
-// Cuts off what stands behind the start, and writes the record there. A missing file is made first.
+// Makes a missing file, and gives the file the record. Where that fails, what failed is said.
 fn write_record(path: &[u8], fd: i32, len: usize, start: usize, record: &[u8]) -> bool
     requires { ⌜ start ≤ maxLength ⌝ }
 {
@@ -70,6 +87,62 @@ fn write_record(path: &[u8], fd: i32, len: usize, start: usize, record: &[u8]) -
     if file < 0 {
         return false;
     }
+    if start == 0 {
+        if !sync_folder(path) {
+            return false;
+        }
+    }
+    if !write_at(file, len, start, record) {
+        fail_file(path);
+        return false;
+    }
+    true
+}
+
+// The descriptor, of a new file where there is none. A name that is taken although no file was found is a link to none.
+fn made(path: &[u8], fd: i32) -> i32 {
+    if 0 <= fd {
+        return fd;
+    }
+    let file = os::create(path);
+    if file < 0 {
+        if os::errno() == libc::EEXIST {
+            refuse_file(
+                path,
+                b"a link to a missing file, or made by another program meanwhile",
+            );
+        } else {
+            fail_file(path);
+        }
+    }
+    file
+}
+
+// Syncs the folder of a path, so that the name of a file that is new stays. It is done before a file's first record, whoever made the file.
+fn sync_folder(path: &[u8]) -> bool {
+    let end = arguments::folder_end(path);
+    if end == 0 {
+        return sync(b".");
+    }
+    sync(&path[..end])
+}
+
+// Syncs a folder. Where that fails, what failed is said.
+fn sync(folder: &[u8]) -> bool {
+    let fd = os::open_read(folder);
+    if 0 <= fd {
+        if libc::fsync(fd) == 0 {
+            return libc::close(fd) == 0;
+        }
+    }
+    fail_file(folder);
+    false
+}
+
+// Cuts off what stands behind the start, writes the record there, and syncs the file.
+fn write_at(file: i32, len: usize, start: usize, record: &[u8]) -> bool
+    requires { ⌜ start ≤ maxLength ⌝ }
+{
     if start < len {
         if libc::ftruncate(file, start as i64) != 0 {
             return false;
@@ -82,12 +155,4 @@ fn write_record(path: &[u8], fd: i32, len: usize, start: usize, record: &[u8]) -
         return false;
     }
     libc::fsync(file) == 0
-}
-
-// The descriptor, of a new file where there is none.
-fn made(path: &[u8], fd: i32) -> i32 {
-    if fd < 0 {
-        return os::create(path);
-    }
-    fd
 }

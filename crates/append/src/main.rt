@@ -4,9 +4,13 @@ mod extend;
 mod file;
 mod input;
 mod output;
+mod streams;
 mod verdict;
 
 use arguments::Number;
+
+// The most bytes of the ticks' text.
+const MAX_TEXT: usize = 65_536;
 
 fn main() {
     if os::arg_count() < 4 {
@@ -15,7 +19,9 @@ fn main() {
     }
     match input::day() {
         Number::Value(day) => append_on(day as u16),
-        Number::Nothing => output::complain(b"DAY: not a decimal number from 0 to 65535"),
+        Number::Nothing => output::complain(
+            b"DAY: not a decimal number from 0 to 65535 without leading zeros",
+        ),
     }
 }
 
@@ -33,16 +39,26 @@ fn append_on(day: u16) {
     append_ticks(day, &name[..name_size], &chances[..count]);
 }
 
-// The ticks, where the arguments are as they should be.
+// The ticks' text, where the arguments are as they should be.
 fn append_ticks(day: u16, name: &[u8], chances: &[u32]) {
-    let mut text = io::large_buffer();
-    let size = io::read_full(0, &mut text);
-    if !lines::input_ended() {
-        output::complain(b"standard input: it cannot be read, or has more than 65536 bytes");
+    let mut text = arguments::input_room();
+    let read = arguments::read_input(0, &mut text);
+    let size = read.size;
+    if read.failed {
+        os::fail(b"append: standard input");
         return;
     }
+    if MAX_TEXT < size {
+        output::complain(b"standard input: more than 65536 bytes");
+        return;
+    }
+    append_text(day, name, chances, &text[..size]);
+}
+
+// The ticks of a text.
+fn append_text(day: u16, name: &[u8], chances: &[u32], text: &[u8]) {
     let mut ticks = input::ticks_room();
-    let read = arguments::read_numbers(&text[..size], u32::MAX, &mut ticks);
+    let read = arguments::read_numbers(text, u32::MAX, &mut ticks);
     let count = read.count;
     let pending = read.pending;
     match pending {

@@ -16,6 +16,15 @@ pub(crate) fn fail_file(path: &[u8]) {
     os::fail(path);
 }
 
+// What is wrong with a file.
+pub(crate) fn refuse_file(path: &[u8], what: &[u8]) {
+    io::write_all(2, b"append: ");
+    io::write_all(2, path);
+    io::write_all(2, b": ");
+    io::write_all(2, what);
+    io::write_all(2, b"\n");
+}
+
 // A line of its own.
 pub(crate) fn complain(what: &[u8]) {
     io::write_all(2, b"append: ");
@@ -29,7 +38,10 @@ pub(crate) fn malformed(what: &[u8], which: usize) {
     io::write_all(2, what);
     io::write_all(2, b" ");
     io::print_decimal(2, which as u64);
-    io::write_all(2, b": not a decimal number from 0 to 4294967295\n");
+    io::write_all(
+        2,
+        b": not a decimal number from 0 to 4294967295 without leading zeros\n",
+    );
 }
 
 // The tick behind so many that is no number.

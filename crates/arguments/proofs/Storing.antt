@@ -100,6 +100,6 @@ unfolding turnOf
 turn-space most a c e = rw e
 
 pub turn-other : (most : ℕ) (a : Read) (c : ℕ) → isSpace c ≡ false
-    → turnOf most a c ≡ record { numbers = a .numbers; inside = true; pending = digitAfter most (a .pending) c }
+    → turnOf most a c ≡ record { numbers = a .numbers; inside = true; pending = digitAfter most (a .inside) (a .pending) c }
 unfolding turnOf
 turn-other most a c e = rw e

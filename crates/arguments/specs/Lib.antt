@@ -1,3 +1,4 @@
--- The definitions that the contracts cite: the word --help, decimal numbers, and numbers separated by white space.
+-- The definitions that the contracts cite: the word --help, decimal numbers, numbers separated by white space, and a path's folder.
 pub mod Arguments
 pub mod Numbers
+pub mod Paths

@@ -28,7 +28,7 @@ closedOf a = closedBy (a .numbers) (a .inside) (a .pending)
 -- one byte more
 unfoldable pub turnOf : ℕ → Read → ℕ → Read
 turnOf most a c =
-    cond (isSpace c) (closedOf a) (record { numbers = a .numbers; inside = true; pending = digitAfter most (a .pending) c })
+    cond (isSpace c) (closedOf a) (record { numbers = a .numbers; inside = true; pending = digitAfter most (a .inside) (a .pending) c })
 
 -- all bytes of a text more
 unfoldable pub readFrom : ℕ → Read → List ℕ → Read

@@ -1,7 +1,7 @@
 // One digit more of a decimal number, up to a largest number.
-// A byte that is no digit, or a number that grows too large, leaves none, and none stays none.
+// A byte that is no digit, a digit behind a 0, or a number that grows too large leaves none, and none stays none.
 ghost use mathlib.Core.Path.{_≡_};
-ghost use Rattle.arguments.specs.Arguments.{withDigit, digitAfter};
+ghost use Rattle.arguments.specs.Arguments.{isZero, withDigit, digitAfter};
 
 // A number, or none.
 pub enum Number {
@@ -9,20 +9,23 @@ pub enum Number {
     Nothing,
 }
 
-// What a text has come to, with one byte more.
-pub(crate) fn digit_after(r: Number, c: u8, most: u32) -> Number
-    ensures { λ s. ⌜ s ≡ digitAfter most r c ⌝ }
+// What a word has come to, with one byte more; `inside` says whether it has a byte already.
+pub(crate) fn digit_after(inside: bool, r: Number, c: u8, most: u32) -> Number
+    ensures { λ s. ⌜ s ≡ digitAfter most inside r c ⌝ }
 {
     match r {
-        Number::Value(n) => with_digit(n, c, most),
+        Number::Value(n) => with_digit(inside, n, c, most),
         Number::Nothing => Number::Nothing,
     }
 }
 
 // The number with a digit behind it.
-fn with_digit(n: u32, c: u8, most: u32) -> Number
-    ensures { λ r. ⌜ r ≡ withDigit most n c ⌝ }
+fn with_digit(inside: bool, n: u32, c: u8, most: u32) -> Number
+    ensures { λ r. ⌜ r ≡ withDigit most inside n c ⌝ }
 {
+    if is_zero(inside, n) {
+        return Number::Nothing;
+    }
     if c < 48 {
         return Number::Nothing;
     }
@@ -34,4 +37,14 @@ fn with_digit(n: u32, c: u8, most: u32) -> Number
         return Number::Nothing;
     }
     Number::Value(longer as u32)
+}
+
+// Whether the word so far is 0.
+fn is_zero(inside: bool, n: u32) -> bool
+    ensures { λ r. ⌜ r ≡ isZero inside n ⌝ }
+{
+    if !inside {
+        return false;
+    }
+    n == 0
 }

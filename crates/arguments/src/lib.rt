@@ -1,4 +1,4 @@
-// What the programs share. They read the word `--help`, a decimal number, decimal numbers separated by white space, and a journal's bytes;
+// What the programs share. They read the word `--help`, a decimal number, decimal numbers separated by white space, and an input to its end;
 // they print their help, and say where standard output fails. No public function has a `requires`.
 mod digit;
 mod help;
@@ -6,13 +6,16 @@ mod input;
 mod number;
 mod numbers;
 mod output;
+mod path;
 
 pub use digit::Number;
 pub use help::is_help;
-pub use input::journal_is_read;
-pub use input::journal_room;
+pub use input::Input;
+pub use input::input_room;
+pub use input::read_input;
 pub use number::read_number;
 pub use numbers::Reading;
 pub use numbers::read_numbers;
 pub use output::print;
 pub use output::usage;
+pub use path::folder_end;

@@ -1,5 +1,5 @@
 // A decimal number that is all of a text.
-// Zeros in front are allowed; a sign, a space or an empty text is no number.
+// A zero in front, a sign, a space or an empty text is no number.
 ghost use mathlib.Core.Path.{_≡_};
 ghost use Rattle.arguments.specs.Arguments.{readNumber};
 ghost use Rattle.arguments.specs.declared.digit.Number.the-variants as N;
@@ -14,9 +14,11 @@ pub fn read_number(text: &[u8], most: u32) -> Number
         return Number::Nothing;
     }
     let mut r = Number::Value(0);
+    let mut inside = false;
     let mut i = 0;
     while i < text.len() {
-        r = digit_after(r, text[i], most);
+        r = digit_after(inside, r, text[i], most);
+        inside = true;
         i += 1;
     }
     r

@@ -42,9 +42,10 @@ fn turn(s: Reading, c: u8, most: u32, out: &mut [u32]) -> Reading
     if is_space(c) {
         return closed(s, out);
     }
+    let inside = s.inside;
     let pending = s.pending;
     let count = s.count;
-    let longer = digit_after(pending, c, most);
+    let longer = digit_after(inside, pending, c, most);
     Reading {
         count,
         inside: true,

@@ -2,6 +2,7 @@
 -- gives. The measure is what is left of it. Assumes nothing.
 use Prim.Native.Nat.{_-_, _≤_}
 use mathlib.Core.Path.{_≡_, refl, sym, _∙_}
+use mathlib.Core.Bool.{false}
 use native.Mathlib.Omega.{arith}
 use denote.Ref.{now}
 use borrow.Author.Needs.{needs}
@@ -13,11 +14,11 @@ use Rattle.arguments.proofs.number.read_number.Statement.{statement}
 use Rattle.arguments.proofs.number.read_number.Tie as tie
 
 abbrev Inv-loop : tie.InvT-loop
-Inv-loop text most r₀ i₀ r i =
-    (i ≤ length text) × (numberFrom most (N.Value 0) text ≡ numberFrom most r (drop i text))
+Inv-loop text most r₀ inside₀ i₀ r inside i =
+    (i ≤ length text) × (numberFrom most false (N.Value 0) text ≡ numberFrom most inside r (drop i text))
 
 abbrev μ-loop : tie.MeasureT-loop
-μ-loop text most r₀ i₀ r i = length text - i
+μ-loop text most r₀ inside₀ i₀ r inside i = length text - i
 
 returns : tie.Need-returns Inv-loop μ-loop
 returns c = sym (number-empty _ _ (c .if1 .taken))
@@ -41,8 +42,8 @@ loop-again : tie.Need-loop-again Inv-loop μ-loop
 loop-again c =
     let head = c .before .before .before in
     let args = head .before .before .before .args in
-    let read : c .digit-after .result ≡ digitAfter (args .most) (head .loop .r) (getD (now (args .text)) (head .loop .i) 0) = cc in
-    let next = number-next (args .most) (head .loop .r) (now (args .text)) (head .loop .i) (omega arith) in
+    let read : c .digit-after .result ≡ digitAfter (args .most) (head .loop .inside) (head .loop .r) (getD (now (args .text)) (head .loop .i) 0) = cc in
+    let next = number-next (args .most) (head .loop .inside) (head .loop .r) (now (args .text)) (head .loop .i) (omega arith) in
     (omega arith, rw read (head .loop .inv .1 ∙ next))
 
 returns-2 : tie.Need-returns-2 Inv-loop μ-loop
@@ -50,7 +51,7 @@ returns-2 c =
     let head = c .before in
     let args = head .before .before .before .args in
     let starts = number-starts (args .most) (now (args .text)) (λ e. omega (arith, e)) in
-    sym (starts ∙ head .loop .inv .1 ∙ number-ends (args .most) (head .loop .r) (now (args .text)) (head .loop .i) (omega arith))
+    sym (starts ∙ head .loop .inv .1 ∙ number-ends (args .most) (head .loop .inside) (head .loop .r) (now (args .text)) (head .loop .i) (omega arith))
 
 pub read-number-spec : {M : Type 1} → statement M
 read-number-spec =

@@ -1,6 +1,6 @@
 -- `turn` ends a word at white space, and else goes on with it.
 -- Assumes nothing.
-use mathlib.Core.Path.{refl, sym, ap, _∙_}
+use mathlib.Core.Path.{refl, sym, _∙_}
 use borrow.Author.Needs.{needs}
 use Rattle.arguments.specs.Arguments.{digitAfter}
 use Rattle.arguments.specs.declared.digit.Number.{Number}
@@ -18,7 +18,7 @@ returns-2 c =
     let test = c .before in
     let args = test .before .before .before .args in
     λ d a h. rw (turn-other _ a _ (sym (test .before .is-space .ensures) ∙ test .if1 .left))
-    (record { stored = h .stored; inside = refl; pending = c .digit-after .ensures ∙ ap (λ (r : Number). digitAfter (args .most) r (args .c)) (h .pending) })
+    (record { stored = h .stored; inside = refl; pending = c .digit-after .ensures ∙ rw (h .inside, h .pending) refl })
 
 pub turn-spec : {M : Type 1} → statement M
 turn-spec =

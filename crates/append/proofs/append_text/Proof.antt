@@ -1,11 +1,11 @@
--- `append_ticks` lends out as many ticks as were stored.
+-- `append_text` lends out as many ticks as were stored.
 -- Assumes nothing.
 use mathlib.Core.Path.{sym}
 use borrow.Author.Needs.{needs}
 use lib.Seq.{length-take-le}
 use Rattle.arguments.proofs.Storing.{put-inside}
-use Rattle.append.proofs.append_ticks.Statement.{statement}
-use Rattle.append.proofs.append_ticks.Tie as tie
+use Rattle.append.proofs.append_text.Statement.{statement}
+use Rattle.append.proofs.append_text.Tie as tie
 
 array-share-prefix-ticks : tie.Need-array-share-prefix-ticks
 array-share-prefix-ticks c = put-inside _ _ _ _ (c .before .before .before .read-numbers .ensures .stored)
@@ -15,20 +15,11 @@ slice-aggregate-append-to-file c =
     let read = c .before .before .before .before .read-numbers in
     sym (length-take-le (read .result .count) _ (put-inside _ _ _ _ (read .ensures .stored)))
 
-pub append-ticks-spec : {M : Type 1} → statement M
-append-ticks-spec =
+pub append-text-spec : {M : Type 1} → statement M
+append-text-spec =
     tie.close
     (tie.spec
     (λ c κs. search needs)
-    (λ c. search needs)
-    (λ c κs. search needs)
-    (λ c κs. search needs)
-    (λ c. search needs)
-    (λ c κs. search needs)
-    (λ c. search needs)
-    (λ c κs. search needs)
-    (λ c. search needs)
-    (λ c. search needs)
     (λ c. search needs)
     (λ c κs. search needs)
     (λ c. search needs)

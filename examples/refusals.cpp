@@ -1,0 +1,82 @@
+/* refusals: a C++ program over the library. It makes a volume, and meets each kind of answer and each refusal but 8, by the header's names;
+   a line for each says what the library answered, and whether it is the name's number. examples/refusals.expected has the lines. */
+#include <cinttypes>
+#include <cstdio>
+#include <string>
+#include <vector>
+
+#include "awaqlla.h"
+
+namespace {
+
+struct Answer {
+    std::uint64_t word[3] = {0, 0, 0};
+};
+
+struct Volume {
+    std::vector<std::uint8_t> bytes;
+    std::size_t length = 0;
+
+    explicit Volume(std::size_t size = JOURNAL_MAX_LENGTH) : bytes(size) {}
+
+    Answer append(std::uint16_t day, const std::string &name, std::uint32_t chance, std::size_t times)
+    {
+        const std::vector<std::uint32_t> ticks(times + 1, 100);
+        Answer a;
+        journal_append(bytes.data(), bytes.size(), length, day, reinterpret_cast<const std::uint8_t *>(name.c_str()), name.size(), &chance, 1,
+            ticks.data(), times, a.word);
+        if (a.word[0] == JOURNAL_EXTENDED)
+            length = static_cast<std::size_t>(a.word[1]);
+        return a;
+    }
+
+    Answer scan(std::size_t len) const
+    {
+        Answer a;
+        journal_scan(bytes.data(), bytes.size(), len, a.word);
+        return a;
+    }
+};
+
+void say(const char *what, std::uint64_t answered, std::uint64_t named)
+{
+    std::printf("%s %" PRIu64 "%s\n", what, answered, answered == named ? "" : ", and the header says otherwise");
+}
+
+} // namespace
+
+int main()
+{
+    Volume volume;
+    say("extended", volume.append(5, "A", 500000, 2).word[0], JOURNAL_EXTENDED);
+    say("declined", volume.append(4, "A", 500000, 2).word[0], JOURNAL_DECLINED);
+    say("whole", volume.scan(33).word[0], JOURNAL_WHOLE);
+    say("torn", volume.scan(32).word[0], JOURNAL_TORN);
+    say("length", volume.scan(JOURNAL_MAX_LENGTH + 1).word[1], AWAQLLA_REFUSAL_LENGTH);
+    say("day", volume.append(4, "A", 500000, 2).word[1], AWAQLLA_REFUSAL_DAY);
+    say("name", volume.append(5, "", 500000, 2).word[1], AWAQLLA_REFUSAL_NAME);
+    say("chances", volume.append(5, "A", 1000000, 2).word[1], AWAQLLA_REFUSAL_CHANCES);
+    say("times", volume.append(5, "A", 500000, 129).word[1], AWAQLLA_REFUSAL_TIMES);
+    say("room", Volume(32).append(5, "A", 500000, 2).word[1], AWAQLLA_REFUSAL_ROOM);
+    say("absent", journal_mark(volume.bytes.data(), volume.bytes.size(), volume.length, 1), AWAQLLA_REFUSAL_ABSENT);
+    volume.bytes[32] ^= 1;
+    say("limit", volume.scan(33).word[1], AWAQLLA_REFUSAL_LIMIT);
+    volume.bytes[0] = 7;
+    say("form", volume.scan(33).word[1], AWAQLLA_REFUSAL_FORM);
+    say("damaged", volume.scan(33).word[0], JOURNAL_DAMAGED);
+
+    const std::string name(32, '~');
+    const std::vector<std::uint32_t> chances = {1, 2, 3, 4, 5, 6, 7, 8};
+    const std::vector<std::uint32_t> times(128, 100);
+    std::vector<std::uint8_t> largest(JOURNAL_MAX_RECORD);
+    Answer a;
+    journal_append(largest.data(), largest.size(), 0, 1, reinterpret_cast<const std::uint8_t *>(name.data()), name.size(), chances.data(),
+        chances.size(), times.data(), times.size(), a.word);
+    say("the largest record", a.word[1], JOURNAL_MAX_RECORD);
+    std::uint64_t limit[2];
+    limit_bits(times.data(), times.size(), 500000, limit);
+    say("answered", limit[0], LIMIT_ANSWERED);
+    limit_bits(times.data(), times.size(), 0, limit);
+    say("refused", limit[0], LIMIT_REFUSED);
+    return 0;
+}
