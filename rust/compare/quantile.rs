@@ -1,4 +1,4 @@
-// The quantile, over every branch, the doubles around its edges, all chances and random doubles.
+// The quantile, over every branch, the doubles around its edges, all chances and random doubles: the bits that the Rust itself leaves, NaN too.
 // The lines at the end say how many of these inputs took which way through the Rust.
 
 use crate::options::Options;
@@ -75,7 +75,7 @@ impl Run<'_> {
         let mut tally = Tally::new(format!("f_erfcinv, {name}"));
         let mut slow = 0;
         for bits in inputs {
-            let sides = [ours::f_erfcinv_bits(bits), original::f_erfcinv_bits(bits)];
+            let sides = [ours::f_erfcinv_bits(bits), original::f_erfcinv_raw(bits)];
             tally.take(sides.map(|answer| [answer]), || hex(&[bits]));
             let branch = Branch::of(bits);
             *self.branches.entry(branch).or_default() += 1;

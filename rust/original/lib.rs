@@ -75,6 +75,11 @@ pub extern "C" fn f_erfcinv_bits(x: u64) -> u64 {
     bits_of(inverfc::f_erfcinv(f64::from_bits(x)))
 }
 
+/// The bits that the Rust's quantile itself leaves, a NaN's among them.
+pub fn f_erfcinv_raw(x: u64) -> u64 {
+    inverfc::f_erfcinv(f64::from_bits(x)).to_bits()
+}
+
 /// The hardware's square root on bit patterns, called as ours is.
 #[inline(never)]
 pub extern "C" fn sqrt_bits(x: u64) -> u64 {

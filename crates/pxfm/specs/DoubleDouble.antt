@@ -42,7 +42,7 @@ splitOf a =
     let hi = add binary64 t1 t2 in
     newOf (sub binary64 a hi) hi
 
--- Dekker's product. It is not symmetric: the low part takes a's high half first.
+-- TwoProduct, by Dekker's steps. It is not symmetric: the low part takes a's high half first.
 unfoldable pub fromExactMult : Float → Float → DoubleDouble
 fromExactMult a b =
     let sa = splitOf a in
@@ -53,14 +53,14 @@ fromExactMult a b =
     let t3 = add binary64 (mul binary64 (sa .lo) (sb .hi)) t2 in
     newOf (add binary64 (mul binary64 (sa .lo) (sb .lo)) t3) hi
 
--- The sum of two doubles, the larger one first.
+-- Fast2Sum: the sum of two doubles and what its rounding loses, the larger one first.
 unfoldable pub fromExactAdd : Float → Float → DoubleDouble
 fromExactAdd a b =
     let hi = add binary64 a b in
     let t = sub binary64 hi a in
     newOf (sub binary64 b t) hi
 
--- The sum of two doubles, whichever is larger.
+-- TwoSum: the same, whichever is larger.
 unfoldable pub fromFullExactAdd : Float → Float → DoubleDouble
 fromFullExactAdd a b =
     let hi = add binary64 a b in
@@ -70,7 +70,7 @@ fromFullExactAdd a b =
     let t4 = sub binary64 a t2 in
     newOf (add binary64 t3 t4) hi
 
--- The difference of two doubles, whichever is larger.
+-- TwoSum of a and -b.
 unfoldable pub fromFullExactSub : Float → Float → DoubleDouble
 fromFullExactSub a b =
     let hi = sub binary64 a b in

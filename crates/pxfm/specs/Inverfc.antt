@@ -61,7 +61,7 @@ quickRational x =
     let vz = centredOf x in
     quickMult (divOf (horner10 p0p06To0p75 vz) (horner10 q0p06To0p75 vz)) x
 
--- The rounding test: k rounds to one double with any error up to 2 ^ -56 × its high part + 2 ^ -59.
+-- Ziv's rounding test: k rounds to one double with any error up to 2 ^ -56 × its high part + 2 ^ -59.
 unfoldable pub roundsAlike : DoubleDouble → Bool
 roundsAlike k =
     let err = fFmla (k .hi) (ofBits binary64 0x3c70000000000000) (ofBits binary64 0x3c40000000000000) in

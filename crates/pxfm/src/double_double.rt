@@ -64,6 +64,7 @@ impl DoubleDouble {
         DoubleDouble::new(r_lo, r_hi)
     }
 
+    // Fast2Sum: the sum and what its rounding loses, where a is the larger.
     pub(crate) fn from_exact_add(a: f64, b: f64) -> Self
         ensures { λ r. ⌜ r ≡ fromExactAdd a b ⌝ }
     {
@@ -73,6 +74,7 @@ impl DoubleDouble {
         DoubleDouble::new(r_lo, r_hi)
     }
 
+    // TwoSum: the same, whichever is larger.
     pub(crate) fn from_full_exact_add(a: f64, b: f64) -> Self
         ensures { λ r. ⌜ r ≡ fromFullExactAdd a b ⌝ }
     {
@@ -85,6 +87,7 @@ impl DoubleDouble {
         DoubleDouble::new(r_lo, r_hi)
     }
 
+    // a × b + c, by the product's pair.
     pub(crate) fn dd_f64_mul_add(a: f64, b: f64, c: f64) -> f64
         ensures { λ r. ⌜ r ≡ ddF64MulAdd a b c ⌝ }
     {
@@ -93,6 +96,7 @@ impl DoubleDouble {
         zv.to_f64()
     }
 
+    // TwoSum of a and -b.
     pub(crate) fn from_full_exact_sub(a: f64, b: f64) -> Self
         ensures { λ r. ⌜ r ≡ fromFullExactSub a b ⌝ }
     {
@@ -156,7 +160,7 @@ impl DoubleDouble {
         DoubleDouble::new(r_lo, r_hi)
     }
 
-    // Dekker's product.
+    // TwoProduct, by Dekker's steps, since there is no fma.
     pub(crate) fn from_exact_mult(a: f64, b: f64) -> Self
         ensures { λ r. ⌜ r ≡ fromExactMult a b ⌝ }
     {

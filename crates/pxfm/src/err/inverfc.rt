@@ -370,7 +370,7 @@ fn quick_rational(x: DoubleDouble) -> DoubleDouble
     DoubleDouble::quick_mult(r, x)
 }
 
-// Whether k rounds to one double with any error within the quicker rational's bound.
+// Ziv's rounding test: whether k rounds to one double with any error within the quicker rational's bound.
 fn rounds_alike(k: DoubleDouble) -> bool
     ensures { λ r. ⌜ r ≡ roundsAlike k ⌝ }
 {
