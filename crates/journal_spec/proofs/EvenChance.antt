@@ -3,7 +3,7 @@
 use mathlib.Core.Path.{_≡_, refl, ap, _∙_}
 use mathlib.Core.Bool.{true}
 use mathlib.Core.List.{[], _∷_}
-use lib.Ieee.{binary64, ofInt, ofBits, toBits, isNan, eq, add, mul, div}
+use lib.Ieee.{binary64, ofInt, ofBits, toBits, isNan, eq, lt, add, mul, div}
 use lib.Ieee.Scale.{finite}
 use Rattle.sqrt.specs.Sqrt.{sqrtIn}
 use Rattle.pxfm.specs.Inverfc.{fErfcinv}
@@ -13,7 +13,7 @@ use Rattle.journal_spec.specs.Model.{workedOut}
 
 pub worked-hundred : workedOut (100 ∷ 100 ∷ []) 500_000 ≡ ofBits binary64 0x4059_0000_0000_0000
 unfolding workedOut formulaOf meanOf spreadBy spreadOf quantileOf limitFrom sumOf squaresOf
-    ofInt ofBits toBits isNan eq add mul div sqrtIn fErfcinv
+    ofInt ofBits toBits isNan eq lt add mul div sqrtIn fErfcinv
 worked-hundred = refl
 
 hundred-finite : finite (ofBits binary64 0x4059_0000_0000_0000) ≡ true

@@ -4,7 +4,7 @@ use mathlib.Core.Path.{_≡_, refl}
 use mathlib.Core.List.{List, [], _∷_, _++_}
 use Prim.Native.Nat.{ℕ}
 use lib.ListN.{take, set}
-use lib.Ieee.{ofInt, ofBits, toBits, isNan, eq, add, mul, div}
+use lib.Ieee.{ofInt, ofBits, toBits, isNan, eq, lt, add, mul, div}
 use Rattle.sqrt.specs.Sqrt.{sqrtIn}
 use Rattle.pxfm.specs.Inverfc.{fErfcinv}
 use Rattle.limit.specs.Times.{inRange, timeInRange, allInRange, timesInRange, sumOf, squaresOf}
@@ -46,7 +46,7 @@ pub record Examples : Type 0 where
   pub empty-listed : listingOf [] ≡ 0x77 ∷ 0x68 ∷ 0x6f ∷ 0x6c ∷ 0x65 ∷ 0x20 ∷ 0x30 ∷ 0x20 ∷ 0x30 ∷ 0x0a ∷ []
 
 pub listed-examples : Examples
-unfolding ofInt ofBits toBits isNan eq add mul div sqrtIn fErfcinv
+unfolding ofInt ofBits toBits isNan eq lt add mul div sqrtIn fErfcinv
     inRange timeInRange allInRange timesInRange sumOf squaresOf meanOf spreadBy spreadOf quantileOf limitFrom formulaOf
     chanceInRange finiteOrRefused judge limitOf glyphOf digits orMore placesIn placesOf decimalDigits
     valueOf joined unless outside run then items section

@@ -44,9 +44,11 @@ unfolding nanBits
 long-den-spec =
     tie.close
     (tie.spec
-    (λ c. search needs) (λ c. search needs) (λ c κs. ((tt, tt), (tt, tt))) (λ c. search needs) (λ c. search needs) (λ c κs. ((tt, tt), (tt, tt)))
-    (λ c. search needs) (λ c. search needs) (λ c κs. ((tt, tt), (tt, tt))) (λ c. search needs) (λ c. search needs) (λ c κs. ((tt, tt), (tt, tt)))
-    (λ c. search needs) (λ c. search needs) (λ c κs. ((tt, tt), (tt, tt))) (λ c. search needs) (λ c. search needs) (λ c κs. ((tt, tt), (tt, tt)))
-    (λ c. search needs) (λ c. search needs) (λ c κs. ((tt, tt), (tt, tt))) ok ok ok ok
-    ok ok
+    (λ c. search needs) (λ c. search needs) (λ c κs. ((tt, tt), (tt, tt)))
+    (λ c. search needs) (λ c. search needs) (λ c κs. ((tt, tt), (tt, tt)))
+    (λ c. search needs) (λ c. search needs) (λ c κs. ((tt, tt), (tt, tt)))
+    (λ c. search needs) (λ c. search needs) (λ c κs. ((tt, tt), (tt, tt)))
+    (λ c. search needs) (λ c. search needs) (λ c κs. ((tt, tt), (tt, tt)))
+    (λ c. search needs) (λ c. search needs) (λ c κs. ((tt, tt), (tt, tt)))
+    (λ c. search needs) (λ c. search needs) (λ c κs. ((tt, tt), (tt, tt))) ok ok ok ok ok ok
     returns)

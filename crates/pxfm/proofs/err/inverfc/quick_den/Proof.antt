@@ -41,8 +41,10 @@ unfolding nanBits
 quick-den-spec =
     tie.close
     (tie.spec
-    (λ c. search needs) (λ c. search needs) (λ c. tt) (λ c. search needs) (λ c. search needs) (λ c. tt) (λ c. search needs)
-    (λ c. search needs) (λ c. tt) (λ c. search needs) (λ c. search needs) (λ c. tt) (λ c. search needs) (λ c. search needs)
-    (λ c. tt) ok (λ c. search needs) (λ c κs. (tt, tt)) ok (λ c. search needs) (λ c κs. (tt, tt)) ok
-    (λ c. search needs) (λ c κs. (tt, tt)) ok (λ c. search needs) (λ c κs. (tt, tt)) ok (λ c. search needs) (λ c κs. (tt, tt)) ok
+    (λ c. search needs) (λ c. search needs) (λ c. tt) (λ c. search needs) (λ c. search needs) (λ c. tt)
+    (λ c. search needs) (λ c. search needs) (λ c. tt) (λ c. search needs) (λ c. search needs) (λ c. tt)
+    (λ c. search needs) (λ c. search needs) (λ c. tt) ok
+    (λ c. search needs) (λ c κs. (tt, tt)) ok (λ c. search needs) (λ c κs. (tt, tt)) ok
+    (λ c. search needs) (λ c κs. (tt, tt)) ok (λ c. search needs) (λ c κs. (tt, tt)) ok
+    (λ c. search needs) (λ c κs. (tt, tt)) ok
     returns)

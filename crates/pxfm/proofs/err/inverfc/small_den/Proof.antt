@@ -43,7 +43,10 @@ unfolding nanBits
 small-den-spec =
     tie.close
     (tie.spec
-    (λ c. search needs) (λ c κs. (tt, tt)) ok (λ c. search needs) (λ c. search needs) (λ c κs. ((tt, tt), (tt, tt))) (λ c. search needs) (λ c. search needs)
-    (λ c κs. ((tt, tt), (tt, tt))) (λ c. search needs) (λ c. search needs) (λ c κs. ((tt, tt), (tt, tt))) (λ c. search needs) (λ c. search needs)
-    (λ c κs. ((tt, tt), (tt, tt))) ok ok ok (λ c. search needs) (λ c κs. (tt, tt)) ok ok
+    (λ c. search needs) (λ c κs. (tt, tt)) ok
+    (λ c. search needs) (λ c. search needs) (λ c κs. ((tt, tt), (tt, tt)))
+    (λ c. search needs) (λ c. search needs) (λ c κs. ((tt, tt), (tt, tt)))
+    (λ c. search needs) (λ c. search needs) (λ c κs. ((tt, tt), (tt, tt)))
+    (λ c. search needs) (λ c. search needs) (λ c κs. ((tt, tt), (tt, tt))) ok ok ok
+    (λ c. search needs) (λ c κs. (tt, tt)) ok ok
     returns)

@@ -40,8 +40,10 @@ unfolding nanBits
 small-num-spec =
     tie.close
     (tie.spec
-    (λ c. search needs) (λ c. search needs) (λ c κs. ((tt, tt), (tt, tt))) (λ c. search needs) (λ c. search needs) (λ c κs. ((tt, tt), (tt, tt)))
-    (λ c. search needs) (λ c. search needs) (λ c κs. ((tt, tt), (tt, tt))) (λ c. search needs) (λ c. search needs) (λ c κs. ((tt, tt), (tt, tt)))
-    (λ c. search needs) (λ c. search needs) (λ c κs. ((tt, tt), (tt, tt))) ok ok ok (λ c. search needs) (λ c κs. (tt, tt)) ok
-    ok
+    (λ c. search needs) (λ c. search needs) (λ c κs. ((tt, tt), (tt, tt)))
+    (λ c. search needs) (λ c. search needs) (λ c κs. ((tt, tt), (tt, tt)))
+    (λ c. search needs) (λ c. search needs) (λ c κs. ((tt, tt), (tt, tt)))
+    (λ c. search needs) (λ c. search needs) (λ c κs. ((tt, tt), (tt, tt)))
+    (λ c. search needs) (λ c. search needs) (λ c κs. ((tt, tt), (tt, tt))) ok ok ok
+    (λ c. search needs) (λ c κs. (tt, tt)) ok ok
     returns)

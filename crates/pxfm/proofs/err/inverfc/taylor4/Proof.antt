@@ -32,6 +32,6 @@ unfolding nanBits
 taylor4-spec =
     tie.close
     (tie.spec
-    ok (λ c. tt) (λ c. tt) ok (λ c. search needs) (λ c κs. (tt, tt)) ok (λ c. search needs) (λ c κs. (tt, tt)) ok
-    ok
+    ok (λ c. tt) (λ c. tt) ok (λ c. search needs) (λ c κs. (tt, tt)) ok
+    (λ c. search needs) (λ c κs. (tt, tt)) ok ok
     returns)
