@@ -1,89 +1,14 @@
 // Writes a record's bytes, front to back, into the part of the slice that is lent, as far as the budget's end.
-// Every byte goes through `step`, which writes the next one and no other; a writer's place advances through `step` alone.
-ghost use Prim.Native.Nat.{_≤_, _<_};
+// Each byte is written by `step`, which works it out from the record at its place; nothing else here writes.
+ghost use mathlib.Core.Path.{_≡_};
+ghost use Prim.Native.Nat.{_≤_, _<_, min};
 ghost use lib.ListN.{length};
-ghost use Rattle.journal_spec.specs.Bytes.{bytesOf};
-ghost use Rattle.journal_spec.specs.Section.{sectionBytes};
-ghost use Rattle.journal_spec.specs.Record.{recordBytes};
 ghost use Rattle.journal_spec.specs.Wrote.{Wrote};
-ghost use Rattle.journal.specs.Stepped.{Stepped};
-ghost use Rattle.journal.specs.Offering.{recordFrom};
-use crate::record::FORM;
+ghost use Rattle.journal.specs.Stepped.{Stepped, SectionPut};
+ghost use Rattle.journal.specs.Offering.{bytesFrom};
+use crate::byte::byte_at;
 
-// The next byte, and no other. Answers the place after it.
-fn step(part: &mut [u8], at: usize, x: u8) -> usize
-    requires { ⌜ at < length (now part) ⌝ }
-    ensures { λ r. ⌜ Stepped (now (part .entry)) at x r (now (part .exit)) ⌝ }
-{
-    part[at] = x;
-    at + 1
-}
-
-// A number in w bytes, the lowest first, from a place on. Answers the place after the last byte written.
-fn put_number(part: &mut [u8], at: usize, end: usize, w: usize, x: u64) -> usize
-    requires { ⌜ (at ≤ end) × (end ≤ length (now part)) ⌝ }
-    ensures { λ r. ⌜ Wrote (now (part .entry)) at end (bytesOf w x) r (now (part .exit)) ⌝ }
-{
-    let mut p = at;
-    let mut v = x;
-    let mut left = w;
-    while 0 < left {
-        if end <= p {
-            return p;
-        }
-        p = step(part, p, (v % 256) as u8);
-        v = v / 256;
-        left -= 1;
-    }
-    p
-}
-
-// The name's section: its count, then its bytes.
-fn put_name(part: &mut [u8], at: usize, end: usize, name: &[u8]) -> usize
-    requires { ⌜ (at ≤ end) × (end ≤ length (now part)) ⌝ }
-    ensures { λ r. ⌜ Wrote (now (part .entry)) at end (sectionBytes 1 (now (name .entry))) r (now (part .exit)) ⌝ }
-{
-    let n = name.len();
-    let mut p = put_number(part, at, end, 2, n as u64);
-    let mut i: usize = 0;
-    while i < n {
-        p = put_number(part, p, end, 1, name[i] as u64);
-        i += 1;
-    }
-    p
-}
-
-// The section of the chances or of the times.
-fn put_numbers(part: &mut [u8], at: usize, end: usize, numbers: &[u32]) -> usize
-    requires { ⌜ (at ≤ end) × (end ≤ length (now part)) ⌝ }
-    ensures { λ r. ⌜ Wrote (now (part .entry)) at end (sectionBytes 4 (now (numbers .entry))) r (now (part .exit)) ⌝ }
-{
-    let n = numbers.len();
-    let mut p = put_number(part, at, end, 2, n as u64);
-    let mut i: usize = 0;
-    while i < n {
-        p = put_number(part, p, end, 4, numbers[i] as u64);
-        i += 1;
-    }
-    p
-}
-
-// The limits' section, by their bits.
-fn put_limits(part: &mut [u8], at: usize, end: usize, limits: &[u64]) -> usize
-    requires { ⌜ (at ≤ end) × (end ≤ length (now part)) ⌝ }
-    ensures { λ r. ⌜ Wrote (now (part .entry)) at end (sectionBytes 8 (now (limits .entry))) r (now (part .exit)) ⌝ }
-{
-    let n = limits.len();
-    let mut p = put_number(part, at, end, 2, n as u64);
-    let mut i: usize = 0;
-    while i < n {
-        p = put_number(part, p, end, 8, limits[i]);
-        i += 1;
-    }
-    p
-}
-
-// The record, from the part's first byte on.
+// The record, from the part's first byte on, `end` bytes of it. Answers the place after the last.
 pub(crate) fn put_record(
     part: &mut [u8],
     end: usize,
@@ -93,15 +18,106 @@ pub(crate) fn put_record(
     times: &[u32],
     limits: &[u64],
 ) -> usize
-    requires { ⌜ end ≤ length (now part) ⌝ }
+    requires { ⌜ (end ≤ length (now part)) × (end ≤ length (bytesFrom day (now name) (now chances) (now times) (now limits))) ⌝ }
     ensures { λ r. ⌜ Wrote (now (part .entry)) 0 end
-        (recordBytes (recordFrom day (now (name .entry)) (now (chances .entry)) (now (times .entry)) (now (limits .entry))))
-        r (now (part .exit)) ⌝ }
+        (bytesFrom day (now (name .entry)) (now (chances .entry)) (now (times .entry)) (now (limits .entry))) r (now (part .exit)) ⌝ }
 {
-    let form_end = put_number(part, 0, end, 2, FORM);
-    let day_end = put_number(part, form_end, end, 2, day as u64);
-    let name_end = put_name(part, day_end, end, name);
-    let chances_end = put_numbers(part, name_end, end, chances);
-    let times_end = put_numbers(part, chances_end, end, times);
-    put_limits(part, times_end, end, limits)
+    let name_size = 2 + name.len();
+    let chances_size = 2 + 4 * chances.len();
+    let times_size = 2 + 4 * times.len();
+    let limits_size = 2 + 8 * limits.len();
+    let name_at = put_section(part, 0, 4, end, day, name, chances, times, limits);
+    let chances_at = put_section(
+        part,
+        name_at,
+        name_size,
+        end,
+        day,
+        name,
+        chances,
+        times,
+        limits,
+    );
+    let times_at = put_section(
+        part,
+        chances_at,
+        chances_size,
+        end,
+        day,
+        name,
+        chances,
+        times,
+        limits,
+    );
+    let limits_at = put_section(
+        part,
+        times_at,
+        times_size,
+        end,
+        day,
+        name,
+        chances,
+        times,
+        limits,
+    );
+    put_section(
+        part,
+        limits_at,
+        limits_size,
+        end,
+        day,
+        name,
+        chances,
+        times,
+        limits,
+    )
+}
+
+// A section of the record, or form and day, of that size, from its first byte's place on. Answers the place after the last byte written.
+fn put_section(
+    part: &mut [u8],
+    at: usize,
+    size: usize,
+    end: usize,
+    day: u16,
+    name: &[u8],
+    chances: &[u32],
+    times: &[u32],
+    limits: &[u64],
+) -> usize
+    requires { ⌜ (at ≤ end) × (end ≤ length (now part)) × (end ≤ length (bytesFrom day (now name) (now chances) (now times) (now limits))) ⌝ }
+    ensures { λ r. ⌜ SectionPut (bytesFrom day (now (name .entry)) (now (chances .entry)) (now (times .entry)) (now (limits .entry)))
+        (now (part .entry)) at size end r (now (part .exit)) ⌝ }
+{
+    let stop = at + least(end - at, size);
+    let mut p = at;
+    while p < stop {
+        p = step(part, p, day, name, chances, times, limits);
+    }
+    p
+}
+
+// At the place p, byte p of the record and no other. Answers the place after it.
+fn step(
+    part: &mut [u8],
+    p: usize,
+    day: u16,
+    name: &[u8],
+    chances: &[u32],
+    times: &[u32],
+    limits: &[u64],
+) -> usize
+    requires { ⌜ (p < length (now part)) × (p < length (bytesFrom day (now name) (now chances) (now times) (now limits))) ⌝ }
+    ensures { λ r. ⌜ Stepped (bytesFrom day (now (name .entry)) (now (chances .entry)) (now (times .entry)) (now (limits .entry)))
+        (now (part .entry)) p r (now (part .exit)) ⌝ }
+{
+    part[p] = byte_at(p, day, name, chances, times, limits);
+    p + 1
+}
+
+// The smaller of two numbers.
+pub(crate) fn least(a: usize, b: usize) -> usize
+    ensures { λ r. ⌜ r ≡ min a b ⌝ }
+{
+    if a < b { a } else { b }
 }

@@ -17,8 +17,8 @@ use Rattle.journal_spec.specs.Record.{Record, Last, lastOf, judgeForm, j
 use Rattle.journal_spec.specs.Record.{timeSection, limitSection, recordReader}
 use Rattle.journal_spec.specs.Scan.{maxLength, Placed, recordsOf, Contents, standing, faulty, contentsFrom, contentsOf, statusOf, scanOf}
 use Rattle.journal_spec.specs.Scan as S
-use Rattle.journal_spec.specs.Append.{Offer, declined, judgeWorked, limitsRefusal, judgeRoom, offerRefusal, appendRefusal, unchanged, extend}
-use Rattle.journal_spec.specs.Append.{settle, appendTo, appendUpto}
+use Rattle.journal_spec.specs.Request.{Journal, Budget, Request, Offer, offerOf, declined}
+use Rattle.journal_spec.specs.Append.{judgeWorked, limitsRefusal, judgeRoom, appendRefusal, unchanged, extend, settle, appendTo, appendOf}
 use Rattle.journal_spec.specs.Model.{nameGood, chancesGood, timesGood}
 use Rattle.journal_spec.proofs.Reading.{field-cases, run-left}
 use Rattle.journal_spec.proofs.Scanning.{turn-short, turn-fault, turn-found}
@@ -172,6 +172,15 @@ unfolding firstOf
 first-number P zero ns n f g h = g n h
 first-number P (suc m) ns n f g h = rw h at (f m refl)
 
+-- every row refuses by a number with the property P
+abbrev pub Rows : (ℕ → Type 0) → List ℕ → Type 0
+Rows P [] = Unit {0}
+Rows P (a ∷ ns) = ((m : ℕ) → a ≡ suc m → P (suc m)) × Rows P ns
+
+one-of : (P : ℕ → Type 0) (ns : List ℕ) → Rows P ns → (n : ℕ) → firstOf ns ≡ suc n → P (suc n)
+one-of P [] rows n h = unfold firstOf in absurd (omega arith)
+one-of P (a ∷ ns) rows n h = first-number P a ns n (rows .0) (one-of P ns (rows .1)) h
+
 -- one of 3 to 9
 abbrev pub OfOffer : ℕ → Type 0
 OfOffer n = (3 ≤ n) × (n ≤ 9)
@@ -193,46 +202,52 @@ unfolding limitsRefusal
 limits-number times [] n h = none n h
 limits-number times (c ∷ cs) n h = first-number OfOffer _ _ n (λ m e. worked-number (limitOf times c) m e) (λ m e. limits-number times cs m e) h
 
-offer-number : (last : Last) (o : Offer) (n : ℕ) → offerRefusal last o ≡ suc n → OfOffer (suc n)
-unfolding offerRefusal judgeDay
-offer-number last o n h =
-    first-number OfOffer _ _ n (λ m e. offered-only _ 3 m (omega arith) (omega arith) e)
-    (λ m e. first-number OfOffer _ _ m (λ k d. offered-only (nameGood (o .name)) 4 k (omega arith) (omega arith) (sym (name-refused (o .name)) ∙ d))
-    (λ k d. first-number OfOffer _ _ k (λ i x. offered-only (chancesGood (o .chances)) 5 i (omega arith) (omega arith) (sym (chance-refused (o .chances)) ∙ x))
-    (λ i x. first-number OfOffer _ _ i (λ l y. offered-only (timesGood (o .times)) 6 l (omega arith) (omega arith) (sym (time-refused (o .times)) ∙ y))
-    (λ l y. first-number OfOffer _ _ l (limits-number (o .times) (o .chances)) none y)
-    x) d) e) h
-
 append-number : (room : ℕ) (last : Last) (committed : ℕ) (o : Offer) (n : ℕ) → appendRefusal room last committed o ≡ suc n → OfOffer (suc n)
-unfolding appendRefusal judgeRoom
-append-number room last committed o n h =
-    first-number OfOffer _ _ n (offer-number last o)
-    (λ m e. first-number OfOffer _ _ m (λ k d. offered-only _ 9 k (omega arith) (omega arith) d) none e) h
+unfolding appendRefusal judgeDay judgeRoom
+append-number room last committed o = one-of OfOffer _ (
+  λ n e. offered-only _ 3 n (omega arith) (omega arith) e,
+  (
+    λ n e. offered-only (nameGood (o .name)) 4 n (omega arith) (omega arith) (sym (name-refused (o .name)) ∙ e),
+    (
+      λ n e. offered-only (chancesGood (o .chances)) 5 n (omega arith) (omega arith) (sym (chance-refused (o .chances)) ∙ e),
+      (
+        λ n e. offered-only (timesGood (o .times)) 6 n (omega arith) (omega arith) (sym (time-refused (o .times)) ∙ e),
+        (
+          limits-number (o .times) (o .chances),
+          (
+            λ n e. offered-only _ 9 n (omega arith) (omega arith) e,
+            tt,
+          ),
+        ),
+      ),
+    ),
+  ),
+)
 
-extended-not-declined : (slice : List ℕ) (len committed : ℕ) (new : List ℕ) (n : ℕ) → settle 0 slice len committed new .answer ≡ declined n → ⊥
+extended-not-declined : (j : Journal) (committed : ℕ) (new : List ℕ) (n : ℕ) → settle 0 j committed new .answer ≡ declined n → ⊥
 unfolding settle extend
-extended-not-declined slice len committed new n e = let z : _≡_ {A = ℕ} 0 1 = cc in omega arith
+extended-not-declined j committed new n e = let z : _≡_ {A = ℕ} 0 1 = cc in omega arith
 
-declined-same : (m : ℕ) (slice : List ℕ) (len committed : ℕ) (new : List ℕ) (n : ℕ)
-    → settle (suc m) slice len committed new .answer ≡ declined n → suc m ≡ n
+declined-same : (m : ℕ) (j : Journal) (committed : ℕ) (new : List ℕ) (n : ℕ) → settle (suc m) j committed new .answer ≡ declined n → suc m ≡ n
 unfolding settle unchanged
-declined-same m slice len committed new n e = cc
+declined-same m j committed new n e = cc
 
-damaged-not-declined : (m p : ℕ) (slice : List ℕ) (len : ℕ) (o : Offer) (k n : ℕ) → appendTo (faulty m p) slice len o k .answer ≡ declined n → ⊥
+damaged-not-declined : (m p : ℕ) (j : Journal) (o : Offer) (budget : Budget) (n : ℕ) → appendTo (faulty m p) j o budget .answer ≡ declined n → ⊥
 unfolding appendTo unchanged
-damaged-not-declined m p slice len o k n e = let z : _≡_ {A = ℕ} 0 1 = cc in omega arith
+damaged-not-declined m p j o budget n e = let z : _≡_ {A = ℕ} 0 1 = cc in omega arith
 
 -- document 01's numbers of a declined append: 3 to 9 (7 is no refusal of an offer: its limits are worked out and not given)
-pub declined-number : (slice : List ℕ) (len : ℕ) (o : Offer) (k n : ℕ) → appendUpto slice len o k .answer ≡ declined n → OfOffer n
-unfolding appendUpto
-declined-number slice len o k n h = by-contents (contentsOf slice len) h
+pub declined-number : (j : Journal) (q : Request) (n : ℕ) → appendOf j q .answer ≡ declined n → OfOffer n
+unfolding appendOf
+declined-number j q n h = by-contents (contentsOf (j .slice) (j .len)) h
   where
-    by-refusal : (m committed : ℕ) (new : List ℕ) → ((i : ℕ) → m ≡ suc i → OfOffer (suc i)) → settle m slice len committed new .answer ≡ declined n → OfOffer n
-    by-refusal zero committed new f e = absurd (extended-not-declined slice len committed new n e)
-    by-refusal (suc m) committed new f e = rw (declined-same m slice len committed new n e) at (f m refl)
+    by-refusal : (m committed : ℕ) (new : List ℕ) → ((i : ℕ) → m ≡ suc i → OfOffer (suc i)) → settle m j committed new .answer ≡ declined n → OfOffer n
+    by-refusal zero committed new f e = absurd (extended-not-declined j committed new n e)
+    by-refusal (suc m) committed new f e = rw (declined-same m j committed new n e) at (f m refl)
 
-    by-contents : (x : Contents) → appendTo x slice len o k .answer ≡ declined n → OfOffer n
-    by-contents (faulty m p) e = absurd (damaged-not-declined m p slice len o k n e)
+    by-contents : (x : Contents) → appendTo x j (offerOf q) (q .budget) .answer ≡ declined n → OfOffer n
+    by-contents (faulty m p) e = absurd (damaged-not-declined m p j (offerOf q) (q .budget) n e)
     by-contents (standing ps committed) e =
         unfold appendTo in
-        by-refusal (appendRefusal (length slice) (lastOf (recordsOf ps)) committed o) committed _ (append-number (length slice) _ committed o) e
+        by-refusal (appendRefusal (length (j .slice)) (lastOf (recordsOf ps)) committed (offerOf q)) committed _
+        (append-number (length (j .slice)) _ committed (offerOf q)) e

@@ -8,6 +8,7 @@ pub mod Record
 pub mod Stages
 pub mod Scan
 pub mod Read
+pub mod Request
 pub mod Append
 pub mod Wrote
 pub mod Calls

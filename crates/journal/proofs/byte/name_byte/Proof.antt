@@ -1,0 +1,28 @@
+-- `name_byte` answers a byte of the count, or of the name.
+-- Assumes nothing.
+use mathlib.Core.Path.{_∙_}
+use Prim.Native.Nat.{_-_}
+use native.Mathlib.Omega.{arith}
+use borrow.Author.Needs.{needs}
+use Rattle.journal.proofs.Putting.{section-count, section-byte}
+use Rattle.journal.proofs.byte.name_byte.Statement.{statement}
+use Rattle.journal.proofs.byte.name_byte.Tie as tie
+
+returns : tie.Need-returns
+returns c = c .number-byte .ensures 2 (omega arith) ∙ section-count 1 _ _ (omega arith)
+
+returns-2 : tie.Need-returns-2
+returns-2 c =
+    c .number-byte2 .ensures 1 (omega arith)
+    ∙ section-byte 1 _ _ _ _ (omega arith) (omega arith) (omega arith) (omega arith)
+
+pub name-byte-spec : {M : Type 1} → statement M
+name-byte-spec =
+    tie.close
+    (tie.spec
+    (λ c κs. search needs)
+    returns
+    (λ c. search needs)
+    (λ c. omega (arith, c .shared-slice-known2 .given (c .before .before .before .args .i - 2)))
+    (λ c κs. search needs)
+    returns-2)
