@@ -12,7 +12,7 @@ use Rattle.journal_spec.specs.Record.{Last, lastOf}
 use Rattle.journal_spec.specs.Scan.{maxLength, Placed, recordsOf, standing, faulty, contentsOf, whole, torn, damaged, statusOf, scanOf}
 use Rattle.journal_spec.specs.Scan as Scan
 use Rattle.journal_spec.specs.Read.{noPart, partAt, partOf, partPlace, marked, unmarked, markFrom, markOf, markAt, markIn, readMark}
-use Rattle.journal_spec.specs.Request.{Journal, Request, offerOf, Outcome}
+use Rattle.journal_spec.specs.Request.{Request, offerOf, Outcome}
 use Rattle.journal_spec.specs.Append.{unchanged, appendTo, appendOf}
 use Rattle.journal_spec.proofs.Scanning.{contents-long}
 use Rattle.journal_spec.proofs.RecordsLoop.{contents-part, mark-beyond}

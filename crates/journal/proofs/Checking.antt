@@ -10,10 +10,10 @@ use lib.Seq.{take-suc}
 use Rattle.limit.specs.Answer.{chanceRefusal}
 use Rattle.limit.specs.Limit.{maxChance}
 use Rattle.journal_spec.specs.Refusals.{outside, firstOf}
-use Rattle.journal_spec.specs.Section.{Section, sectionRefusal, refusalFrom}
+use Rattle.journal_spec.specs.Section.{Section, sectionRefusal}
 use Rattle.journal_spec.specs.Record.{lastChance, chanceSection}
-use Rattle.journal_spec.proofs.OfferLoop.{refuse-this, refuse-later, refuse-none}
-use Rattle.journal_spec.proofs.Offers.{last-snoc}
+use Rattle.journal_spec.proofs.RefusalFrom.{refusalFrom, refuse-this, refuse-later, refuse-none}
+use Rattle.journal_spec.proofs.SameRefusals.{last-snoc}
 use Rattle.journal.proofs.Ranges.{chance-agrees}
 
 -- ---- the first refusal of a list

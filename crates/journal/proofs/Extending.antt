@@ -5,7 +5,7 @@ use Prim.Native.Nat.{ℕ, zero, suc, _+_, _-_, _≤_, _<_, min}
 use mathlib.Core.Bool.{Bool, true, false, not}
 use mathlib.Core.List.{List, [], _∷_, _++_}
 use native.Mathlib.Omega.{arith}
-use lib.ListN.{length, take, drop}
+use lib.ListN.{length, take, drop, length-take}
 use lib.Seq.{take-all}
 use lib.Dec.{leb}
 use borrow.Author.Tests.{not-true, not-false, leb-true}
@@ -14,12 +14,12 @@ use Rattle.journal_spec.specs.Record.{Record, Last, lastOf, recordBytes}
 use Rattle.journal_spec.specs.Scan.{maxLength, Placed, recordsOf, standing}
 use Rattle.journal_spec.specs.Request.{Journal, Budget, Offer, allowed}
 use Rattle.journal_spec.specs.Append.{limitsOf, offered, judgeRoom, appendRefusal, written, unchanged, extend, settle, appendTo}
-use Rattle.journal_spec.specs.Wrote.{Wrote}
 use Rattle.journal_spec.proofs.Judging.{unless-true, unless-false}
 use Rattle.journal_spec.proofs.Reading.{by-order}
-use Rattle.journal_spec.proofs.Writing.{lent-wrote}
+use Rattle.journal_spec.proofs.Writing.{written-lent}
 use Rattle.journal.specs.declared.Appended.the-variants as A
-use Rattle.journal.specs.Offering.{offerFrom, recordFrom, offerRefusals}
+use Rattle.journal.specs.Stepped.{Filled}
+use Rattle.journal.specs.Handed.{offerFrom, recordFrom, offerRefusals}
 use Rattle.journal.specs.Answers.{appendMeaning, lengthAfter, outcomeOf}
 use Rattle.journal.proofs.Checking.{first-alone, first-front, first-back}
 
@@ -62,18 +62,22 @@ settled-none n j after committed end new z a e = rw (z, a, e) refl
 -- the writer was lent the slice from the committed length on
 module _ (j : Journal) (committed size : ℕ) (new : List ℕ) (s : size ≡ length new) where
   pub room-extended : (room : Bool) → room ≡ leb (committed + size) (min (length (j .slice)) maxLength) → not room ≡ false
-      → (b : Budget) (end r : ℕ) (ys : List ℕ) → end ≡ min (allowed b size) size
-      → Wrote (take (length (j .slice) - committed) (drop committed (j .slice))) 0 end new r ys
+      → (b : Budget) (end r : ℕ) (ys : List ℕ) → end ≡ min (allowed b size) size → r ≡ end
+      → Filled new (take (length (j .slice) - committed) (drop committed (j .slice))) 0 r ys
       → outcomeOf (j .len) (A.Extended (committed + r))
       (take committed (j .slice) ++ (ys ++ drop (length (j .slice) - committed) (drop committed (j .slice))))
       ≡ settle (judgeRoom (length (j .slice)) committed (length new)) j committed (take (allowed b (length new)) new)
   unfolding judgeRoom
-  room-extended room e h b end r ys l w =
+  room-extended room e h b end r ys l t f =
       let k : ℕ = allowed b (length new) in
+      let part : List ℕ = take (length (j .slice) - committed) (drop committed (j .slice)) in
+      let n : r - 0 ≡ min k (length new) = rw (t, l, s) (omega arith) in
+      let first : take (r - 0) new ≡ take k new = ap (λ (m : ℕ). take m new) n ∙ take-least k new in
       let inside : committed ≤ length (j .slice) = omega (arith, room-fits room (committed + size) (min (length (j .slice)) maxLength) e h) in
-      let w′ = lent-wrote (j .slice) committed end k new r ys inside (rw (l, s) (take-least k new)) w in
       settled-none _ j _ committed (committed + r) (take k new)
-      (unless-true (leb (committed + length new) (min (length (j .slice)) maxLength)) roomRefusal (rw s at (sym e ∙ not-false room h))) (w′ .0) (w′ .1)
+      (unless-true (leb (committed + length new) (min (length (j .slice)) maxLength)) roomRefusal (rw s at (sym e ∙ not-false room h)))
+      (written-lent (j .slice) committed (take k new) ys inside (f .bytes ∙ ap (written part 0) first))
+      (rw length-take (omega (arith, n)))
 
 -- ---- the offer's record is the one with the limits worked out
 

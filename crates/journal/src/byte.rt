@@ -1,88 +1,129 @@
-// Byte p of a record, from what the record holds: the field in which it stands, and the byte's place in the field.
+// A byte of a record, from what the record holds: the section in which it stands, the number of that section, and the byte of that number.
+// Form and day are read as a first section; of the other four, the count is the first number.
 ghost use mathlib.Core.Path.{_≡_};
-ghost use Prim.Native.Nat.{ℕ, _+_, _*_, _<_};
+ghost use Prim.Native.Nat.{ℕ, suc, _<_};
+ghost use mathlib.Core.List.{[], _∷_};
 ghost use lib.ListN.{length, getD};
 ghost use Rattle.journal_spec.specs.Bytes.{bytesOf};
-ghost use Rattle.journal_spec.specs.Section.{sectionBytes};
-ghost use Rattle.journal.specs.Offering.{bytesFrom};
+ghost use Rattle.journal_spec.specs.Record.{theForm};
+ghost use Rattle.journal.specs.Layout.{numbersOf, widthAt};
 use crate::record::FORM;
 
-// Byte p of the record.
-pub(crate) fn byte_at(
-    p: usize,
+// A record's sections in byte order, form and day before them.
+pub(crate) enum Section {
+    Head,
+    Name,
+    Chances,
+    Times,
+    Limits,
+}
+
+// How many numbers a section has.
+pub(crate) fn numbers_in(
+    section: Section,
+    name: &[u8],
+    chances: &[u32],
+    times: &[u32],
+    limits: &[u64],
+) -> usize
+    ensures { λ r. ⌜ ((day : ℕ) → r
+        ≡ length (numbersOf section day (now (name .entry)) (now (chances .entry)) (now (times .entry)) (now (limits .entry)))) ⌝ }
+{
+    match section {
+        Section::Head => 2,
+        Section::Name => 1 + name.len(),
+        Section::Chances => 1 + chances.len(),
+        Section::Times => 1 + times.len(),
+        Section::Limits => 1 + limits.len(),
+    }
+}
+
+// The bytes of number i of a section.
+pub(crate) fn width_of(section: Section, i: usize) -> usize
+    ensures { λ r. ⌜ r ≡ widthAt section i ⌝ }
+{
+    if i == 0 {
+        return 2;
+    }
+    match section {
+        Section::Head => 2,
+        Section::Name => 1,
+        Section::Chances => 4,
+        Section::Times => 4,
+        Section::Limits => 8,
+    }
+}
+
+// Number i of a section: of form and day, or of a count and the numbers that it counts.
+pub(crate) fn number_of(
+    section: Section,
+    i: usize,
     day: u16,
     name: &[u8],
     chances: &[u32],
     times: &[u32],
     limits: &[u64],
-) -> u8
-    requires { ⌜ p < length (bytesFrom day (now name) (now chances) (now times) (now limits)) ⌝ }
-    ensures { λ r. ⌜ r ≡ getD (bytesFrom day (now (name .entry)) (now (chances .entry)) (now (times .entry)) (now (limits .entry))) p 0 ⌝ }
+) -> u64
+    requires { ⌜ i < length (numbersOf section day (now name) (now chances) (now times) (now limits)) ⌝ }
+    ensures { λ r. ⌜ r ≡ getD (numbersOf section day (now (name .entry)) (now (chances .entry)) (now (times .entry)) (now (limits .entry))) i 0 ⌝ }
 {
-    if p < 2 {
-        return number_byte(FORM, p);
+    match section {
+        Section::Head => of_head(day, i),
+        Section::Name => of_bytes(name, i),
+        Section::Chances => of_numbers(chances, i),
+        Section::Times => of_numbers(times, i),
+        Section::Limits => of_bits(limits, i),
     }
-    let of_day = p - 2;
-    if of_day < 2 {
-        return number_byte(day as u64, of_day);
-    }
-    let of_name = of_day - 2;
-    let name_size = 2 + name.len();
-    if of_name < name_size {
-        return name_byte(name, of_name);
-    }
-    let of_chances = of_name - name_size;
-    let chances_size = 2 + chances.len() * 4;
-    if of_chances < chances_size {
-        return numbers_byte(chances, of_chances);
-    }
-    let of_times = of_chances - chances_size;
-    let times_size = 2 + times.len() * 4;
-    if of_times < times_size {
-        return numbers_byte(times, of_times);
-    }
-    limits_byte(limits, of_times - times_size)
 }
 
-// Byte i of the name's section.
-fn name_byte(name: &[u8], i: usize) -> u8
-    requires { ⌜ i < 2 + length (now name) * 1 ⌝ }
-    ensures { λ r. ⌜ r ≡ getD (sectionBytes 1 (now (name .entry))) i 0 ⌝ }
+// The form, or the day.
+fn of_head(day: u16, i: usize) -> u64
+    requires { ⌜ i < 2 ⌝ }
+    ensures { λ r. ⌜ r ≡ getD (theForm ∷ day ∷ []) i 0 ⌝ }
 {
-    if i < 2 {
-        return number_byte(name.len() as u64, i);
+    if i == 0 {
+        return FORM;
     }
-    number_byte(name[i - 2] as u64, 0)
+    day as u64
 }
 
-// Byte i of the section of the chances or of the times.
-fn numbers_byte(numbers: &[u32], i: usize) -> u8
-    requires { ⌜ i < 2 + length (now numbers) * 4 ⌝ }
-    ensures { λ r. ⌜ r ≡ getD (sectionBytes 4 (now (numbers .entry))) i 0 ⌝ }
+// The count of the name's bytes, or one of them.
+fn of_bytes(bytes: &[u8], i: usize) -> u64
+    requires { ⌜ i < suc (length (now bytes)) ⌝ }
+    ensures { λ r. ⌜ r ≡ getD (length (now (bytes .entry)) ∷ now (bytes .entry)) i 0 ⌝ }
 {
-    if i < 2 {
-        return number_byte(numbers.len() as u64, i);
+    if i == 0 {
+        return bytes.len() as u64;
     }
-    let j = i - 2;
-    number_byte(numbers[j / 4] as u64, j % 4)
+    bytes[i - 1] as u64
 }
 
-// Byte i of the limits' section.
-fn limits_byte(limits: &[u64], i: usize) -> u8
-    requires { ⌜ i < 2 + length (now limits) * 8 ⌝ }
-    ensures { λ r. ⌜ r ≡ getD (sectionBytes 8 (now (limits .entry))) i 0 ⌝ }
+// The count of the chances or of the times, or one of them.
+fn of_numbers(numbers: &[u32], i: usize) -> u64
+    requires { ⌜ i < suc (length (now numbers)) ⌝ }
+    ensures { λ r. ⌜ r ≡ getD (length (now (numbers .entry)) ∷ now (numbers .entry)) i 0 ⌝ }
 {
-    if i < 2 {
-        return number_byte(limits.len() as u64, i);
+    if i == 0 {
+        return numbers.len() as u64;
     }
-    let j = i - 2;
-    number_byte(limits[j / 8], j % 8)
+    numbers[i - 1] as u64
 }
 
-// Byte i of a number of as many bytes or more, the lowest first.
-fn number_byte(x: u64, i: usize) -> u8
-    requires { ⌜ i < 8 ⌝ }
-    ensures { λ r. ⌜ ((w : ℕ) → i < w → r ≡ getD (bytesOf w x) i 0) ⌝ }
+// The count of the limits, or the bits of one.
+fn of_bits(limits: &[u64], i: usize) -> u64
+    requires { ⌜ i < suc (length (now limits)) ⌝ }
+    ensures { λ r. ⌜ r ≡ getD (length (now (limits .entry)) ∷ now (limits .entry)) i 0 ⌝ }
 {
-    ((x >> (8 * i)) % 256) as u8
+    if i == 0 {
+        return limits.len() as u64;
+    }
+    limits[i - 1]
+}
+
+// Byte j of a number of more than j bytes, the lowest first.
+pub(crate) fn byte_of(x: u64, j: usize) -> u8
+    requires { ⌜ j < 8 ⌝ }
+    ensures { λ r. ⌜ ((w : ℕ) → j < w → r ≡ getD (bytesOf w x) j 0) ⌝ }
+{
+    ((x >> (8 * j)) % 256) as u8
 }

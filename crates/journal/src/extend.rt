@@ -11,7 +11,7 @@ ghost use Rattle.journal_spec.specs.Scan.{maxLength, Placed, recordsOf, standin
 ghost use Rattle.journal_spec.specs.Request.{allowed};
 ghost use Rattle.journal_spec.specs.Append.{judgeRoom, settle, appendTo, appendOf};
 ghost use Rattle.journal.specs.Records.{asLast};
-ghost use Rattle.journal.specs.Offering.{offerFrom, asBudget, bytesFrom};
+ghost use Rattle.journal.specs.Handed.{offerFrom, asBudget, bytesFrom};
 ghost use Rattle.journal.specs.Answers.{outcomeOf};
 use crate::Appended;
 use crate::contents::Contents;
@@ -19,7 +19,6 @@ use crate::contents::MAX_LENGTH;
 use crate::contents::contents_of;
 use crate::offer::offer_refusal;
 use crate::record::Head;
-use crate::write::least;
 use crate::write::put_record;
 
 // Document 01's number for a record that ends beyond the slice or the longest journal.
@@ -151,4 +150,11 @@ fn end_of(budget: Budget, size: usize) -> usize
         Budget::All => size,
         Budget::UpTo(k) => least(k, size),
     }
+}
+
+// The smaller of two numbers.
+fn least(a: usize, b: usize) -> usize
+    ensures { λ r. ⌜ r ≡ min a b ⌝ }
+{
+    if a < b { a } else { b }
 }

@@ -1,12 +1,16 @@
 // Writes a record's bytes, front to back, into the part of the slice that is lent, as far as the budget's end.
 // Each byte is written by `step`, which works it out from the record at its place; nothing else here writes.
 ghost use mathlib.Core.Path.{_≡_};
-ghost use Prim.Native.Nat.{_≤_, _<_, min};
+ghost use Prim.Native.Nat.{suc, _≤_, _<_, min};
 ghost use lib.ListN.{length};
-ghost use Rattle.journal_spec.specs.Wrote.{Wrote};
-ghost use Rattle.journal.specs.Stepped.{Stepped, SectionPut};
-ghost use Rattle.journal.specs.Offering.{bytesFrom};
-use crate::byte::byte_at;
+ghost use Rattle.journal.specs.Stepped.{Stepped, Filled};
+ghost use Rattle.journal.specs.Layout.{numbersOf, startOf, numberPlace, InNumber};
+ghost use Rattle.journal.specs.Handed.{bytesFrom};
+use crate::byte::Section;
+use crate::byte::byte_of;
+use crate::byte::number_of;
+use crate::byte::numbers_in;
+use crate::byte::width_of;
 
 // The record, from the part's first byte on, `end` bytes of it. Answers the place after the last.
 pub(crate) fn put_record(
@@ -19,41 +23,48 @@ pub(crate) fn put_record(
     limits: &[u64],
 ) -> usize
     requires { ⌜ (end ≤ length (now part)) × (end ≤ length (bytesFrom day (now name) (now chances) (now times) (now limits))) ⌝ }
-    ensures { λ r. ⌜ Wrote (now (part .entry)) 0 end
-        (bytesFrom day (now (name .entry)) (now (chances .entry)) (now (times .entry)) (now (limits .entry))) r (now (part .exit)) ⌝ }
+    ensures { λ r. ⌜ Filled (bytesFrom day (now (name .entry)) (now (chances .entry)) (now (times .entry)) (now (limits .entry)))
+        (now (part .entry)) 0 r (now (part .exit)) ⌝ }
+    ensures { λ r. ⌜ r ≡ end ⌝ }
 {
-    let name_size = 2 + name.len();
-    let chances_size = 2 + 4 * chances.len();
-    let times_size = 2 + 4 * times.len();
-    let limits_size = 2 + 8 * limits.len();
-    let name_at = put_section(part, 0, 4, end, day, name, chances, times, limits);
-    let chances_at = put_section(
+    let mut p = put_section(
         part,
-        name_at,
-        name_size,
+        0,
         end,
+        Section::Head,
         day,
         name,
         chances,
         times,
         limits,
     );
-    let times_at = put_section(
+    p = put_section(
         part,
-        chances_at,
-        chances_size,
+        p,
         end,
+        Section::Name,
         day,
         name,
         chances,
         times,
         limits,
     );
-    let limits_at = put_section(
+    p = put_section(
         part,
-        times_at,
-        times_size,
+        p,
         end,
+        Section::Chances,
+        day,
+        name,
+        chances,
+        times,
+        limits,
+    );
+    p = put_section(
+        part,
+        p,
+        end,
+        Section::Times,
         day,
         name,
         chances,
@@ -62,9 +73,9 @@ pub(crate) fn put_record(
     );
     put_section(
         part,
-        limits_at,
-        limits_size,
+        p,
         end,
+        Section::Limits,
         day,
         name,
         chances,
@@ -73,51 +84,82 @@ pub(crate) fn put_record(
     )
 }
 
-// A section of the record, or form and day, of that size, from its first byte's place on. Answers the place after the last byte written.
+// A section of the record from its place on. Answers the place after the last byte written.
 fn put_section(
     part: &mut [u8],
     at: usize,
-    size: usize,
     end: usize,
+    section: Section,
     day: u16,
     name: &[u8],
     chances: &[u32],
     times: &[u32],
     limits: &[u64],
 ) -> usize
-    requires { ⌜ (at ≤ end) × (end ≤ length (now part)) × (end ≤ length (bytesFrom day (now name) (now chances) (now times) (now limits))) ⌝ }
-    ensures { λ r. ⌜ SectionPut (bytesFrom day (now (name .entry)) (now (chances .entry)) (now (times .entry)) (now (limits .entry)))
-        (now (part .entry)) at size end r (now (part .exit)) ⌝ }
+    requires { ⌜ (end ≤ length (now part)) × (end ≤ length (bytesFrom day (now name) (now chances) (now times) (now limits)))
+        × (at ≡ min end (startOf section (now name) (now chances) (now times))) ⌝ }
+    ensures { λ r. ⌜ Filled (bytesFrom day (now (name .entry)) (now (chances .entry)) (now (times .entry)) (now (limits .entry)))
+        (now (part .entry)) at r (now (part .exit)) ⌝ }
+    ensures { λ r. ⌜ r ≡ min end (numberPlace section
+        (length (numbersOf section day (now (name .entry)) (now (chances .entry)) (now (times .entry)) (now (limits .entry))))
+        (now (name .entry)) (now (chances .entry)) (now (times .entry))) ⌝ }
 {
-    let stop = at + least(end - at, size);
+    let n = numbers_in(section, name, chances, times, limits);
     let mut p = at;
-    while p < stop {
-        p = step(part, p, day, name, chances, times, limits);
+    let mut i: usize = 0;
+    while i < n {
+        p = put_number(part, p, end, section, i, day, name, chances, times, limits);
+        i += 1;
     }
     p
 }
 
-// At the place p, byte p of the record and no other. Answers the place after it.
-fn step(
+// Number i of a section from its place on. Answers the place after the last byte written.
+fn put_number(
     part: &mut [u8],
-    p: usize,
+    at: usize,
+    end: usize,
+    section: Section,
+    i: usize,
     day: u16,
     name: &[u8],
     chances: &[u32],
     times: &[u32],
     limits: &[u64],
 ) -> usize
-    requires { ⌜ (p < length (now part)) × (p < length (bytesFrom day (now name) (now chances) (now times) (now limits))) ⌝ }
+    requires { ⌜ (end ≤ length (now part)) × (end ≤ length (bytesFrom day (now name) (now chances) (now times) (now limits)))
+        × (i < length (numbersOf section day (now name) (now chances) (now times) (now limits)))
+        × (at ≡ min end (numberPlace section i (now name) (now chances) (now times))) ⌝ }
+    ensures { λ r. ⌜ Filled (bytesFrom day (now (name .entry)) (now (chances .entry)) (now (times .entry)) (now (limits .entry)))
+        (now (part .entry)) at r (now (part .exit)) ⌝ }
+    ensures { λ r. ⌜ r ≡ min end (numberPlace section (suc i) (now (name .entry)) (now (chances .entry)) (now (times .entry))) ⌝ }
+{
+    let w = width_of(section, i);
+    let mut p = at;
+    while p - at < w && p < end {
+        p = step(part, p, at, section, i, day, name, chances, times, limits);
+    }
+    p
+}
+
+// At the place p, which is in number i of a section: byte p of the record and no other. Answers the place after it.
+fn step(
+    part: &mut [u8],
+    p: usize,
+    first: usize,
+    section: Section,
+    i: usize,
+    day: u16,
+    name: &[u8],
+    chances: &[u32],
+    times: &[u32],
+    limits: &[u64],
+) -> usize
+    requires { ⌜ (p < length (now part)) × InNumber section i first p day (now name) (now chances) (now times) (now limits) ⌝ }
     ensures { λ r. ⌜ Stepped (bytesFrom day (now (name .entry)) (now (chances .entry)) (now (times .entry)) (now (limits .entry)))
         (now (part .entry)) p r (now (part .exit)) ⌝ }
 {
-    part[p] = byte_at(p, day, name, chances, times, limits);
+    let x = number_of(section, i, day, name, chances, times, limits);
+    part[p] = byte_of(x, p - first);
     p + 1
-}
-
-// The smaller of two numbers.
-pub(crate) fn least(a: usize, b: usize) -> usize
-    ensures { λ r. ⌜ r ≡ min a b ⌝ }
-{
-    if a < b { a } else { b }
 }

@@ -20,12 +20,12 @@ use Rattle.journal_spec.specs.Calls.{operations, Call, emptyIn, perform,
 use Rattle.journal_spec.specs.Model.{Model, emptyModel, lengthsOf, committedOf, recordFor, Entry, enterRecord, byNumber, verdictOf, enterBy, enter}
 use Rattle.journal_spec.specs.Model.{limitsGood, modelRefusal, modelAfter, modelAnswers}
 use Rattle.journal_spec.specs.Demand.{modelScan, bytesAt, recordMark, Agrees, Demand3From, Demand3}
+use Rattle.journal_spec.specs.Ranges.{RecordRanges, AllRanges}
 use Rattle.journal_spec.proofs.Reading.{by-order, reads-cut}
 use Rattle.journal_spec.proofs.Limits.{formulaBits}
-use Rattle.journal_spec.proofs.Records.{Good, reads-record}
-use Rattle.journal_spec.proofs.Offers.{same-refusal, same-record, same-length}
-use Rattle.journal_spec.proofs.Ranged.{passed, accepted-exactly, good-record}
-use Rattle.journal_spec.proofs.Scanning.{Follow, Torn, follow-snoc, torn-none, records-snoc, placedFrom, recordsOf-placed, length-placed}
+use Rattle.journal_spec.proofs.SameRefusals.{same-refusal, same-record, same-length}
+use Rattle.journal_spec.proofs.Ranged.{passed, accepted-exactly, good-record, good-exactly, reads-back}
+use Rattle.journal_spec.proofs.Scanning.{Torn, follow-snoc, torn-none, records-snoc, placedFrom, recordsOf-placed, length-placed}
 use Rattle.journal_spec.proofs.Scanning.{contents-of}
 use Rattle.journal_spec.proofs.Placing.{written-length, written-take, written-drop, lengths-are, part-bytes, no-bytes, mark-placed, no-mark}
 
@@ -37,7 +37,7 @@ pub record Holds (room : ℕ) (j : Journal) (m : Model) : Type 0 where
   pub fits : j .len ≤ room
   pub most : j .len ≤ maxLength
   pub bytes : take (j .len) (j .slice) ≡ recordsBytes (m .records) ++ m .tail
-  pub follow : Follow [] (m .records)
+  pub follow : AllRanges [] (m .records)
   pub torn : Torn (m .records) (m .tail)
 
 module _ (room : ℕ) (j : Journal) (m : Model) (h : Holds room j m) where
@@ -98,7 +98,7 @@ module _ (room : ℕ) (j : Journal) (m : Model) (h : Holds room j m) (new : List
       ∙ take-at (recordsBytes (m .records)) (m .tail) (committedOf m) (sym (lengths-are (m .records)))
 
   holds-new : (m′ : Model) → recordsBytes (m′ .records) ++ m′ .tail ≡ recordsBytes (m .records) ++ new
-      → Follow [] (m′ .records) → Torn (m′ .records) (m′ .tail)
+      → AllRanges [] (m′ .records) → Torn (m′ .records) (m′ .tail)
       → Holds room (record { slice = written (j .slice) (committedOf m) new; len = committedOf m + length new }) m′
   unfolding committedOf
   holds-new m′ e f t = record {
@@ -136,12 +136,13 @@ module _ (room : ℕ) (j : Journal) (m : Model) (h : Holds room j m) (o : Offer)
 
   module _ (e : modelRefusal room m o ≡ 0) where
     -- the offer is the model's record, which nothing refuses, and there is room for it
-    good : Good (lastOf (m .records)) (recordFor o)
+    good : RecordRanges (lastOf (m .records)) (recordFor o)
     unfolding recordFor formulaBits limitsGood
     good =
         let p = passed room m o e in
         let a = accepted-exactly room m o .0 e in
-        good-record (lastOf (m .records)) (recordFor o) refl (a .day) fits (p .name) (p .chances) (p .times) (p .limits) refl
+        good-exactly (lastOf (m .records)) (recordFor o) .0
+        (good-record (lastOf (m .records)) (recordFor o) refl (a .day) fits (p .name) (p .chances) (p .times) (p .limits) refl)
 
     same : recordBytes (offered o) ≡ bytes
     same = let p = passed room m o e in ap recordBytes (same-record o (p .chances) (p .times) (p .limits))
@@ -152,7 +153,7 @@ module _ (room : ℕ) (j : Journal) (m : Model) (h : Holds room j m) (o : Offer)
     -- the outcome where `new` is what is written, and the model's entry
     step-written : (new : List ℕ) (m′ : Model) → take k bytes ≡ new → length new ≤ length bytes
         → enterRecord m (recordFor o) k ≡ record { answer = extended (committedOf m + length new); model = m′ }
-        → recordsBytes (m′ .records) ++ m′ .tail ≡ recordsBytes (m .records) ++ new → Follow [] (m′ .records) → Torn (m′ .records) (m′ .tail)
+        → recordsBytes (m′ .records) ++ m′ .tail ≡ recordsBytes (m .records) ++ new → AllRanges [] (m′ .records) → Torn (m′ .records) (m′ .tail)
         → Settled
     unfolding byNumber enterBy settle extend
     step-written new m′ t less entry b f torn =
@@ -179,7 +180,7 @@ module _ (room : ℕ) (j : Journal) (m : Model) (h : Holds room j m) (o : Offer)
         step-written (take k bytes) m′ refl (omega (arith, n)) (rw (lt-leb (length bytes) k less, n) refl) refl (h .follow)
         (record {
           runsOut = λ at. reads-cut (recordReader (lastOf (m .records))) bytes (recordFor o)
-              (reads-record (lastOf (m .records)) (recordFor o) good) at k less;
+              (reads-back (lastOf (m .records)) (recordFor o) good) at k less;
         })
 
   settled : Settled
@@ -248,7 +249,7 @@ demand3-from room j m h cs =
 
 -- records end to end, each of which keeps the ranges, hold what the model of those records says
 pub holds-records : (slice : List ℕ) (len : ℕ) (rs : List Record) → len ≤ length slice → len ≤ maxLength
-    → take len slice ≡ recordsBytes rs → Follow [] rs → Holds (length slice) (record { slice = slice; len = len }) (record { records = rs; tail = [] })
+    → take len slice ≡ recordsBytes rs → AllRanges [] rs → Holds (length slice) (record { slice = slice; len = len }) (record { records = rs; tail = [] })
 unfolding committedOf
 holds-records slice len rs fits most bytes f = record {
   slice = refl;

@@ -18,7 +18,7 @@ use Rattle.limit.proofs.InRange as R
 use Rattle.journal_spec.specs.Refusals.{dayRefusal, nameRefusal, limitRefusal, unless, firstOf}
 use Rattle.journal_spec.specs.Section.{sectionRefusal}
 use Rattle.journal_spec.specs.Record.{Record, Last, IsDay, lastOf, theForm, judgeForm, judgeDay, limitSection, minName, maxName, minByte}
-use Rattle.journal_spec.specs.Record.{maxByte, minChances, maxChances, recordBytes}
+use Rattle.journal_spec.specs.Record.{maxByte, minChances, maxChances, recordReader, recordBytes}
 use Rattle.journal_spec.specs.Scan.{maxLength}
 use Rattle.journal_spec.specs.Request.{Offer}
 use Rattle.journal_spec.specs.Model.{Model, committedOf, workedOut, recordFor, each, rising, dayFalls, nameGood, chancesGood, timesGood}
@@ -27,8 +27,9 @@ use Rattle.journal_spec.specs.Ranges.{NameRanges, ChanceRanges, TimeRang
 use Rattle.journal_spec.proofs.Judging.{unless-none, unless-not, unless-true, first-none, none-at, none-first}
 use Rattle.journal_spec.proofs.Each.{each-holds, holds-each, each-range, range-each, rising-holds, holds-rising}
 use Rattle.journal_spec.proofs.Limits.{formulaBits, allFinite, times-good, limits-good, limits-exact}
-use Rattle.journal_spec.proofs.Records.{Good, limit-count, form-one}
-use Rattle.journal_spec.proofs.Offers.{name-refused, chance-refused, time-refused, chances-each}
+use Rattle.journal_spec.proofs.Reading.{Reads}
+use Rattle.journal_spec.proofs.Records.{Good, limit-count, form-one, record-length, reads-record}
+use Rattle.journal_spec.proofs.SameRefusals.{name-refused, chance-refused, time-refused, chances-each}
 
 -- ---- the sections
 
@@ -227,3 +228,11 @@ good-exactly last r = (
       (time-ranged (r .times) .1 (k .times)) (finite-ranged (r .times) (r .chances) .1 (k .finite))
       (formula-list (r .times) (r .chances) (r .limits) (k .limitCount) (k .limits)),
 )
+
+-- such a record is read back from its bytes, 33 to 652 of them
+module _ (last : Last) (r : Record) (keeps : RecordRanges last r) where
+  pub reads-back : Reads (recordReader last) (recordBytes r) r
+  reads-back = reads-record last r (good-exactly last r .1 keeps)
+
+  pub encoding-length : (33 ≤ length (recordBytes r)) × (length (recordBytes r) ≤ 652)
+  encoding-length = record-length last r (good-exactly last r .1 keeps)

@@ -1,14 +1,15 @@
 -- Any refusal writes no byte: a call that is declined, or that finds the journal damaged, leaves every byte of the slice and the length.
--- For every slice and length, whether or not a list of calls leads there. Assumes nothing.
-use mathlib.Core.Path.{_≡_, refl, sym}
+-- And reading refuses as scan does. For every slice and length, whether or not a list of calls leads there. Assumes nothing.
+use mathlib.Core.Path.{_≡_, refl, sym, ap}
 use Prim.Native.Nat.{ℕ, zero, suc}
-use mathlib.Core.List.{List}
+use mathlib.Core.List.{List, []}
 use mathlib.Core.Bool.{Bool, true, false, cond}
 use lib.Dec.{eqb}
 use native.Mathlib.Omega.{arith}
 use lib.ListN.{length}
 use Rattle.journal_spec.specs.Scan.{Placed, Contents, standing, faulty, contentsOf, statusOf, scanOf}
 use Rattle.journal_spec.specs.Scan as S
+use Rattle.journal_spec.specs.Read.{noPart, partOf, partPlace, partBytes, readPart, unmarked, markIn, readMark}
 use Rattle.journal_spec.specs.Request.{Journal, Budget, Request, Offer, offerOf, AppendResult, extended, declined, damaged}
 use Rattle.journal_spec.specs.Append.{unchanged, extend, settle, appendTo, appendOf}
 
@@ -59,3 +60,16 @@ module _ (j : Journal) (q : Request) where
       go : (x : Contents) → statusOf (j .len) x ≡ S.damaged n p → appendTo x j (offerOf q) (q .budget) .answer ≡ damaged n p
       go (standing ps committed) h = absurd (standing-not-damaged (j .len) ps committed n p h)
       go (faulty m p′) h = fault-said (j .len) m p′ n p j (offerOf q) (q .budget) h
+
+-- reading refuses as scan does: an empty part, and the fault's number
+pub reading-refused : (slice : List ℕ) (len i n p : ℕ) → scanOf slice len ≡ S.damaged n p
+    → (readPart slice len i ≡ []) × (readMark slice len i ≡ unmarked n)
+unfolding scanOf readPart partPlace readMark
+reading-refused slice len i n p h = go (contentsOf slice len) h
+  where
+    number : (m q : ℕ) → statusOf len (faulty m q) ≡ S.damaged n p → markIn (faulty m q) i ≡ unmarked n
+    number m q h = unfold statusOf markIn in let e : m ≡ n = cc in ap unmarked e
+
+    go : (x : Contents) → statusOf len x ≡ S.damaged n p → (partBytes slice (partOf x i) ≡ []) × (markIn x i ≡ unmarked n)
+    go (standing ps committed) h = absurd (standing-not-damaged len ps committed n p h)
+    go (faulty m q) h = (unfold partBytes partOf noPart in refl, number m q h)

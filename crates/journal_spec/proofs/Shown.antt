@@ -17,8 +17,8 @@ use Rattle.journal_spec.specs.Model.{Model, emptyModel, lengthsOf, commi
 use Rattle.journal_spec.specs.Model.{enterRecord, enterBy, enter, modelAfter}
 use Rattle.journal_spec.specs.Shown.{offerBy, budgetOf, recordOf, isTaken, finishes, finished, Given}
 use Rattle.journal_spec.specs.Demand.{bytesAt, recordMark}
-use Rattle.journal_spec.proofs.Records.{Good, reads-record}
-use Rattle.journal_spec.proofs.Scanning.{Follow}
+use Rattle.journal_spec.specs.Ranges.{RecordRanges, AllRanges}
+use Rattle.journal_spec.proofs.Ranged.{reads-back}
 use Rattle.journal_spec.proofs.Demand.{start, after-all, agrees, held-mark, demand3}
 
 pub enter-is : (room : ℕ) (m : Model) (c : Call) → enter room m c ≡ enterBy (verdictOf room m (c .request)) m (recordOf c) (budgetOf c)
@@ -75,7 +75,7 @@ bytes-at [] i h = absurd (omega arith)
 bytes-at (r ∷ rs) zero h = refl
 bytes-at (r ∷ rs) (suc i) h = bytes-at rs i (omega arith)
 
-good-at : (before rs : List Record) (i : ℕ) → Follow before rs → i < length rs → (last : Last) × Good last (getD rs i blank)
+good-at : (before rs : List Record) (i : ℕ) → AllRanges before rs → i < length rs → (last : Last) × RecordRanges last (getD rs i blank)
 good-at before [] i f h = absurd (omega arith)
 good-at before (r ∷ rs) zero f h = (lastOf before, f .0)
 good-at before (r ∷ rs) (suc i) f h = good-at (before ++ r ∷ []) rs i (f .1) (omega arith)
@@ -147,12 +147,12 @@ unfolding emptyModel
 shown-record slice cs i h =
     let rs : List Record = finished (length slice) emptyModel cs in
     let f = finished-at (length slice) emptyModel cs i h in
-    let follow : Follow [] rs =
+    let follow : AllRanges [] rs =
     rw (records-are-finished (length slice) emptyModel cs)
     at (after-all (length slice) (emptyIn slice) emptyModel (start slice) cs .holds .follow) in
     let g = good-at [] rs i follow h in
-    let good : Good (g .0) (recordOf (f .call)) = rw (f .is) at (g .1) in
-    let on = reads-record (g .0) (recordOf (f .call)) good .on 0 [] in
+    let good : RecordRanges (g .0) (recordOf (f .call)) = rw (f .is) at (g .1) in
+    let on = reads-back (g .0) (recordOf (f .call)) good .on 0 [] in
     record {
       before = f .before;
       call = f .call;

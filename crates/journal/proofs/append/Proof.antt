@@ -1,7 +1,7 @@
 -- `append` is the core's call with all of the record for its budget.
 -- Assumes nothing.
 use borrow.Author.Needs.{needs}
-use Rattle.journal.specs.Offering.{asBudget}
+use Rattle.journal.specs.Handed.{asBudget}
 use Rattle.journal.proofs.append.Statement.{statement}
 use Rattle.journal.proofs.append.Tie as tie
 

@@ -1,7 +1,7 @@
 -- `append_upto` is the core's call with its budget.
 -- Assumes nothing.
 use borrow.Author.Needs.{needs}
-use Rattle.journal.specs.Offering.{asBudget}
+use Rattle.journal.specs.Handed.{asBudget}
 use Rattle.journal.proofs.append_upto.Statement.{statement}
 use Rattle.journal.proofs.append_upto.Tie as tie
 

@@ -8,7 +8,7 @@ use lib.ListN.{length}
 use denote.Ref.{now}
 use Rattle.journal_spec.specs.Scan.{maxLength}
 use Rattle.journal_spec.specs.Request.{Offer}
-use Rattle.journal.specs.Offering.{offerFrom}
+use Rattle.journal.specs.Handed.{offerFrom}
 use Rattle.append.proofs.WrittenPart.{offered-length, extended-said, extends-record, declined-unwritten, damaged-unwritten}
 use Rattle.append.proofs.WrittenPart.{extends-nothing}
 use Rattle.append.proofs.extend.extend.Statement.{statement}

@@ -2,7 +2,7 @@
 -- Assumes nothing.
 use borrow.Author.Needs.{needs}
 use Rattle.journal_spec.specs.Request.{offerOf}
-use Rattle.journal.specs.Offering.{offerFrom}
+use Rattle.journal.specs.Handed.{offerFrom}
 use Rattle.journal.proofs.Answering.{append-stands, append-damaged}
 use Rattle.journal.proofs.extend.append_with.Statement.{statement}
 use Rattle.journal.proofs.extend.append_with.Tie as tie

@@ -3,7 +3,7 @@
 use native.Mathlib.Omega.{arith}
 use borrow.Author.Needs.{needs}
 use Rattle.journal_spec.specs.Request.{allowed}
-use Rattle.journal.specs.Offering.{asBudget}
+use Rattle.journal.specs.Handed.{asBudget}
 use Rattle.journal.proofs.extend.end_of.Statement.{statement}
 use Rattle.journal.proofs.extend.end_of.Tie as tie
 

@@ -6,8 +6,8 @@ use borrow.Author.Needs.{needs}
 use lib.ListN.{length-take}
 use denote.Ref.{now}
 use Rattle.journal.specs.Records.{asLast}
-use Rattle.journal.specs.Offering.{offerFrom}
-use Rattle.journal.proofs.Offered.{Few, offer-few}
+use Rattle.journal.specs.Handed.{offerFrom}
+use Rattle.journal.proofs.RefusalOrder.{Few, offer-few}
 use Rattle.journal.proofs.Extending.{offer-declined, offered-record, offer-settled}
 use Rattle.journal.proofs.extend.extend_by.Statement.{statement}
 use Rattle.journal.proofs.extend.extend_by.Tie as tie

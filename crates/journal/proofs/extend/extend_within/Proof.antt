@@ -7,8 +7,7 @@ use borrow.Author.Needs.{needs}
 use lib.ListN.{length, length-take, length-drop}
 use denote.Ref.{now}
 use Rattle.journal_spec.specs.Scan.{maxLength}
-use Rattle.journal_spec.proofs.Writing.{wrote-inside}
-use Rattle.journal.specs.Offering.{bytesFrom}
+use Rattle.journal.specs.Handed.{bytesFrom}
 use Rattle.journal.proofs.Extending.{room-fits, room-declined, room-extended}
 use Rattle.journal.proofs.extend.extend_within.Statement.{statement}
 use Rattle.journal.proofs.extend.extend_within.Tie as tie
@@ -45,13 +44,13 @@ put-record-requires c κs =
 add-after : tie.Need-add-after
 add-after c =
     let ready = c .before .before .before .before in
-    omega (arith, fits ready, ready .end-of .ensures, wrote-inside _ 0 _ _ _ _ (omega arith) (c .before .before .put-record .ensures))
+    omega (arith, fits ready, ready .end-of .ensures, c .before .before .put-record .ensures .1)
 
 returns-2 : tie.Need-returns-2
 returns-2 c len =
     let ready = c .before .before .before .before in
     room-extended _ _ _ _ (sized (ready .before .before .before)) _ (ready .before .before .has-room .ensures) (ready .before .if1 .left)
-    _ _ _ _ (ready .end-of .ensures) (c .before .before .put-record .ensures)
+    _ _ _ _ (ready .end-of .ensures) (c .before .before .put-record .ensures .1) (c .before .before .put-record .ensures .0)
 
 pub extend-within-spec : {M : Type 1} → statement M
 extend-within-spec =

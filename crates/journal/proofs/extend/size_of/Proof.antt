@@ -3,7 +3,7 @@
 use mathlib.Core.Path.{sym}
 use borrow.Author.Needs.{needs}
 use Rattle.journal_spec.proofs.Records.{length-record}
-use Rattle.journal.specs.Offering.{recordFrom}
+use Rattle.journal.specs.Handed.{recordFrom}
 use Rattle.journal.proofs.extend.size_of.Statement.{statement}
 use Rattle.journal.proofs.extend.size_of.Tie as tie
 

@@ -20,9 +20,9 @@ use Rattle.journal_spec.specs.Section.{sectionRefusal}
 use Rattle.journal_spec.specs.Record.{Last, judgeDay, nameSection, chanceSection, timeSection, minName, maxName, minChances, maxChances}
 use Rattle.journal_spec.specs.Request.{Offer}
 use Rattle.journal_spec.proofs.Judging.{unless-true, unless-false, first-none, outside-none}
-use Rattle.journal_spec.proofs.Offers.{time-refused}
+use Rattle.journal_spec.proofs.SameRefusals.{time-refused}
 use Rattle.journal_spec.proofs.Limits.{times-good}
-use Rattle.journal.specs.Offering.{LimitsChecked, offerRefusals, OfferChecked}
+use Rattle.journal.specs.Handed.{LimitsChecked, offerRefusals, OfferChecked}
 use Rattle.journal.proofs.Checking.{first-this, first-later, first-alone}
 
 -- ---- the counts of sections that are not refused

@@ -9,16 +9,16 @@ use lib.ListN.{length, length-map}
 use lib.Dec.{leb, ltb}
 use borrow.Author.Tests.{le-leb, lt-leb, lt-ltb, le-ltb}
 use Rattle.limit.specs.Times.{minTicks, maxTicks, minCount, maxCount, inRange}
-use Rattle.limit.specs.Answer.{chanceRefusal, timesRefusal, finiteRefusal}
+use Rattle.limit.specs.Answer.{chanceRefusal, timesRefusal}
 use Rattle.limit.specs.Limit.{minChance, maxChance, chanceInRange}
 use Rattle.limit.proofs.InRange as R
-use Rattle.journal_spec.specs.Refusals.{dayRefusal, nameRefusal, roomRefusal, unless, outside, firstOf}
+use Rattle.journal_spec.specs.Refusals.{nameRefusal, unless, outside, firstOf}
 use Rattle.journal_spec.specs.Section.{itemsRefusal, sectionRefusal}
 use Rattle.journal_spec.specs.Record.{lastOf, judgeDay, lastChance, judgeChance, nameSection, chanceSection, timeSection, minName, maxName}
 use Rattle.journal_spec.specs.Record.{minByte, maxByte, minChances, maxChances, recordBytes}
 use Rattle.journal_spec.specs.Scan.{maxLength}
 use Rattle.journal_spec.specs.Request.{Offer}
-use Rattle.journal_spec.specs.Append.{offered, limitsOf, limitsRefusal, judgeRoom, appendRefusal}
+use Rattle.journal_spec.specs.Append.{offered, limitsOf, judgeRoom, appendRefusal}
 use Rattle.journal_spec.specs.Model.{Model, committedOf, recordFor, each, risingFrom, rising, dayFalls, nameGood, chancesGood, timesGood}
 use Rattle.journal_spec.specs.Model.{limitsGood, noRoom, modelRefusals, modelRefusal}
 use Rattle.journal_spec.proofs.Judging.{first-of-two, unless-none}
