@@ -10,9 +10,9 @@ use lib.ListN.{length, take, length-map}
 use lib.Seq.{take-all}
 use Rattle.journal_spec.specs.Record.{Last, lastOf, recordBytes}
 use Rattle.journal_spec.specs.Scan.{maxLength, recordsOf, Contents, standing, faulty, contentsOf, ScanResult, statusOf, scanOf}
-use Rattle.journal_spec.specs.Append.{Offer, limitsOf, offered, AppendResult, extended, declined, damaged, Outcome, judgeRoom, appendRefusal}
-use Rattle.journal_spec.specs.Append.{written, unchanged, extend, settle, appendTo, appendUpto, appendOf}
-use Rattle.journal_spec.proofs.Judging.{first-none, unless-none}
+use Rattle.journal_spec.specs.Request.{Journal, all, Offer, offerOf, allowed, AppendResult, extended, declined, damaged, Outcome}
+use Rattle.journal_spec.specs.Append.{limitsOf, offered, judgeRoom, appendRefusal, written, unchanged, extend, settle, appendTo, appendOf}
+use Rattle.journal_spec.proofs.Judging.{none-at, unless-none}
 use Rattle.journal_spec.proofs.Records.{length-record}
 use Rattle.journal_spec.proofs.Writing.{written-nil}
 use Rattle.journal_spec.proofs.Placing.{written-part}
@@ -20,7 +20,7 @@ use Rattle.journal.specs.Answers.{appendMeaning, outcomeOf}
 use Rattle.journal.specs.declared.Fault.{Fault}
 use Rattle.journal.specs.declared.Appended.{Appended}
 use Rattle.journal.specs.declared.Appended.the-variants as A
-use Rattle.append.specs.Extension.{committedIn, startIn, endIn, partIn, Extends}
+use Rattle.append.specs.Extension.{committedIn, startIn, endIn, partIn, appendAll, Extends}
 use Rattle.append.proofs.Committed.{committed-inside, committed-found}
 
 -- ---- an append that extends the journal
@@ -43,8 +43,7 @@ room-found : (room : ℕ) (last : Last) (c : ℕ) (o : Offer) → appendRefusal 
     → c + length (recordBytes (offered o)) ≤ min room maxLength
 unfolding appendRefusal judgeRoom
 room-found room last c o h =
-    let second = first-none _ _ (first-none _ _ h .1) .0 in
-    leb-true _ _ (unless-none (leb (c + length (recordBytes (offered o))) (min room maxLength)) 8 second)
+    leb-true _ _ (unless-none (leb (c + length (recordBytes (offered o))) (min room maxLength)) 8 (none-at _ h 5))
 
 -- an offer that is taken was not refused
 record Taken (refusal : ℕ) (slice : List ℕ) (c : ℕ) (new : List ℕ) (n : ℕ) (after : List ℕ) : Type 0 where
@@ -52,25 +51,25 @@ record Taken (refusal : ℕ) (slice : List ℕ) (c : ℕ) (new : List ℕ) (n : 
   place : n ≡ c + length new
   bytes : after ≡ written slice c new
 
-taken : (refusal : ℕ) (slice : List ℕ) (len c : ℕ) (new : List ℕ) (n : ℕ) → settle refusal slice len c new .answer ≡ extended n
-    → Taken refusal slice c new n (settle refusal slice len c new .slice)
+taken : (refusal : ℕ) (j : Journal) (c : ℕ) (new : List ℕ) (n : ℕ) → settle refusal j c new .answer ≡ extended n
+    → Taken refusal (j .slice) c new n (settle refusal j c new .journal .slice)
 unfolding settle extend unchanged
-taken zero slice len c new n e = record { none = refl; place = cc; bytes = refl }
-taken (suc refusal) slice len c new n e = let z : _≡_ {A = ℕ} 0 1 = cc in absurd (omega arith)
+taken zero j c new n e = record { none = refl; place = cc; bytes = refl }
+taken (suc refusal) j c new n e = let z : _≡_ {A = ℕ} 0 1 = cc in absurd (omega arith)
 
-pub append-extended : (slice : List ℕ) (len : ℕ) (o : Offer) (n : ℕ) → appendOf slice len o .answer ≡ extended n
-    → Extended slice len o n (appendOf slice len o .slice)
-unfolding appendOf appendUpto appendTo unchanged scanOf
+pub append-extended : (slice : List ℕ) (len : ℕ) (o : Offer) (n : ℕ) → appendAll slice len o .answer ≡ extended n
+    → Extended slice len o n (appendAll slice len o .journal .slice)
+unfolding appendOf offerOf appendTo allowed unchanged scanOf
 append-extended slice len o n = go (contentsOf slice len) refl
   where
     bytes : List ℕ
     bytes = recordBytes (offered o)
 
-    go : (x : Contents) → contentsOf slice len ≡ x → appendTo x slice len o (length bytes) .answer ≡ extended n
-        → Extended slice len o n (appendTo x slice len o (length bytes) .slice)
+    go : (x : Contents) → contentsOf slice len ≡ x → appendTo x (record { slice = slice; len = len }) o all .answer ≡ extended n
+        → Extended slice len o n (appendTo x (record { slice = slice; len = len }) o all .journal .slice)
     go (faulty m p) h e = let z : _≡_ {A = ℕ} 0 1 = cc in absurd (omega arith)
     go (standing ps c) h e =
-        let t = taken (appendRefusal (length slice) (lastOf (recordsOf ps)) c o) slice len c (take (length bytes) bytes) n e in
+        let t = taken (appendRefusal (length slice) (lastOf (recordsOf ps)) c o) (record { slice = slice; len = len }) c (take (length bytes) bytes) n e in
         let all : take (length bytes) bytes ≡ bytes = take-all (length bytes) bytes (omega arith) in
         let found : committedIn (statusOf len (contentsOf slice len)) ≡ c = rw h (committed-found len ps c) in
         let ends : n ≡ c + length bytes = t .place ∙ rw all refl in
@@ -87,20 +86,20 @@ append-extended slice len o n = go (contentsOf slice len) refl
 abbrev pub Unwritten : AppendResult → Type 0
 Unwritten a = (n : ℕ) → a ≡ extended n → ⊥
 
-settled-unwritten : (refusal : ℕ) (slice : List ℕ) (len c : ℕ) (new : List ℕ) → Unwritten (settle refusal slice len c new .answer)
-    → settle refusal slice len c new .slice ≡ slice
+settled-unwritten : (refusal : ℕ) (j : Journal) (c : ℕ) (new : List ℕ) → Unwritten (settle refusal j c new .answer)
+    → settle refusal j c new .journal .slice ≡ j .slice
 unfolding settle extend unchanged
-settled-unwritten zero slice len c new u = absurd (u _ refl)
-settled-unwritten (suc refusal) slice len c new u = refl
+settled-unwritten zero j c new u = absurd (u _ refl)
+settled-unwritten (suc refusal) j c new u = refl
 
-pub append-unwritten : (slice : List ℕ) (len : ℕ) (o : Offer) → Unwritten (appendOf slice len o .answer) → appendOf slice len o .slice ≡ slice
-unfolding appendOf appendUpto appendTo unchanged
+pub append-unwritten : (slice : List ℕ) (len : ℕ) (o : Offer) → Unwritten (appendAll slice len o .answer) → appendAll slice len o .journal .slice ≡ slice
+unfolding appendOf offerOf appendTo unchanged
 append-unwritten slice len o = go (contentsOf slice len)
   where
-    go : (x : Contents) → Unwritten (appendTo x slice len o (length (recordBytes (offered o))) .answer)
-        → appendTo x slice len o (length (recordBytes (offered o))) .slice ≡ slice
+    go : (x : Contents) → Unwritten (appendTo x (record { slice = slice; len = len }) o all .answer)
+        → appendTo x (record { slice = slice; len = len }) o all .journal .slice ≡ slice
     go (faulty n p) u = refl
-    go (standing ps c) u = settled-unwritten _ slice len c _ u
+    go (standing ps c) u = settled-unwritten _ _ c _ u
 
 pub declined-unwritten : (answer : Appended) (n : ℕ) → answer ≡ A.Declined n → Unwritten (appendMeaning answer)
 unfolding appendMeaning
@@ -128,14 +127,14 @@ empty s o (damaged n p) u = record { starts = refl; ends = refl; part = refl }
 abbrev pub Lendable : ℕ → ℕ → List ℕ → Type 0
 Lendable start end after = (start ≤ end) × (end ≤ length after) × (start ≤ maxLength)
 
-module _ (slice : List ℕ) (len : ℕ) (o : Offer) (answer : Appended) (after : List ℕ) (e : outcomeOf len answer after ≡ appendOf slice len o) where
-  said : appendMeaning answer ≡ appendOf slice len o .answer
+module _ (slice : List ℕ) (len : ℕ) (o : Offer) (answer : Appended) (after : List ℕ) (e : outcomeOf len answer after ≡ appendAll slice len o) where
+  said : appendMeaning answer ≡ appendAll slice len o .answer
   unfolding outcomeOf
   said = ap (λ (x : Outcome). x .answer) e
 
-  left : after ≡ appendOf slice len o .slice
+  left : after ≡ appendAll slice len o .journal .slice
   unfolding outcomeOf
-  left = ap (λ (x : Outcome). x .slice) e
+  left = ap (λ (x : Outcome). x .journal .slice) e
 
   pub extended-said : (n : ℕ) → answer ≡ A.Extended n → Extended slice len o n after
   unfolding appendMeaning
@@ -149,7 +148,7 @@ module _ (slice : List ℕ) (len : ℕ) (o : Offer) (answer : Appended) (after :
   unfolding startIn endIn partIn appendMeaning
   extends-record n start h s same =
       let x = extended-said n h in
-      let told : appendOf slice len o .answer ≡ extended n = sym said ∙ rw h refl in
+      let told : appendAll slice len o .answer ≡ extended n = sym said ∙ rw h refl in
       let size = offered-length o in
       let c : start ≡ committedIn (scanOf slice len) = omega (arith, x .place, size, s) in
       let span : n - start ≡ length (recordBytes (offered o)) = omega (arith, x .place, c) in
@@ -167,7 +166,7 @@ module _ (slice : List ℕ) (len : ℕ) (o : Offer) (answer : Appended) (after :
   pub extends-nothing : Unwritten (appendMeaning answer)
       → Extends slice len o (record { start = 0; end = 0; answer = answer }) after × Lendable 0 0 after
   extends-nothing u =
-      let none = empty (scanOf slice len) o (appendOf slice len o .answer) (rw said at u) in (
+      let none = empty (scanOf slice len) o (appendAll slice len o .answer) (rw said at u) in (
         record {
           outcome = e;
           starts = sym (none .starts);

@@ -6,8 +6,9 @@ use mathlib.Core.List.{List, []}
 use lib.ListN.{take, drop}
 use Rattle.journal_spec.specs.Record.{recordBytes}
 use Rattle.journal_spec.specs.Scan.{ScanResult, whole, torn, damaged, scanOf}
-use Rattle.journal_spec.specs.Append.{AppendResult, extended, declined, Offer, offered, written, appendOf}
-use Rattle.journal_spec.specs.Append as Append
+use Rattle.journal_spec.specs.Request.{all, Offer, AppendResult, extended, declined, Outcome}
+use Rattle.journal_spec.specs.Request as Request
+use Rattle.journal_spec.specs.Append.{offered, written, appendOf}
 use Rattle.journal.specs.Answers.{outcomeOf}
 use Rattle.append.specs.declared.extend.Extension.{Extension}
 
@@ -21,25 +22,31 @@ committedIn (damaged n p) = 0
 unfoldable pub startIn : ScanResult → AppendResult → ℕ
 startIn s (extended n) = committedIn s
 startIn s (declined n) = 0
-startIn s (Append.damaged n p) = 0
+startIn s (Request.damaged n p) = 0
 
 -- where it ends: at the new length; at 0 where nothing is written
 unfoldable pub endIn : AppendResult → ℕ
 endIn (extended n) = n
 endIn (declined n) = 0
-endIn (Append.damaged n p) = 0
+endIn (Request.damaged n p) = 0
 
 -- its bytes: the offered record's; none where nothing is written
 unfoldable pub partIn : Offer → AppendResult → List ℕ
 partIn o (extended n) = recordBytes (offered o)
 partIn o (declined n) = []
-partIn o (Append.damaged n p) = []
+partIn o (Request.damaged n p) = []
+
+-- what an append of all of the record comes to
+abbrev pub appendAll : List ℕ → ℕ → Offer → Outcome
+appendAll slice len o =
+    appendOf (record { slice = slice; len = len })
+    (record { day = o .day; name = o .name; chances = o .chances; times = o .times; budget = all })
 
 -- The answer and the slice after it are append's; start and end are those of the written part; the part of the slice after from start to
 -- end is the record's bytes, or none; and the slice after is the slice before with these bytes there and no other byte changed.
 pub record Extends (slice : List ℕ) (len : ℕ) (o : Offer) (r : Extension) (after : List ℕ) : Type 0 where
-  pub outcome : outcomeOf len (r .answer) after ≡ appendOf slice len o
-  pub starts : r .start ≡ startIn (scanOf slice len) (appendOf slice len o .answer)
-  pub ends : r .end ≡ endIn (appendOf slice len o .answer)
-  pub part : take (r .end - r .start) (drop (r .start) after) ≡ partIn o (appendOf slice len o .answer)
-  pub rest : after ≡ written slice (r .start) (partIn o (appendOf slice len o .answer))
+  pub outcome : outcomeOf len (r .answer) after ≡ appendAll slice len o
+  pub starts : r .start ≡ startIn (scanOf slice len) (appendAll slice len o .answer)
+  pub ends : r .end ≡ endIn (appendAll slice len o .answer)
+  pub part : take (r .end - r .start) (drop (r .start) after) ≡ partIn o (appendAll slice len o .answer)
+  pub rest : after ≡ written slice (r .start) (partIn o (appendAll slice len o .answer))

@@ -4,7 +4,7 @@ use Prim.Native.Nat.{ℕ}
 use mathlib.Core.List.{List, [], _∷_}
 use Rattle.hex.specs.Hex.{decimalDigits}
 use Rattle.journal_spec.specs.Scan as Scan
-use Rattle.journal_spec.specs.Append.{AppendResult, extended, declined, damaged}
+use Rattle.journal_spec.specs.Request.{AppendResult, extended, declined, damaged}
 use Rattle.listing.specs.Listing.{lineOf, stateLine}
 
 -- the words `extended` and `declined`

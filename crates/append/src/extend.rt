@@ -3,7 +3,7 @@
 ghost use Prim.Native.Nat.{_≤_};
 ghost use lib.ListN.{length};
 ghost use Rattle.journal_spec.specs.Scan.{maxLength};
-ghost use Rattle.journal.specs.Offering.{offerFrom};
+ghost use Rattle.journal.specs.Handed.{offerFrom};
 ghost use Rattle.append.specs.Extension.{Extends};
 use journal::Appended;
 

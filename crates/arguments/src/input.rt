@@ -2,7 +2,7 @@
 // and is told from a read that fails.
 ghost use mathlib.Core.Path.{_≡_};
 ghost use Prim.Native.Nat.{_+_, _≤_};
-ghost use lib.ListN.{length};
+ghost use lib.ListN.{length, replicate};
 ghost use Rattle.io.specs.Counts.{Counts};
 
 // How many bytes were read, and whether a read failed, of which `os::errno` then tells.
@@ -11,9 +11,10 @@ pub struct Input {
     pub failed: bool,
 }
 
-// Room for the longest journal, or ticks' text, and one byte more, which shows that an input is too long. The `ensures` gives the length,
-// which lending the array needs.
+// Room for the longest journal, or ticks' text, and one byte more, which shows that an input is too long; all zero. The second `ensures` is
+// what lending the array needs.
 pub fn input_room() -> [u8; 65_537]
+    ensures { λ r. ⌜ r ≡ replicate 65_537 0 ⌝ }
     ensures { λ r. ⌜ 65_537 ≡ length r ⌝ }
 {
     [0; 65_537]

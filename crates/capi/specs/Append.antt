@@ -2,7 +2,7 @@
 -- The first says which case it is, the others hold its values, 0 where there is none.
 use Prim.Native.Nat.{ℕ}
 use mathlib.Core.List.{List, [], _∷_}
-use Rattle.journal_spec.specs.Append.{AppendResult, extended, declined, damaged}
+use Rattle.journal_spec.specs.Request.{AppendResult, extended, declined, damaged}
 
 -- 0 and the journal's length after the call; 1 and the number by which it is declined; or 2, the fault's number and place
 unfoldable pub appendWords : AppendResult → List ℕ

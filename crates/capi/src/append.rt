@@ -1,9 +1,9 @@
 // Append and the call with a budget, an append cut after so many bytes, each with its answer in three words.
 // `v` is the slice, `len` the journal's length in it.
 ghost use mathlib.Core.Path.{_≡_};
-ghost use Rattle.journal_spec.specs.Append.{appendOf, appendUpto};
+ghost use Rattle.journal_spec.specs.Request.{all, upTo};
+ghost use Rattle.journal_spec.specs.Append.{appendOf};
 ghost use Rattle.journal.specs.Answers.{appendMeaning};
-ghost use Rattle.journal.specs.Offering.{offerFrom};
 ghost use Rattle.capi.specs.Append.{appendWords};
 use journal::Appended;
 
@@ -18,9 +18,11 @@ pub extern "C" fn journal_append(
     out: &mut [u64; 3],
 )
     ensures { λ r. ⌜ now (v .exit)
-        ≡ appendOf (now (v .entry)) len (offerFrom day (now (name .entry)) (now (chances .entry)) (now (times .entry))) .slice ⌝ }
+        ≡ appendOf (record { slice = now (v .entry); len = len })
+        (record { day = day; name = now (name .entry); chances = now (chances .entry); times = now (times .entry); budget = all }) .journal .slice ⌝ }
     ensures { λ r. ⌜ now (out .exit) ≡ appendWords
-        (appendOf (now (v .entry)) len (offerFrom day (now (name .entry)) (now (chances .entry)) (now (times .entry))) .answer) ⌝ }
+        (appendOf (record { slice = now (v .entry); len = len })
+        (record { day = day; name = now (name .entry); chances = now (chances .entry); times = now (times .entry); budget = all }) .answer) ⌝ }
 {
     let a = journal::append(v, len, day, name, chances, times);
     put_words(a, out);
@@ -38,9 +40,11 @@ pub extern "C" fn journal_append_upto(
     out: &mut [u64; 3],
 )
     ensures { λ r. ⌜ now (v .exit)
-        ≡ appendUpto (now (v .entry)) len (offerFrom day (now (name .entry)) (now (chances .entry)) (now (times .entry))) budget .slice ⌝ }
+        ≡ appendOf (record { slice = now (v .entry); len = len })
+        (record { day = day; name = now (name .entry); chances = now (chances .entry); times = now (times .entry); budget = upTo budget }) .journal .slice ⌝ }
     ensures { λ r. ⌜ now (out .exit) ≡ appendWords
-        (appendUpto (now (v .entry)) len (offerFrom day (now (name .entry)) (now (chances .entry)) (now (times .entry))) budget .answer) ⌝ }
+        (appendOf (record { slice = now (v .entry); len = len })
+        (record { day = day; name = now (name .entry); chances = now (chances .entry); times = now (times .entry); budget = upTo budget }) .answer) ⌝ }
 {
     let a = journal::append_upto(v, len, day, name, chances, times, budget);
     put_words(a, out);

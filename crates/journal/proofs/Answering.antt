@@ -8,11 +8,12 @@ use native.Mathlib.Omega.{arith}
 use lib.ListN.{length, take}
 use lib.Dec.{eqb}
 use Rattle.journal_spec.specs.Refusals.{lengthRefusal, absentRefusal}
-use Rattle.journal_spec.specs.Record.{Last, lastOf, recordBytes}
+use Rattle.journal_spec.specs.Record.{Last, lastOf}
 use Rattle.journal_spec.specs.Scan.{maxLength, Placed, recordsOf, standing, faulty, contentsOf, whole, torn, damaged, statusOf, scanOf}
 use Rattle.journal_spec.specs.Scan as Scan
 use Rattle.journal_spec.specs.Read.{noPart, partAt, partOf, partPlace, marked, unmarked, markFrom, markOf, markAt, markIn, readMark}
-use Rattle.journal_spec.specs.Append.{Offer, offered, appendRefusal, unchanged, settle, appendTo, appendUpto}
+use Rattle.journal_spec.specs.Request.{Request, offerOf, Outcome}
+use Rattle.journal_spec.specs.Append.{unchanged, appendTo, appendOf}
 use Rattle.journal_spec.proofs.Scanning.{contents-long}
 use Rattle.journal_spec.proofs.RecordsLoop.{contents-part, mark-beyond}
 use Rattle.journal.specs.declared.Fault.{Fault}
@@ -117,14 +118,15 @@ module _ (v : List ℕ) (len i : ℕ) (x : Contents) (read : x ≡ contentsRead 
     unfolding readMark markIn
     mark-absent h = sym (mark-beyond (stood .ps) i (omega (arith, stood .count))) ∙ ap (λ k. markIn k i) (sym (stood .is))
 
-    -- what becomes of an offer goes on from what stands
-    pub append-stands : (o : Offer) (k : ℕ)
-        → settle (appendRefusal (length v) (asLast last) committed o) v len committed (take k (recordBytes (offered o))) ≡ appendUpto v len o k
-    unfolding appendUpto appendTo
-    append-stands o k =
-        ap (λ (l : Last). settle (appendRefusal (length v) l committed o) v len committed (take k (recordBytes (offered o))))
-        (ap asLast (stood .ends) ∙ last-kept (lastOf (recordsOf (stood .ps))))
-        ∙ ap (λ j. appendTo j v len o k) (sym (stood .is))
+    -- what becomes of a request goes on from what stands
+    pub append-stands : (q : Request) (out : Outcome)
+        → ((ps : List Placed) → asLast last ≡ lastOf (recordsOf ps)
+        → out ≡ appendTo (standing ps committed) (record { slice = v; len = len }) (offerOf q) (q .budget))
+        → out ≡ appendOf (record { slice = v; len = len }) q
+    unfolding appendOf
+    append-stands q out h =
+        h (stood .ps) (ap asLast (stood .ends) ∙ last-kept (lastOf (recordsOf (stood .ps))))
+        ∙ ap (λ k. appendTo k (record { slice = v; len = len }) (offerOf q) (q .budget)) (sym (stood .is))
 
   module _ (f : Fault) (told : x ≡ C.Damaged f) where
     is : contentsOf v len ≡ faulty (f .number) (f .place)
@@ -142,6 +144,6 @@ module _ (v : List ℕ) (len i : ℕ) (x : Contents) (read : x ≡ contentsRead 
     unfolding readMark markIn
     mark-damaged = rw is
 
-    pub append-damaged : (o : Offer) (k : ℕ) → outcomeOf len (A.Damaged f) v ≡ appendUpto v len o k
-    unfolding appendUpto appendTo outcomeOf appendMeaning lengthAfter unchanged
-    append-damaged o k = rw is
+    pub append-damaged : (q : Request) → outcomeOf len (A.Damaged f) v ≡ appendOf (record { slice = v; len = len }) q
+    unfolding appendOf appendTo outcomeOf appendMeaning lengthAfter unchanged
+    append-damaged q = rw is

@@ -2,7 +2,7 @@
 -- Assumes nothing.
 use mathlib.Core.Path.{_≡_, refl, sym, _∙_}
 use Prim.Native.Nat.{ℕ, zero, suc, _+_, _≤_, _<_}
-use mathlib.Core.List.{List, [], _∷_}
+use mathlib.Core.List.{List, [], _∷_, _++_}
 use native.Mathlib.Omega.{arith}
 use native.Mathlib.Numerals.{add-one}
 use lib.ListN.{length, take, getD}
@@ -10,10 +10,10 @@ use lib.Seq.{take-suc}
 use Rattle.limit.specs.Answer.{chanceRefusal}
 use Rattle.limit.specs.Limit.{maxChance}
 use Rattle.journal_spec.specs.Refusals.{outside, firstOf}
-use Rattle.journal_spec.specs.Section.{Section, sectionRefusal, refusalFrom}
+use Rattle.journal_spec.specs.Section.{Section, sectionRefusal}
 use Rattle.journal_spec.specs.Record.{lastChance, chanceSection}
-use Rattle.journal_spec.proofs.OfferLoop.{refuse-this, refuse-later, refuse-none}
-use Rattle.journal_spec.proofs.Offers.{last-snoc}
+use Rattle.journal_spec.proofs.RefusalFrom.{refusalFrom, refuse-this, refuse-later, refuse-none}
+use Rattle.journal_spec.proofs.SameRefusals.{last-snoc}
 use Rattle.journal.proofs.Ranges.{chance-agrees}
 
 -- ---- the first refusal of a list
@@ -33,6 +33,19 @@ pub first-alone : (n : ℕ) → firstOf (n ∷ []) ≡ n
 unfolding firstOf
 first-alone zero = refl
 first-alone (suc n) = refl
+
+-- rows in front of others: their refusal is the first, and where they refuse nothing the others decide
+pub first-front : (r : ℕ) (ns ms : List ℕ) → 0 < r → r ≡ firstOf ns → r ≡ firstOf (ns ++ ms)
+unfolding firstOf
+first-front r [] ms h e = absurd (omega arith)
+first-front r (zero ∷ ns) ms h e = first-front r ns ms h e
+first-front r (suc n ∷ ns) ms h e = e
+
+pub first-back : (ns ms : List ℕ) → firstOf ns ≡ 0 → firstOf (ns ++ ms) ≡ firstOf ms
+unfolding firstOf
+first-back [] ms e = refl
+first-back (zero ∷ ns) ms e = first-back ns ms e
+first-back (suc n ∷ ns) ms e = absurd (omega arith)
 
 -- ---- a section
 

@@ -1,51 +1,48 @@
 -- What becomes of an offer, as the code finds it: declined, no room, or its first bytes are written after the committed length.
--- And append, whose budget is the longest journal, is the call with all of the record for a budget. Assumes nothing.
+-- Assumes nothing.
 use mathlib.Core.Path.{_≡_, refl, sym, ap, _∙_}
 use Prim.Native.Nat.{ℕ, zero, suc, _+_, _-_, _≤_, _<_, min}
-use mathlib.Core.Bool.{true, false}
-use mathlib.Core.List.{List, [], _++_}
+use mathlib.Core.Bool.{Bool, true, false, not}
+use mathlib.Core.List.{List, [], _∷_, _++_}
 use native.Mathlib.Omega.{arith}
-use lib.ListN.{length, take, drop}
+use lib.ListN.{length, take, drop, length-take}
 use lib.Seq.{take-all}
 use lib.Dec.{leb}
-use borrow.Author.Tests.{leb-true}
-use Rattle.journal_spec.specs.Refusals.{roomRefusal}
+use borrow.Author.Tests.{not-true, not-false, leb-true}
+use Rattle.journal_spec.specs.Refusals.{roomRefusal, firstOf}
 use Rattle.journal_spec.specs.Record.{Record, Last, lastOf, recordBytes}
-use Rattle.journal_spec.specs.Scan.{maxLength, recordsOf, Contents, standing, faulty, contentsOf}
-use Rattle.journal_spec.specs.Append.{Offer, limitsOf, offered, judgeRoom, offerRefusal, appendRefusal, written, unchanged}
-use Rattle.journal_spec.specs.Append.{extend, settle, appendTo, appendUpto, appendOf}
-use Rattle.journal_spec.specs.Wrote.{Wrote}
-use Rattle.journal_spec.proofs.Judging.{unless-none, unless-true, unless-false, first-none}
+use Rattle.journal_spec.specs.Scan.{maxLength, Placed, recordsOf, standing}
+use Rattle.journal_spec.specs.Request.{Journal, Budget, Offer, allowed}
+use Rattle.journal_spec.specs.Append.{limitsOf, offered, judgeRoom, appendRefusal, written, unchanged, extend, settle, appendTo}
+use Rattle.journal_spec.proofs.Judging.{unless-true, unless-false}
 use Rattle.journal_spec.proofs.Reading.{by-order}
-use Rattle.journal_spec.proofs.Writing.{lent-wrote}
+use Rattle.journal_spec.proofs.Writing.{written-lent}
 use Rattle.journal.specs.declared.Appended.the-variants as A
-use Rattle.journal.specs.Offering.{offerFrom, recordFrom}
+use Rattle.journal.specs.Stepped.{Filled}
+use Rattle.journal.specs.Handed.{offerFrom, recordFrom, offerRefusals}
 use Rattle.journal.specs.Answers.{appendMeaning, lengthAfter, outcomeOf}
-use Rattle.journal.proofs.Checking.{first-this, first-later, first-alone}
+use Rattle.journal.proofs.Checking.{first-alone, first-front, first-back}
 
 -- ---- declined
 
-settled-refused : (n r : ℕ) (slice : List ℕ) (len committed : ℕ) (new : List ℕ) → 0 < r → r ≡ n
-    → outcomeOf len (A.Declined r) slice ≡ settle n slice len committed new
+settled-refused : (n r : ℕ) (j : Journal) (committed : ℕ) (new : List ℕ) → 0 < r → r ≡ n
+    → outcomeOf (j .len) (A.Declined r) (j .slice) ≡ settle n j committed new
 unfolding outcomeOf appendMeaning lengthAfter settle unchanged
-settled-refused n zero slice len committed new h e = absurd (omega arith)
-settled-refused n (suc r) slice len committed new h e = rw (← e) refl
+settled-refused n zero j committed new h e = absurd (omega arith)
+settled-refused n (suc r) j committed new h e = rw (← e) refl
 
--- by the check that needs no room
-pub offer-declined : (room : ℕ) (last : Last) (committed : ℕ) (o : Offer) (r : ℕ) (slice : List ℕ) (len : ℕ) (new : List ℕ)
-    → 0 < r → r ≡ offerRefusal last o → outcomeOf len (A.Declined r) slice ≡ settle (appendRefusal room last committed o) slice len committed new
-unfolding appendRefusal
-offer-declined room last committed o r slice len new h e =
-    settled-refused _ r slice len committed new h (first-this r (offerRefusal last o) _ h e)
+-- what the test of the room says where it found some
+pub room-fits : (room : Bool) (end most : ℕ) → room ≡ leb end most → not room ≡ false → end ≤ most
+room-fits room end most e h = leb-true end most (sym e ∙ not-false room h)
 
 -- by the room: `size` is what the code took for the record's length
-pub room-declined : (v : List ℕ) (committed size k : ℕ) (new : List ℕ) (len : ℕ) → size ≡ length new
-    → leb (committed + size) (min (length v) maxLength) ≡ false
-    → outcomeOf len (A.Declined roomRefusal) v ≡ settle (judgeRoom (length v) committed (length new)) v len committed (take k new)
+pub room-declined : (j : Journal) (committed size n : ℕ) (part : List ℕ) → size ≡ n
+    → (room : Bool) → room ≡ leb (committed + size) (min (length (j .slice)) maxLength) → not room ≡ true
+    → outcomeOf (j .len) (A.Declined roomRefusal) (j .slice) ≡ settle (judgeRoom (length (j .slice)) committed n) j committed part
 unfolding judgeRoom
-room-declined v committed size k new len s e =
-    settled-refused _ roomRefusal v len committed (take k new) (omega arith)
-    (sym (unless-false (leb (committed + length new) (min (length v) maxLength)) roomRefusal (rw s at e)))
+room-declined j committed size n part s room e h =
+    settled-refused _ roomRefusal j committed part (omega arith)
+    (sym (unless-false (leb (committed + n) (min (length (j .slice)) maxLength)) roomRefusal (rw s at (sym e ∙ not-true room h))))
 
 -- ---- written
 
@@ -56,23 +53,31 @@ take-least k new =
     (λ h. let e : min k (length new) ≡ length new = omega arith in
     ap (λ (n : ℕ). take n new) e ∙ take-all (length new) new (omega arith) ∙ sym (take-all k new (omega arith)))
 
-settled-none : (n : ℕ) (slice after : List ℕ) (len committed end : ℕ) (new : List ℕ) → n ≡ 0
-    → after ≡ written slice committed new → end ≡ committed + length new
-    → outcomeOf len (A.Extended end) after ≡ settle n slice len committed new
+settled-none : (n : ℕ) (j : Journal) (after : List ℕ) (committed end : ℕ) (new : List ℕ) → n ≡ 0
+    → after ≡ written (j .slice) committed new → end ≡ committed + length new
+    → outcomeOf (j .len) (A.Extended end) after ≡ settle n j committed new
 unfolding outcomeOf appendMeaning lengthAfter settle extend
-settled-none n slice after len committed end new z a e = rw (z, a, e) refl
+settled-none n j after committed end new z a e = rw (z, a, e) refl
 
 -- the writer was lent the slice from the committed length on
-pub room-extended : (v : List ℕ) (committed size k end : ℕ) (new : List ℕ) (len r : ℕ) (ys : List ℕ) → size ≡ length new → committed ≤ length v
-    → leb (committed + size) (min (length v) maxLength) ≡ true → end ≡ min k size
-    → Wrote (take (length v - committed) (drop committed v)) 0 end new r ys
-    → outcomeOf len (A.Extended (committed + r)) (take committed v ++ (ys ++ drop (length v - committed) (drop committed v)))
-    ≡ settle (judgeRoom (length v) committed (length new)) v len committed (take k new)
-unfolding judgeRoom
-room-extended v committed size k end new len r ys s h e b w =
-    let w′ = lent-wrote v committed end k new r ys h (rw (b, s) (take-least k new)) w in
-    settled-none _ v _ len committed (committed + r) (take k new)
-    (unless-true (leb (committed + length new) (min (length v) maxLength)) roomRefusal (rw s at e)) (w′ .0) (w′ .1)
+module _ (j : Journal) (committed size : ℕ) (new : List ℕ) (s : size ≡ length new) where
+  pub room-extended : (room : Bool) → room ≡ leb (committed + size) (min (length (j .slice)) maxLength) → not room ≡ false
+      → (b : Budget) (end r : ℕ) (ys : List ℕ) → end ≡ min (allowed b size) size → r ≡ end
+      → Filled new (take (length (j .slice) - committed) (drop committed (j .slice))) 0 r ys
+      → outcomeOf (j .len) (A.Extended (committed + r))
+      (take committed (j .slice) ++ (ys ++ drop (length (j .slice) - committed) (drop committed (j .slice))))
+      ≡ settle (judgeRoom (length (j .slice)) committed (length new)) j committed (take (allowed b (length new)) new)
+  unfolding judgeRoom
+  room-extended room e h b end r ys l t f =
+      let k : ℕ = allowed b (length new) in
+      let part : List ℕ = take (length (j .slice) - committed) (drop committed (j .slice)) in
+      let n : r - 0 ≡ min k (length new) = rw (t, l, s) (omega arith) in
+      let first : take (r - 0) new ≡ take k new = ap (λ (m : ℕ). take m new) n ∙ take-least k new in
+      let inside : committed ≤ length (j .slice) = omega (arith, room-fits room (committed + size) (min (length (j .slice)) maxLength) e h) in
+      settled-none _ j _ committed (committed + r) (take k new)
+      (unless-true (leb (committed + length new) (min (length (j .slice)) maxLength)) roomRefusal (rw s at (sym e ∙ not-false room h)))
+      (written-lent (j .slice) committed (take k new) ys inside (f .bytes ∙ ap (written part 0) first))
+      (rw length-take (omega (arith, n)))
 
 -- ---- the offer's record is the one with the limits worked out
 
@@ -81,40 +86,30 @@ pub offered-record : (day : ℕ) (name chances times limits : List ℕ) → limi
 unfolding recordFrom offered offerFrom
 offered-record day name chances times limits e = rw e refl
 
-pub offer-settled : (room : ℕ) (last : Last) (committed : ℕ) (o : Offer) (r : Record) (slice : List ℕ) (len k : ℕ)
-    → offerRefusal last o ≡ 0 → r ≡ offered o
-    → settle (judgeRoom room committed (length (recordBytes r))) slice len committed (take k (recordBytes r))
-    ≡ settle (appendRefusal room last committed o) slice len committed (take k (recordBytes (offered o)))
-unfolding appendRefusal
-offer-settled room last committed o r slice len k z e =
-    ap (λ (x : Record). settle (judgeRoom room committed (length (recordBytes x))) slice len committed (take k (recordBytes x))) e
-    ∙ ap (λ (n : ℕ). settle n slice len committed (take k (recordBytes (offered o))))
-    (sym (first-later (offerRefusal last o) _ z ∙ first-alone _))
+-- ---- append to what stands
 
--- ---- append
+module _ (last : Last) (committed : ℕ) (o : Offer) (b : Budget) (j : Journal) (ps : List Placed) (is : last ≡ lastOf (recordsOf ps)) where
+  -- the rows of append's refusals: those of the offer, then the room
+  refusals : appendRefusal (length (j .slice)) (lastOf (recordsOf ps)) committed o
+      ≡ firstOf (offerRefusals last o ++ judgeRoom (length (j .slice)) committed (length (recordBytes (offered o))) ∷ [])
+  unfolding appendRefusal offerRefusals
+  refusals = rw is refl
 
--- a record that is not refused is no longer than the longest journal, so that a budget of that length is all of it
-settled-all : (n : ℕ) (slice : List ℕ) (len committed : ℕ) (bytes : List ℕ) → (n ≡ 0 → length bytes ≤ maxLength)
-    → settle n slice len committed (take maxLength bytes) ≡ settle n slice len committed (take (length bytes) bytes)
-unfolding settle
-settled-all zero slice len committed bytes h =
-    ap (extend slice committed) (take-all maxLength bytes (h refl) ∙ sym (take-all (length bytes) bytes (omega arith)))
-settled-all (suc n) slice len committed bytes h = refl
+  -- declined by the check that needs no room
+  pub offer-declined : (r : ℕ) → 0 < r → r ≡ firstOf (offerRefusals last o)
+      → outcomeOf (j .len) (A.Declined r) (j .slice) ≡ appendTo (standing ps committed) j o b
+  unfolding appendTo
+  offer-declined r h e = settled-refused _ r j committed _ h (first-front r (offerRefusals last o) _ h e ∙ sym refusals)
 
-room-short : (room : ℕ) (last : Last) (committed : ℕ) (o : Offer) → appendRefusal room last committed o ≡ 0
-    → length (recordBytes (offered o)) ≤ maxLength
-unfolding appendRefusal judgeRoom
-room-short room last committed o e =
-    let size = length (recordBytes (offered o)) in
-    let z = first-none (offerRefusal last o) _ e in
-    let b = unless-none (leb (committed + size) (min room maxLength)) 8 (first-none _ [] (z .1) .0) in
-    omega (arith, leb-true (committed + size) (min room maxLength) b)
-
-pub append-all : (slice : List ℕ) (len : ℕ) (o : Offer) → appendUpto slice len o maxLength ≡ appendOf slice len o
-unfolding appendUpto appendOf appendTo
-append-all slice len o = go (contentsOf slice len)
-  where
-    go : (k : Contents) → appendTo k slice len o maxLength ≡ appendTo k slice len o (length (recordBytes (offered o)))
-    go (standing ps committed) =
-        settled-all _ slice len committed (recordBytes (offered o)) (room-short (length slice) (lastOf (recordsOf ps)) committed o)
-    go (faulty n p) = refl
+  -- else the room decides
+  pub offer-settled : (r : Record) → firstOf (offerRefusals last o) ≡ 0 → r ≡ offered o
+      → settle (judgeRoom (length (j .slice)) committed (length (recordBytes r))) j committed
+      (take (allowed b (length (recordBytes r))) (recordBytes r))
+      ≡ appendTo (standing ps committed) j o b
+  unfolding appendTo
+  offer-settled r z e =
+      ap (λ (x : Record).
+      settle (judgeRoom (length (j .slice)) committed (length (recordBytes x))) j committed (take (allowed b (length (recordBytes x))) (recordBytes x)))
+      e
+      ∙ ap (λ (n : ℕ). settle n j committed (take (allowed b (length (recordBytes (offered o)))) (recordBytes (offered o))))
+      (sym (refusals ∙ first-back (offerRefusals last o) _ z ∙ first-alone _))

@@ -2,11 +2,11 @@
 -- `Inside` says that the part which reading answers lies inside the slice.
 
 -- fields and sections
-pub mod NumbersIn
+pub mod NumberStands
 pub mod Ranges
 pub mod Fields
 pub mod Items
-pub mod NumbersLoop
+pub mod RuleLoop
 pub mod Sections
 pub mod LimitsLoop
 -- the record
@@ -21,10 +21,11 @@ pub mod Counting
 pub mod Inside
 pub mod Answering
 -- writing
-pub mod Putting
+pub mod RecordByte
+pub mod Filling
 -- the check of an offer
 pub mod Checking
 pub mod WorkedOut
-pub mod Offered
+pub mod RefusalOrder
 pub mod Extending
 pub mod Meaning

@@ -7,8 +7,8 @@ use Rattle.limit.proofs.Meaning.{injective-by}
 use Rattle.journal_spec.specs.Scan.{ScanResult, whole, torn, damaged}
 use Rattle.journal_spec.specs.Read.{flat, few, normal, MarkResult, marked, unmarked}
 use Rattle.journal_spec.specs.Read as Read
-use Rattle.journal_spec.specs.Append.{AppendResult, extended, declined, Outcome}
-use Rattle.journal_spec.specs.Append as Append
+use Rattle.journal_spec.specs.Request.{AppendResult, extended, declined, Outcome}
+use Rattle.journal_spec.specs.Request as Request
 use Rattle.journal.specs.declared.Status.{Status}
 use Rattle.journal.specs.declared.Status.the-variants as S
 use Rattle.journal.specs.declared.Part.{Part}
@@ -71,7 +71,7 @@ mark-meaning-injective = injective-by markMeaning ofMarkResult back
 ofAppend : AppendResult → Appended
 ofAppend (extended n) = A.Extended n
 ofAppend (declined n) = A.Declined n
-ofAppend (Append.damaged n p) = A.Damaged (record { number = n; place = p })
+ofAppend (Request.damaged n p) = A.Damaged (record { number = n; place = p })
 
 pub append-meaning-injective : (a b : Appended) → appendMeaning a ≡ appendMeaning b → a ≡ b
 unfolding appendMeaning ofAppend
@@ -85,4 +85,4 @@ append-meaning-injective = injective-by appendMeaning ofAppend back
 pub outcome-injective : (len : ℕ) (a b : Appended) (v w : List ℕ) → outcomeOf len a v ≡ outcomeOf len b w → (a ≡ b) × (v ≡ w)
 unfolding outcomeOf
 outcome-injective len a b v w e =
-    (append-meaning-injective a b (ap (λ (o : Outcome). o .answer) e), ap (λ (o : Outcome). o .slice) e)
+    (append-meaning-injective a b (ap (λ (o : Outcome). o .answer) e), ap (λ (o : Outcome). o .journal .slice) e)

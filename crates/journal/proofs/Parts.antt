@@ -26,7 +26,7 @@ use Rattle.journal.specs.declared.section.SectionRead.the-variants as S
 use Rattle.journal.specs.Rules.{ruled}
 use Rattle.journal.specs.Found.{sectionRead, sectionAt}
 use Rattle.journal.specs.Records.{Stands}
-use Rattle.journal.proofs.NumbersLoop.{all-append, time-between}
+use Rattle.journal.proofs.RuleLoop.{all-append, time-between}
 
 -- ---- the section's answer, taken back
 

@@ -20,7 +20,7 @@ use Rattle.limit.proofs.Agreement.{limit-of-sums-agrees}
 use Rattle.journal_spec.specs.Refusals.{firstOf}
 use Rattle.journal_spec.specs.Record.{maxChances}
 use Rattle.journal_spec.specs.Append.{limitBits, limitsOf, judgeWorked, limitsRefusal}
-use Rattle.journal.specs.Offering.{LimitsChecked}
+use Rattle.journal.specs.Handed.{LimitsChecked}
 use Rattle.journal.proofs.Checking.{first-this, first-later}
 
 -- the limits before the i-th are finite, and their bits stand first in `bits`

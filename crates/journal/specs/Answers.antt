@@ -5,8 +5,8 @@ use mathlib.Core.List.{List}
 use Rattle.journal_spec.specs.Scan.{ScanResult, whole, torn, damaged}
 use Rattle.journal_spec.specs.Read.{flat, few, normal, MarkResult, marked, unmarked}
 use Rattle.journal_spec.specs.Read as Read
-use Rattle.journal_spec.specs.Append.{AppendResult, extended, declined, Outcome}
-use Rattle.journal_spec.specs.Append as Append
+use Rattle.journal_spec.specs.Request.{AppendResult, extended, declined, Outcome}
+use Rattle.journal_spec.specs.Request as Request
 use Rattle.journal.specs.declared.Status.{Status}
 use Rattle.journal.specs.declared.Status.the-variants as S
 use Rattle.journal.specs.declared.Part.{Part}
@@ -42,7 +42,7 @@ markMeaning (M.Refused n) = unmarked n
 unfoldable pub appendMeaning : Appended → AppendResult
 appendMeaning (A.Extended n) = extended n
 appendMeaning (A.Declined n) = declined n
-appendMeaning (A.Damaged f) = Append.damaged (f .number) (f .place)
+appendMeaning (A.Damaged f) = Request.damaged (f .number) (f .place)
 
 -- the journal's length after an append that found the length `len`: what is answered, and else it stays
 unfoldable pub lengthAfter : ℕ → Appended → ℕ
@@ -52,4 +52,4 @@ lengthAfter len (A.Damaged f) = len
 
 -- all that an append comes to, from the length before it, its answer and the slice's bytes after it
 unfoldable pub outcomeOf : ℕ → Appended → List ℕ → Outcome
-outcomeOf len r slice = record { answer = appendMeaning r; slice = slice; len = lengthAfter len r }
+outcomeOf len r slice = record { answer = appendMeaning r; journal = record { slice = slice; len = lengthAfter len r } }

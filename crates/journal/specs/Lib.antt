@@ -1,10 +1,17 @@
--- What the code answers, by what the journal's definitions find: the rules of sections, fields and sections, the record, the pass over the
--- records, a writer's step, and last the public functions' answers in document 01's words.
+-- What the contracts of the code cite besides the journal's definitions. What a reader must believe comes first: the public functions'
+-- answers and document 01's step. What stands behind it is there for contracts of private functions.
+
+-- the public functions' answers in document 01's words, and a number in bytes
+pub mod Answers
 pub mod Numbers
+-- the step of the call with k
+pub mod Stepped
+-- for private contracts (and the program `append`): what a call is handed, as the definitions take it
+pub mod Handed
+-- the rules of sections, fields and sections, the record, the pass over the records
 pub mod Rules
 pub mod Found
 pub mod Records
 pub mod Contents
-pub mod Stepped
-pub mod Offering
-pub mod Answers
+-- where each number of a record is written
+pub mod Layout

@@ -1,11 +1,19 @@
--- The step of document 01's call with k, into a part of the slice that is lent: it writes the next byte and no other, and answers the
--- place after it.
+-- The step of document 01's call with k, into the part of the slice from the committed length on: at the place p it writes byte p of the
+-- record's bytes and no other, and answers the place after it. And what a run of such steps leaves.
 use mathlib.Core.Path.{_≡_}
-use Prim.Native.Nat.{ℕ, _+_}
+use Prim.Native.Nat.{ℕ, _+_, _-_, _≤_}
 use mathlib.Core.List.{List}
-use lib.ListN.{set}
+use lib.ListN.{length, take, drop, getD, set}
+use Rattle.journal_spec.specs.Append.{written}
 
--- d is the part before and d′ after, `at` the place before and r after, x the byte
-pub record Stepped (d : List ℕ) (at x r : ℕ) (d′ : List ℕ) : Type 0 where
-  pub place : r ≡ at + 1
-  pub bytes : d′ ≡ set d at x
+-- `new` is the record's bytes, d the part before and d′ after, r the place after
+pub record Stepped (new d : List ℕ) (p r : ℕ) (d′ : List ℕ) : Type 0 where
+  pub place : r ≡ p + 1
+  pub bytes : d′ ≡ set d p (getD new p 0)
+
+-- after steps from the place p to the place r: the record's bytes between them stand at their places, and no other byte is changed
+pub record Filled (new d : List ℕ) (p r : ℕ) (d′ : List ℕ) : Type 0 where
+  pub onward : p ≤ r
+  pub inside : r ≤ length d
+  pub known : r ≤ length new
+  pub bytes : d′ ≡ written d p (take (r - p) (drop p new))

@@ -3,16 +3,17 @@
 ghost use mathlib.Core.Path.{_≡_};
 ghost use Rattle.journal_spec.specs.Scan.{scanOf};
 ghost use Rattle.journal_spec.specs.Read.{partPlace, readPart, readMark};
-ghost use Rattle.journal_spec.specs.Append.{appendUpto, appendOf};
-ghost use Rattle.journal.specs.Offering.{offerFrom};
+ghost use Rattle.journal_spec.specs.Request.{all, upTo};
+ghost use Rattle.journal_spec.specs.Append.{appendOf};
 ghost use Rattle.journal.specs.Answers.{meaning, partMeaning, markMeaning, outcomeOf};
 use crate::contents::Contents;
-use crate::contents::MAX_LENGTH;
 use crate::contents::contents_of;
-use crate::extend::extend_by;
+use crate::extend::Budget;
+use crate::extend::append_with;
 use crate::marks::Mark;
 use crate::marks::mark_from;
 
+mod byte;
 mod contents;
 mod extend;
 mod field;
@@ -146,9 +147,10 @@ pub fn append(
     times: &[u32],
 ) -> Appended
     ensures { λ r. ⌜ outcomeOf len r (now (v .exit))
-        ≡ appendOf (now (v .entry)) len (offerFrom day (now (name .entry)) (now (chances .entry)) (now (times .entry))) ⌝ }
+        ≡ appendOf (record { slice = now (v .entry); len = len })
+        (record { day = day; name = now (name .entry); chances = now (chances .entry); times = now (times .entry); budget = all }) ⌝ }
 {
-    append_upto(v, len, day, name, chances, times, MAX_LENGTH)
+    append_with(v, len, day, name, chances, times, Budget::All)
 }
 
 // Document 01's call with k: after append's checks it stops when `budget` bytes of the record are written. A budget beyond the record is
@@ -163,16 +165,8 @@ pub fn append_upto(
     budget: usize,
 ) -> Appended
     ensures { λ r. ⌜ outcomeOf len r (now (v .exit))
-        ≡ appendUpto (now (v .entry)) len (offerFrom day (now (name .entry)) (now (chances .entry)) (now (times .entry))) budget ⌝ }
+        ≡ appendOf (record { slice = now (v .entry); len = len })
+        (record { day = day; name = now (name .entry); chances = now (chances .entry); times = now (times .entry); budget = upTo budget }) ⌝ }
 {
-    let x = contents_of(v, len, 0);
-    match x {
-        Contents::Stands {
-            records: _,
-            committed,
-            last,
-            shown: _,
-        } => extend_by(v, committed, last, day, name, chances, times, budget),
-        Contents::Damaged(f) => Appended::Damaged(f),
-    }
+    append_with(v, len, day, name, chances, times, Budget::UpTo(budget))
 }

@@ -11,7 +11,7 @@ ghost use Rattle.journal_spec.specs.Refusals.{outside};
 ghost use Rattle.journal_spec.specs.Section.{sectionRefusal};
 ghost use Rattle.journal_spec.specs.Record.{nameSection, chanceSection, maxChances};
 ghost use Rattle.journal.specs.Records.{asLast};
-ghost use Rattle.journal.specs.Offering.{offerFrom, LimitsChecked, OfferChecked};
+ghost use Rattle.journal.specs.Handed.{offerFrom, LimitsChecked, OfferChecked};
 use crate::record::CHANCES;
 use crate::record::DAY_REFUSAL;
 use crate::record::Head;

@@ -1,89 +1,18 @@
 // Writes a record's bytes, front to back, into the part of the slice that is lent, as far as the budget's end.
-// Every byte goes through `step`, which writes the next one and no other; a writer's place advances through `step` alone.
-ghost use Prim.Native.Nat.{_≤_, _<_};
+// Each byte is written by `step`, which works it out from the record at its place; nothing else here writes.
+ghost use mathlib.Core.Path.{_≡_};
+ghost use Prim.Native.Nat.{suc, _≤_, _<_, min};
 ghost use lib.ListN.{length};
-ghost use Rattle.journal_spec.specs.Bytes.{bytesOf};
-ghost use Rattle.journal_spec.specs.Section.{sectionBytes};
-ghost use Rattle.journal_spec.specs.Record.{recordBytes};
-ghost use Rattle.journal_spec.specs.Wrote.{Wrote};
-ghost use Rattle.journal.specs.Stepped.{Stepped};
-ghost use Rattle.journal.specs.Offering.{recordFrom};
-use crate::record::FORM;
+ghost use Rattle.journal.specs.Stepped.{Stepped, Filled};
+ghost use Rattle.journal.specs.Layout.{numbersOf, startOf, numberPlace, InNumber};
+ghost use Rattle.journal.specs.Handed.{bytesFrom};
+use crate::byte::Section;
+use crate::byte::byte_of;
+use crate::byte::number_of;
+use crate::byte::numbers_in;
+use crate::byte::width_of;
 
-// The next byte, and no other. Answers the place after it.
-fn step(part: &mut [u8], at: usize, x: u8) -> usize
-    requires { ⌜ at < length (now part) ⌝ }
-    ensures { λ r. ⌜ Stepped (now (part .entry)) at x r (now (part .exit)) ⌝ }
-{
-    part[at] = x;
-    at + 1
-}
-
-// A number in w bytes, the lowest first, from a place on. Answers the place after the last byte written.
-fn put_number(part: &mut [u8], at: usize, end: usize, w: usize, x: u64) -> usize
-    requires { ⌜ (at ≤ end) × (end ≤ length (now part)) ⌝ }
-    ensures { λ r. ⌜ Wrote (now (part .entry)) at end (bytesOf w x) r (now (part .exit)) ⌝ }
-{
-    let mut p = at;
-    let mut v = x;
-    let mut left = w;
-    while 0 < left {
-        if end <= p {
-            return p;
-        }
-        p = step(part, p, (v % 256) as u8);
-        v = v / 256;
-        left -= 1;
-    }
-    p
-}
-
-// The name's section: its count, then its bytes.
-fn put_name(part: &mut [u8], at: usize, end: usize, name: &[u8]) -> usize
-    requires { ⌜ (at ≤ end) × (end ≤ length (now part)) ⌝ }
-    ensures { λ r. ⌜ Wrote (now (part .entry)) at end (sectionBytes 1 (now (name .entry))) r (now (part .exit)) ⌝ }
-{
-    let n = name.len();
-    let mut p = put_number(part, at, end, 2, n as u64);
-    let mut i: usize = 0;
-    while i < n {
-        p = put_number(part, p, end, 1, name[i] as u64);
-        i += 1;
-    }
-    p
-}
-
-// The section of the chances or of the times.
-fn put_numbers(part: &mut [u8], at: usize, end: usize, numbers: &[u32]) -> usize
-    requires { ⌜ (at ≤ end) × (end ≤ length (now part)) ⌝ }
-    ensures { λ r. ⌜ Wrote (now (part .entry)) at end (sectionBytes 4 (now (numbers .entry))) r (now (part .exit)) ⌝ }
-{
-    let n = numbers.len();
-    let mut p = put_number(part, at, end, 2, n as u64);
-    let mut i: usize = 0;
-    while i < n {
-        p = put_number(part, p, end, 4, numbers[i] as u64);
-        i += 1;
-    }
-    p
-}
-
-// The limits' section, by their bits.
-fn put_limits(part: &mut [u8], at: usize, end: usize, limits: &[u64]) -> usize
-    requires { ⌜ (at ≤ end) × (end ≤ length (now part)) ⌝ }
-    ensures { λ r. ⌜ Wrote (now (part .entry)) at end (sectionBytes 8 (now (limits .entry))) r (now (part .exit)) ⌝ }
-{
-    let n = limits.len();
-    let mut p = put_number(part, at, end, 2, n as u64);
-    let mut i: usize = 0;
-    while i < n {
-        p = put_number(part, p, end, 8, limits[i]);
-        i += 1;
-    }
-    p
-}
-
-// The record, from the part's first byte on.
+// The record, from the part's first byte on, `end` bytes of it. Answers the place after the last.
 pub(crate) fn put_record(
     part: &mut [u8],
     end: usize,
@@ -93,15 +22,144 @@ pub(crate) fn put_record(
     times: &[u32],
     limits: &[u64],
 ) -> usize
-    requires { ⌜ end ≤ length (now part) ⌝ }
-    ensures { λ r. ⌜ Wrote (now (part .entry)) 0 end
-        (recordBytes (recordFrom day (now (name .entry)) (now (chances .entry)) (now (times .entry)) (now (limits .entry))))
-        r (now (part .exit)) ⌝ }
+    requires { ⌜ (end ≤ length (now part)) × (end ≤ length (bytesFrom day (now name) (now chances) (now times) (now limits))) ⌝ }
+    ensures { λ r. ⌜ Filled (bytesFrom day (now (name .entry)) (now (chances .entry)) (now (times .entry)) (now (limits .entry)))
+        (now (part .entry)) 0 r (now (part .exit)) ⌝ }
+    ensures { λ r. ⌜ r ≡ end ⌝ }
 {
-    let form_end = put_number(part, 0, end, 2, FORM);
-    let day_end = put_number(part, form_end, end, 2, day as u64);
-    let name_end = put_name(part, day_end, end, name);
-    let chances_end = put_numbers(part, name_end, end, chances);
-    let times_end = put_numbers(part, chances_end, end, times);
-    put_limits(part, times_end, end, limits)
+    let mut p = put_section(
+        part,
+        0,
+        end,
+        Section::Head,
+        day,
+        name,
+        chances,
+        times,
+        limits,
+    );
+    p = put_section(
+        part,
+        p,
+        end,
+        Section::Name,
+        day,
+        name,
+        chances,
+        times,
+        limits,
+    );
+    p = put_section(
+        part,
+        p,
+        end,
+        Section::Chances,
+        day,
+        name,
+        chances,
+        times,
+        limits,
+    );
+    p = put_section(
+        part,
+        p,
+        end,
+        Section::Times,
+        day,
+        name,
+        chances,
+        times,
+        limits,
+    );
+    put_section(
+        part,
+        p,
+        end,
+        Section::Limits,
+        day,
+        name,
+        chances,
+        times,
+        limits,
+    )
+}
+
+// A section of the record from its place on. Answers the place after the last byte written.
+fn put_section(
+    part: &mut [u8],
+    at: usize,
+    end: usize,
+    section: Section,
+    day: u16,
+    name: &[u8],
+    chances: &[u32],
+    times: &[u32],
+    limits: &[u64],
+) -> usize
+    requires { ⌜ (end ≤ length (now part)) × (end ≤ length (bytesFrom day (now name) (now chances) (now times) (now limits)))
+        × (at ≡ min end (startOf section (now name) (now chances) (now times))) ⌝ }
+    ensures { λ r. ⌜ Filled (bytesFrom day (now (name .entry)) (now (chances .entry)) (now (times .entry)) (now (limits .entry)))
+        (now (part .entry)) at r (now (part .exit)) ⌝ }
+    ensures { λ r. ⌜ r ≡ min end (numberPlace section
+        (length (numbersOf section day (now (name .entry)) (now (chances .entry)) (now (times .entry)) (now (limits .entry))))
+        (now (name .entry)) (now (chances .entry)) (now (times .entry))) ⌝ }
+{
+    let n = numbers_in(section, name, chances, times, limits);
+    let mut p = at;
+    let mut i: usize = 0;
+    while i < n {
+        p = put_number(part, p, end, section, i, day, name, chances, times, limits);
+        i += 1;
+    }
+    p
+}
+
+// Number i of a section from its place on. Answers the place after the last byte written.
+fn put_number(
+    part: &mut [u8],
+    at: usize,
+    end: usize,
+    section: Section,
+    i: usize,
+    day: u16,
+    name: &[u8],
+    chances: &[u32],
+    times: &[u32],
+    limits: &[u64],
+) -> usize
+    requires { ⌜ (end ≤ length (now part)) × (end ≤ length (bytesFrom day (now name) (now chances) (now times) (now limits)))
+        × (i < length (numbersOf section day (now name) (now chances) (now times) (now limits)))
+        × (at ≡ min end (numberPlace section i (now name) (now chances) (now times))) ⌝ }
+    ensures { λ r. ⌜ Filled (bytesFrom day (now (name .entry)) (now (chances .entry)) (now (times .entry)) (now (limits .entry)))
+        (now (part .entry)) at r (now (part .exit)) ⌝ }
+    ensures { λ r. ⌜ r ≡ min end (numberPlace section (suc i) (now (name .entry)) (now (chances .entry)) (now (times .entry))) ⌝ }
+{
+    let w = width_of(section, i);
+    let mut p = at;
+    while p - at < w && p < end {
+        p = step(part, p, at, section, i, day, name, chances, times, limits);
+    }
+    p
+}
+
+// At the place p, which is in number i of a section: byte p of the record and no other. Answers the place after it.
+fn step(
+    part: &mut [u8],
+    p: usize,
+    first: usize,
+    section: Section,
+    i: usize,
+    day: u16,
+    name: &[u8],
+    chances: &[u32],
+    times: &[u32],
+    limits: &[u64],
+) -> usize
+    requires { ⌜ (p < length (now part)) × InNumber section i first p day (now name) (now chances) (now times) (now limits) ⌝ }
+    ensures { λ r. ⌜ Stepped (bytesFrom day (now (name .entry)) (now (chances .entry)) (now (times .entry)) (now (limits .entry)))
+        (now (part .entry)) p r (now (part .exit)) ⌝ }
+{
+    let x = number_of(section, i, day, name, chances, times, limits);
+    part[p] = byte_of(x, p - first);
+    p + 1
 }

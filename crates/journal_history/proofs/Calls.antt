@@ -6,7 +6,7 @@ use mathlib.Core.List.{List, _++_}
 use borrow.Author.Tests.{leb-true, not-true, not-false}
 use lib.ListN.{drop}
 use Rattle.hex.proofs.Cases.{both-hold}
-use Rattle.journal_spec.specs.Append.{Outcome}
+use Rattle.journal_spec.specs.Request.{Outcome}
 use Rattle.journal.specs.Answers.{appendMeaning, lengthAfter, outcomeOf}
 use Rattle.journal.specs.declared.Appended.{Appended}
 use Rattle.journal_history.specs.State.{malformedOnce}

@@ -14,19 +14,18 @@ use Rattle.journal_spec.specs.Bytes.{joined}
 use Rattle.journal_spec.specs.Record.{Record, IsDay, lastOf, recordReader, recordBytes, recordsBytes}
 use Rattle.journal_spec.specs.Scan.{maxLength, standing, contentsOf, statusOf, scanOf}
 use Rattle.journal_spec.specs.Read.{partOf, partPlace, readPart, markIn, readMark}
-use Rattle.journal_spec.specs.Append.{Offer, AppendResult, extended, Outcome, offered, written, unchanged, extend, settle, appendTo, appendUpto}
-use Rattle.journal_spec.specs.Append.{appendOf}
-use Rattle.journal_spec.specs.Calls.{operations, Call, callAppend, callAppendUpto, Journal, emptyIn, perform, journalOf, journalAfter}
-use Rattle.journal_spec.specs.Calls.{answersOf, reachOf}
-use Rattle.journal_spec.specs.Model.{Model, emptyModel, lengthsOf, committedOf, recordFor, Entry, enterRecord, enterUnless, enter, limitsGood}
-use Rattle.journal_spec.specs.Model.{modelRefusal, modelAfter, modelAnswers}
+use Rattle.journal_spec.specs.Request.{Journal, Offer, offerOf, allowed, AppendResult, extended, Outcome}
+use Rattle.journal_spec.specs.Append.{offered, written, unchanged, extend, settle, appendTo, appendOf}
+use Rattle.journal_spec.specs.Calls.{operations, Call, emptyIn, perform, journalAfter, answersOf, reachOf}
+use Rattle.journal_spec.specs.Model.{Model, emptyModel, lengthsOf, committedOf, recordFor, Entry, enterRecord, byNumber, verdictOf, enterBy, enter}
+use Rattle.journal_spec.specs.Model.{limitsGood, modelRefusal, modelAfter, modelAnswers}
 use Rattle.journal_spec.specs.Demand.{modelScan, bytesAt, recordMark, Agrees, Demand3From, Demand3}
+use Rattle.journal_spec.specs.Ranges.{RecordRanges, AllRanges}
 use Rattle.journal_spec.proofs.Reading.{by-order, reads-cut}
 use Rattle.journal_spec.proofs.Limits.{formulaBits}
-use Rattle.journal_spec.proofs.Records.{Good, reads-record}
-use Rattle.journal_spec.proofs.Offers.{same-refusal, same-record, same-length}
-use Rattle.journal_spec.proofs.Ranged.{passed, accepted-exactly, good-record}
-use Rattle.journal_spec.proofs.Scanning.{Follow, Torn, follow-snoc, torn-none, records-snoc, placedFrom, recordsOf-placed, length-placed}
+use Rattle.journal_spec.proofs.SameRefusals.{same-refusal, same-record, same-length}
+use Rattle.journal_spec.proofs.Ranged.{passed, accepted-exactly, good-record, good-exactly, reads-back}
+use Rattle.journal_spec.proofs.Scanning.{Torn, follow-snoc, torn-none, records-snoc, placedFrom, recordsOf-placed, length-placed}
 use Rattle.journal_spec.proofs.Scanning.{contents-of}
 use Rattle.journal_spec.proofs.Placing.{written-length, written-take, written-drop, lengths-are, part-bytes, no-bytes, mark-placed, no-mark}
 
@@ -38,7 +37,7 @@ pub record Holds (room : ℕ) (j : Journal) (m : Model) : Type 0 where
   pub fits : j .len ≤ room
   pub most : j .len ≤ maxLength
   pub bytes : take (j .len) (j .slice) ≡ recordsBytes (m .records) ++ m .tail
-  pub follow : Follow [] (m .records)
+  pub follow : AllRanges [] (m .records)
   pub torn : Torn (m .records) (m .tail)
 
 module _ (room : ℕ) (j : Journal) (m : Model) (h : Holds room j m) where
@@ -99,7 +98,7 @@ module _ (room : ℕ) (j : Journal) (m : Model) (h : Holds room j m) (new : List
       ∙ take-at (recordsBytes (m .records)) (m .tail) (committedOf m) (sym (lengths-are (m .records)))
 
   holds-new : (m′ : Model) → recordsBytes (m′ .records) ++ m′ .tail ≡ recordsBytes (m .records) ++ new
-      → Follow [] (m′ .records) → Torn (m′ .records) (m′ .tail)
+      → AllRanges [] (m′ .records) → Torn (m′ .records) (m′ .tail)
       → Holds room (record { slice = written (j .slice) (committedOf m) new; len = committedOf m + length new }) m′
   unfolding committedOf
   holds-new m′ e f t = record {
@@ -119,31 +118,31 @@ module _ (room : ℕ) (j : Journal) (m : Model) (h : Holds room j m) (new : List
 -- a call's outcome against the model's entry
 pub record Step (room : ℕ) (j : Journal) (out : Outcome) (entry : Entry) : Type 0 where
   pub answer : out .answer ≡ entry .answer
-  pub holds : Holds room (journalOf out) (entry .model)
-  pub beyond : drop (out .len) (out .slice) ≡ drop (out .len) (j .slice)
+  pub holds : Holds room (out .journal) (entry .model)
+  pub beyond : drop (out .journal .len) (out .journal .slice) ≡ drop (out .journal .len) (j .slice)
 
 module _ (room : ℕ) (j : Journal) (m : Model) (h : Holds room j m) (o : Offer) (fits : IsDay (o .day)) (k : ℕ) where
   abbrev bytes : List ℕ
   bytes = recordBytes (recordFor o)
 
-  settled : appendUpto (j .slice) (j .len) o k
-      ≡ settle (modelRefusal room m o) (j .slice) (j .len) (committedOf m) (take k (recordBytes (offered o)))
-  unfolding appendUpto appendTo
-  settled = rw (held room j m h) (rw (recordsOf-placed 0 (m .records), h .slice, same-refusal room m o) refl)
+  -- what append does with its first k bytes, and what the model enters
+  abbrev Settled : Type 0
+  Settled = Step room j (settle (modelRefusal room m o) j (committedOf m) (take k (recordBytes (offered o))))
+      (enterBy (byNumber (modelRefusal room m o)) m (recordFor o) k)
 
-  step-declined : (n : ℕ) → modelRefusal room m o ≡ suc n
-      → Step room j (appendUpto (j .slice) (j .len) o k) (enterUnless (modelRefusal room m o) m (recordFor o) k)
-  unfolding enterUnless settle unchanged journalOf
-  step-declined n e = rw settled (rw e (record { answer = refl; holds = h; beyond = refl }))
+  step-declined : (n : ℕ) → modelRefusal room m o ≡ suc n → Settled
+  unfolding byNumber enterBy settle unchanged
+  step-declined n e = rw e (record { answer = refl; holds = h; beyond = refl })
 
   module _ (e : modelRefusal room m o ≡ 0) where
     -- the offer is the model's record, which nothing refuses, and there is room for it
-    good : Good (lastOf (m .records)) (recordFor o)
+    good : RecordRanges (lastOf (m .records)) (recordFor o)
     unfolding recordFor formulaBits limitsGood
     good =
         let p = passed room m o e in
         let a = accepted-exactly room m o .0 e in
-        good-record (lastOf (m .records)) (recordFor o) refl (a .day) fits (p .name) (p .chances) (p .times) (p .limits) refl
+        good-exactly (lastOf (m .records)) (recordFor o) .0
+        (good-record (lastOf (m .records)) (recordFor o) refl (a .day) fits (p .name) (p .chances) (p .times) (p .limits) refl)
 
     same : recordBytes (offered o) ≡ bytes
     same = let p = passed room m o e in ap recordBytes (same-record o (p .chances) (p .times) (p .limits))
@@ -154,18 +153,18 @@ module _ (room : ℕ) (j : Journal) (m : Model) (h : Holds room j m) (o : Offer)
     -- the outcome where `new` is what is written, and the model's entry
     step-written : (new : List ℕ) (m′ : Model) → take k bytes ≡ new → length new ≤ length bytes
         → enterRecord m (recordFor o) k ≡ record { answer = extended (committedOf m + length new); model = m′ }
-        → recordsBytes (m′ .records) ++ m′ .tail ≡ recordsBytes (m .records) ++ new → Follow [] (m′ .records) → Torn (m′ .records) (m′ .tail)
-        → Step room j (appendUpto (j .slice) (j .len) o k) (enterUnless (modelRefusal room m o) m (recordFor o) k)
-    unfolding enterUnless settle extend journalOf
+        → recordsBytes (m′ .records) ++ m′ .tail ≡ recordsBytes (m .records) ++ new → AllRanges [] (m′ .records) → Torn (m′ .records) (m′ .tail)
+        → Settled
+    unfolding byNumber enterBy settle extend
     step-written new m′ t less entry b f torn =
         let fit : committedOf m + length new ≤ min room maxLength = omega (arith, room-for) in
-        rw settled (rw (e, same, t, entry) (record {
+        rw (e, same, t, entry) (record {
           answer = refl;
           holds = holds-new room j m h new fit m′ b f torn;
           beyond = written-drop (j .slice) (committedOf m) new (enough room j m h new fit);
-        }))
+        })
 
-    step-finished : length bytes ≤ k → Step room j (appendUpto (j .slice) (j .len) o k) (enterUnless (modelRefusal room m o) m (recordFor o) k)
+    step-finished : length bytes ≤ k → Settled
     unfolding enterRecord
     step-finished all =
         let m′ : Model = record { records = m .records ++ recordFor o ∷ []; tail = [] } in
@@ -173,7 +172,7 @@ module _ (room : ℕ) (j : Journal) (m : Model) (h : Holds room j m) (o : Offer)
         (append-nil _ ∙ records-snoc (m .records) (recordFor o)) (follow-snoc [] (m .records) (recordFor o) (h .follow) good)
         (torn-none (m′ .records))
 
-    step-cut : k < length bytes → Step room j (appendUpto (j .slice) (j .len) o k) (enterUnless (modelRefusal room m o) m (recordFor o) k)
+    step-cut : k < length bytes → Settled
     unfolding enterRecord
     step-cut less =
         let n : length (take k bytes) ≡ k = length-take-le k bytes (omega arith) in
@@ -181,21 +180,24 @@ module _ (room : ℕ) (j : Journal) (m : Model) (h : Holds room j m) (o : Offer)
         step-written (take k bytes) m′ refl (omega (arith, n)) (rw (lt-leb (length bytes) k less, n) refl) refl (h .follow)
         (record {
           runsOut = λ at. reads-cut (recordReader (lastOf (m .records))) bytes (recordFor o)
-              (reads-record (lastOf (m .records)) (recordFor o) good) at k less;
+              (reads-back (lastOf (m .records)) (recordFor o) good) at k less;
         })
 
-  step-upto : Step room j (appendUpto (j .slice) (j .len) o k) (enterUnless (modelRefusal room m o) m (recordFor o) k)
-  step-upto = byRefusal (modelRefusal room m o) refl
+  settled : Settled
+  settled = byRefusal (modelRefusal room m o) refl
     where
-      byRefusal : (n : ℕ) → modelRefusal room m o ≡ n → Step room j (appendUpto (j .slice) (j .len) o k) (enterUnless (modelRefusal room m o) m (recordFor o) k)
+      byRefusal : (n : ℕ) → modelRefusal room m o ≡ n → Settled
       byRefusal zero e = by-order (length bytes) k (step-finished e) (step-cut e)
       byRefusal (suc n) e = step-declined n e
 
 -- every call
 pub step : (room : ℕ) (j : Journal) (m : Model) → Holds room j m → (c : Call) → Step room j (perform operations j c) (enter room m c)
-unfolding perform operations enter appendOf
-step room j m h (callAppendUpto o fits k) = step-upto room j m h o fits k
-step room j m h (callAppend o fits) = rw (same-length o) (step-upto room j m h o fits (length (recordBytes (recordFor o))))
+unfolding perform operations enter appendOf appendTo verdictOf offerOf
+step room j m h c =
+    let o : Offer = offerOf (c .request) in
+    rw (held room j m h)
+    (rw (recordsOf-placed 0 (m .records), h .slice, same-refusal room m o, same-length o)
+    (settled room j m h o (c .dayFits) (allowed (c .request .budget) (length (recordBytes (recordFor o))))))
 
 -- ---- every list
 
@@ -218,20 +220,20 @@ reach-least j [] = omega arith
 reach-least j (c ∷ cs) = omega arith
 
 pub after-all : (room : ℕ) (j : Journal) (m : Model) → Holds room j m → (cs : List Call) → After room j m cs
-unfolding answersOf modelAnswers journalAfter modelAfter reachOf journalOf
+unfolding answersOf modelAnswers journalAfter modelAfter reachOf
 after-all room j m h [] = record { answers = refl; holds = h; initial = refl }
 after-all room j m h (c ∷ cs) =
     let s = step room j m h c in
     let out : Outcome = perform operations j c in
-    let a = after-all room (journalOf out) (enter room m c .model) (s .holds) cs in
-    let far : ℕ = reachOf operations (journalOf out) cs in
-    let near : out .len ≤ far = reach-least (journalOf out) cs in
+    let a = after-all room (out .journal) (enter room m c .model) (s .holds) cs in
+    let far : ℕ = reachOf operations (out .journal) cs in
+    let near : out .journal .len ≤ far = reach-least (out .journal) cs in
     record {
       answers = ap₂ (λ (x : AppendResult) (xs : List AppendResult). x ∷ xs) (s .answer) (a .answers);
       holds = a .holds;
       initial =
           later-same far (max (j .len) far) _ _ (omega arith) (a .initial)
-          ∙ later-same (out .len) (max (j .len) far) (out .slice) (j .slice) (omega arith) (s .beyond);
+          ∙ later-same (out .journal .len) (max (j .len) far) (out .journal .slice) (j .slice) (omega arith) (s .beyond);
     }
 
 -- demand 3 from any journal that holds what a model says
@@ -247,7 +249,7 @@ demand3-from room j m h cs =
 
 -- records end to end, each of which keeps the ranges, hold what the model of those records says
 pub holds-records : (slice : List ℕ) (len : ℕ) (rs : List Record) → len ≤ length slice → len ≤ maxLength
-    → take len slice ≡ recordsBytes rs → Follow [] rs → Holds (length slice) (record { slice = slice; len = len }) (record { records = rs; tail = [] })
+    → take len slice ≡ recordsBytes rs → AllRanges [] rs → Holds (length slice) (record { slice = slice; len = len }) (record { records = rs; tail = [] })
 unfolding committedOf
 holds-records slice len rs fits most bytes f = record {
   slice = refl;

@@ -18,8 +18,9 @@ use Rattle.journal_spec.specs.Record.{Record, lastOf, judgeForm, judgeDa
 use Rattle.journal_spec.specs.Record.{limitSection, recordReader, recordBytes, recordsBytes}
 use Rattle.journal_spec.specs.Scan.{recordsOf, contentsFrom, contentsOf, whole, torn, damaged, statusOf, scanOf}
 use Rattle.journal_spec.specs.Read.{flat, few, normal, letterOf, allEqual, areEqual, markFrom, markOf}
-use Rattle.journal_spec.specs.Append.{Offer, declined, offerRefusal, appendRefusal, unchanged, settle, appendTo, appendUpto, appendOf}
-use Rattle.journal_spec.specs.Append as A
+use Rattle.journal_spec.specs.Request.{all, Request, offerOf, declined}
+use Rattle.journal_spec.specs.Request as R
+use Rattle.journal_spec.specs.Append.{appendRefusal, unchanged, settle, appendTo, appendOf}
 use Rattle.journal_spec.specs.Model.{workedOut}
 use Rattle.journal_spec.specs.Ranges.{RecordRanges}
 use Rattle.journal_spec.proofs.EvenChance.{worked-hundred, worked-finite}
@@ -169,21 +170,21 @@ faults = record {
 -- ---- declined offers
 
 -- an offer of which nothing is right, made better from the front
-abbrev offer : List ℕ → List ℕ → List ℕ → Offer
-offer name chances times = record { day = 1; name = name; chances = chances; times = times }
+abbrev offer : List ℕ → List ℕ → List ℕ → Request
+offer name chances times = record { day = 1; name = name; chances = chances; times = times; budget = all }
 
-abbrev declined-by : Offer → ℕ → Type 0
-declined-by o n = appendOf theBytes 0 o .answer ≡ declined n
+abbrev declined-by : Request → ℕ → Type 0
+declined-by q n = appendOf (record { slice = theBytes; len = 0 }) q .answer ≡ declined n
 
 pub record Declined : Type 0 where
-  pub damage : appendOf (set theBytes 0 2) 33 (offer [] [] []) .answer ≡ A.damaged 2 0
+  pub damage : appendOf (record { slice = set theBytes 0 2; len = 33 }) (offer [] [] []) .answer ≡ R.damaged 2 0
   pub name : declined-by (offer [] [] []) 4
   pub chances : declined-by (offer (0x41 ∷ []) [] []) 5
   pub falling : declined-by (offer (0x41 ∷ []) (2 ∷ 2 ∷ []) []) 5
   pub times : declined-by (offer (0x41 ∷ []) (1 ∷ 2 ∷ []) []) 6
 
 pub declines : Declined
-unfolding theBytes appendOf appendUpto appendTo settle unchanged appendRefusal offerRefusal firstOf sectionRefusal
+unfolding theBytes appendOf appendTo settle unchanged appendRefusal firstOf sectionRefusal offerOf
     itemsRefusal contentsOf contentsFrom recordsOf lastOf recordReader run then section items valueOf judgeForm judgeDay
     nameSection chanceSection judgeChance chanceInRange lastChance timeSection limitSection outside unless inRange
 declines = record {

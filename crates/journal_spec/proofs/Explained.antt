@@ -18,8 +18,10 @@ use Rattle.journal_spec.specs.Scan.{maxLength, Placed, recordsOf, Conten
 use Rattle.journal_spec.specs.Scan.{scanOf}
 use Rattle.journal_spec.proofs.Numbers.{bytes-take}
 use Rattle.journal_spec.proofs.Reading.{short-anywhere}
+use Rattle.journal_spec.specs.Ranges.{AllRanges}
 use Rattle.journal_spec.proofs.Records.{RecordRead, record-read, record-length}
-use Rattle.journal_spec.proofs.Scanning.{Follow, Torn, torn-none, placedFrom, length-placed, recordsOf-snoc, turn-short, turn-fault}
+use Rattle.journal_spec.proofs.Ranged.{good-exactly}
+use Rattle.journal_spec.proofs.Scanning.{Torn, torn-none, placedFrom, length-placed, recordsOf-snoc, turn-short, turn-fault}
 use Rattle.journal_spec.proofs.Scanning.{turn-found, contents-fits, contents-long}
 
 -- the bytes from the place `at` on, after the records of ps: further records, each in its place, and a torn tail
@@ -29,7 +31,7 @@ pub record Explained (ps : List Placed) (at : ℕ) (bs : List ℕ) (qs : List Pl
   pub bytes : bs ≡ recordsBytes records ++ tail
   pub places : qs ≡ ps ++ placedFrom at records
   pub upto : committed ≡ at + length (recordsBytes records)
-  pub follow : Follow (recordsOf ps) records
+  pub follow : AllRanges (recordsOf ps) records
   pub torn : Torn (recordsOf ps ++ records) tail
 
 standing-not-faulty : {ps : List Placed} {c n p : ℕ} → faulty n p ≡ standing ps c → ⊥
@@ -70,7 +72,7 @@ goes-on ps at bs r e rest qs c read x =
           ∙ append-snoc ps p (placedFrom e (x .records))
           ∙ rw (size, read .place) refl;
       upto = x .upto ∙ rw (read .place, length-append, add-assoc) refl;
-      follow = (read .good, rw snoc at (x .follow));
+      follow = (good-exactly (lastOf (recordsOf ps)) r .0 (read .good), rw snoc at (x .follow));
       torn = rw (snoc, append-snoc) at (x .torn);
     }
 
@@ -110,7 +112,7 @@ pub record Holding (slice : List ℕ) (len : ℕ) (ps : List Placed) (committed 
   pub bytes : take len slice ≡ recordsBytes records ++ tail
   pub places : ps ≡ placedFrom 0 records
   pub upto : committed ≡ length (recordsBytes records)
-  pub follow : Follow [] records
+  pub follow : AllRanges [] records
   pub torn : Torn records tail
 
 pub holding : (slice : List ℕ) (len : ℕ) (ps : List Placed) (committed : ℕ) → AreBytes slice
@@ -144,7 +146,7 @@ pub record Accepts (slice : List ℕ) (len n committed : ℕ) (tail : List ℕ) 
   pub number : n ≡ length records
   pub upto : committed ≡ length (recordsBytes records)
   pub bytes : take len slice ≡ recordsBytes records ++ tail
-  pub follow : Follow [] records
+  pub follow : AllRanges [] records
   pub torn : Torn records tail
 
 accepts : (slice : List ℕ) (len : ℕ) (ps : List Placed) (committed n c : ℕ) (tail : List ℕ) → (x : Holding slice len ps committed)

@@ -1,8 +1,8 @@
--- The laws of the format, by name: decoding an encoding, its length, whole journals, every cut, and that what scan accepts is explained.
+-- The laws of the format, by name: decoding an encoding, whole journals, every cut, and that what scan accepts is explained.
 -- Records are those that keep document 01's ranges, as `Ranges` spells them. Assumes nothing.
 use mathlib.Core.Path.{_≡_, refl, sym, ap, _∙_}
 use Prim.Native.Nat.{ℕ, _+_, _≤_, _<_}
-use mathlib.Core.List.{List, [], _∷_, _++_, append-nil}
+use mathlib.Core.List.{List, [], _++_, append-nil}
 use native.Mathlib.Omega.{arith}
 use lib.ListN.{length, take, length-append}
 use lib.Seq.{length-take-le}
@@ -13,9 +13,8 @@ use Rattle.journal_spec.specs.Record.{Record, Last, lastOf, recordReader
 use Rattle.journal_spec.specs.Scan.{maxLength, whole, torn, statusOf, scanOf}
 use Rattle.journal_spec.specs.Ranges.{RecordRanges, AllRanges}
 use Rattle.journal_spec.proofs.Reading.{reads-cut}
-use Rattle.journal_spec.proofs.Records.{record-length, reads-record}
-use Rattle.journal_spec.proofs.Ranged.{good-exactly}
-use Rattle.journal_spec.proofs.Scanning.{Follow, Torn, torn-none, length-placed, contents-of}
+use Rattle.journal_spec.proofs.Ranged.{reads-back}
+use Rattle.journal_spec.proofs.Scanning.{Torn, torn-none, length-placed, contents-of}
 use Rattle.journal_spec.proofs.Explained.{whole-explained, torn-explained}
 
 -- ---- one record
@@ -23,25 +22,13 @@ use Rattle.journal_spec.proofs.Explained.{whole-explained, torn-explain
 module _ (last : Last) (r : Record) (keeps : RecordRanges last r) where
   -- decoding the encoding gives the record back, and leaves what follows it
   pub decode-encode : (at : ℕ) (post : List ℕ) → run (recordReader last) at (recordBytes r ++ post) ≡ found r (at + length (recordBytes r)) post
-  decode-encode = reads-record last r (good-exactly last r .1 keeps) .on
-
-  -- 33 to 652 bytes
-  pub encoding-length : (33 ≤ length (recordBytes r)) × (length (recordBytes r) ≤ 652)
-  encoding-length = record-length last r (good-exactly last r .1 keeps)
+  decode-encode = reads-back last r keeps .on
 
   -- a cut before its last byte is short
   pub encoding-cut : (at k : ℕ) → k < length (recordBytes r) → run (recordReader last) at (take k (recordBytes r)) ≡ short
-  encoding-cut = reads-cut (recordReader last) (recordBytes r) r (reads-record last r (good-exactly last r .1 keeps))
+  encoding-cut = reads-cut (recordReader last) (recordBytes r) r (reads-back last r keeps)
 
 -- ---- journals
-
-pub ranges-follow : (before rs : List Record) → AllRanges before rs → Follow before rs
-ranges-follow before [] h = tt
-ranges-follow before (r ∷ rs) h = (good-exactly (lastOf before) r .1 (h .0), ranges-follow (before ++ r ∷ []) rs (h .1))
-
-pub follow-ranges : (before rs : List Record) → Follow before rs → AllRanges before rs
-follow-ranges before [] h = tt
-follow-ranges before (r ∷ rs) h = (good-exactly (lastOf before) r .0 (h .0), follow-ranges (before ++ r ∷ []) rs (h .1))
 
 -- records end to end are whole, with their number and their length
 pub whole-scan : (slice : List ℕ) (len : ℕ) (rs : List Record) → AllRanges [] rs → len ≤ length slice → len ≤ maxLength
@@ -49,8 +36,7 @@ pub whole-scan : (slice : List ℕ) (len : ℕ) (rs : List Record) → AllRanges
 unfolding scanOf statusOf
 whole-scan slice len rs keeps fits most bytes =
     let n : len ≡ length (recordsBytes rs) = sym (length-take-le len slice fits) ∙ ap length bytes in
-    let c = contents-of slice len rs [] fits most (bytes ∙ sym (append-nil (recordsBytes rs))) (n ∙ rw append-nil refl)
-    (ranges-follow [] rs keeps) (torn-none rs) in
+    let c = contents-of slice len rs [] fits most (bytes ∙ sym (append-nil (recordsBytes rs))) (n ∙ rw append-nil refl) keeps (torn-none rs) in
     rw (c, length-placed, eq-eqb (length (recordsBytes rs)) len (sym n)) refl
 
 -- the first k bytes of one more record, neither none nor all, leave the journal torn with the records before and their length
@@ -62,7 +48,7 @@ torn-scan slice len rs r k keeps one pos less fits most bytes =
     let n : len ≡ length (recordsBytes rs ++ take k (recordBytes r)) = sym (length-take-le len slice fits) ∙ ap length bytes in
     let m : length (take k (recordBytes r)) ≡ k = length-take-le k (recordBytes r) (omega arith) in
     let t : Torn rs (take k (recordBytes r)) = record { runsOut = λ at. encoding-cut (lastOf rs) r one at k less } in
-    let c = contents-of slice len rs (take k (recordBytes r)) fits most bytes n (ranges-follow [] rs keeps) t in
+    let c = contents-of slice len rs (take k (recordBytes r)) fits most bytes n keeps t in
     let differs : length (recordsBytes rs) ≡ len → ⊥ =
     λ e. omega (arith, e, n, length-append (recordsBytes rs) (take k (recordBytes r)), m) in
     rw (c, length-placed, ne-eqb (length (recordsBytes rs)) len differs) refl
@@ -80,7 +66,7 @@ whole-means slice len n committed b h =
     let w = whole-explained slice len n committed b h in
     record {
       records = w .0 .records;
-      keeps = follow-ranges [] (w .0 .records) (w .0 .follow);
+      keeps = w .0 .follow;
       number = w .0 .number;
       bytes = w .0 .bytes ∙ append-nil (recordsBytes (w .0 .records));
       all = w .1;
@@ -103,7 +89,7 @@ torn-means slice len n committed b h =
     record {
       records = w .2 .records;
       tail = w .0;
-      keeps = follow-ranges [] (w .2 .records) (w .2 .follow);
+      keeps = w .2 .follow;
       number = w .2 .number;
       upto = w .2 .upto;
       bytes = w .2 .bytes;

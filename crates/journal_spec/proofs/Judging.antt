@@ -3,8 +3,9 @@
 use mathlib.Core.Path.{_≡_, refl}
 use Prim.Native.Nat.{ℕ, zero, suc, _≤_, _<_}
 use mathlib.Core.List.{List, [], _∷_}
-use mathlib.Core.Bool.{Bool, true, false, _&&_}
+use mathlib.Core.Bool.{Bool, true, false, not, _&&_}
 use native.Mathlib.Omega.{arith}
+use lib.ListN.{getD}
 use Rattle.limit.specs.Times.{inRange}
 use Rattle.limit.proofs.InRange as R
 use Rattle.journal_spec.specs.Refusals.{unless, outside, firstOf}
@@ -13,6 +14,11 @@ pub unless-none : (b : Bool) (n : ℕ) → unless b (suc n) ≡ 0 → b ≡ true
 unfolding unless
 unless-none true n h = refl
 unless-none false n h = absurd (omega arith)
+
+pub unless-not : (b : Bool) (n : ℕ) → unless (not b) (suc n) ≡ 0 → b ≡ false
+unfolding unless
+unless-not true n h = absurd (omega arith)
+unless-not false n h = refl
 
 pub unless-true : (b : Bool) (n : ℕ) → b ≡ true → unless b n ≡ 0
 unfolding unless
@@ -33,6 +39,12 @@ pub first-none : (n : ℕ) (ns : List ℕ) → firstOf (n ∷ ns) ≡ 0 → (n �
 unfolding firstOf
 first-none zero ns h = (refl, h)
 first-none (suc n) ns h = absurd (omega arith)
+
+-- where no row of a list refuses, row i does not
+pub none-at : (ns : List ℕ) → firstOf ns ≡ 0 → (i : ℕ) → getD ns i 0 ≡ 0
+none-at [] h i = refl
+none-at (n ∷ ns) h zero = first-none n ns h .0
+none-at (n ∷ ns) h (suc i) = none-at ns (first-none n ns h .1) i
 
 pub none-first : (n : ℕ) (ns : List ℕ) → n ≡ 0 → firstOf ns ≡ 0 → firstOf (n ∷ ns) ≡ 0
 unfolding firstOf

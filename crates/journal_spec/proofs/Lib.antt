@@ -9,7 +9,7 @@ pub mod Sections
 pub mod Each
 pub mod Limits
 pub mod Records
-pub mod Offers
+pub mod SameRefusals
 pub mod Ranged
 -- scan and append
 pub mod Scanning
@@ -30,9 +30,9 @@ pub mod ShutOut
 pub mod EvenChance
 pub mod Examples
 -- for the proofs of code
-pub mod NumberLoop
+pub mod NumberFromBytes
 pub mod FieldAt
 pub mod SectionAt
 pub mod RecordsLoop
-pub mod OfferLoop
+pub mod RefusalFrom
 pub mod Writing

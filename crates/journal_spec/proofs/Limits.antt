@@ -7,7 +7,7 @@ use mathlib.Core.Bool.{Bool, true, false, _&&_}
 use native.Mathlib.Omega.{arith}
 use lib.ListN.{length, getD, length-append}
 use lib.Seq.{append-snoc, getD-at}
-use lib.Dec.{T}
+use lib.Dec.{T, eqb}
 use lib.Ieee.{Float, nan, inf, fin, binary64, toBits, fits, top}
 use lib.Ieee.Scale.{finite}
 use lib.Ieee.Fits.{add-fits}
@@ -65,6 +65,23 @@ unfolding judgeLimit finiteOrRefused
 judge-none nan bits h = absurd (omega arith)
 judge-none (inf s) bits h = absurd (omega arith)
 judge-none (fin s m e) bits h = (refl, eqb-true bits (toBits binary64 (fin s m e)) (unless-none _ 6 h))
+
+judged-worked : (x : Float) (bits : ℕ)
+    → judgeLimit (finiteOrRefused x) bits ≡ firstOf (unless (finite x) 8 ∷ unless (eqb bits (toBits binary64 x)) 7 ∷ [])
+unfolding judgeLimit finiteOrRefused unless firstOf
+judged-worked nan bits = refl
+judged-worked (inf s) bits = refl
+judged-worked (fin s m e) bits = alone (eqb bits (toBits binary64 (fin s m e)))
+  where
+    alone : (b : Bool) → unless b 7 ≡ firstOf (unless b 7 ∷ [])
+    alone true = unfold unless firstOf in refl
+    alone false = unfold unless firstOf in refl
+
+-- a limit's bits are judged as document 01 says: 8 where the limit worked out is not finite, and then 7 where the bits are not its own
+pub limit-judged : (times : List ℕ) (c bits : ℕ) → timesInRange times ≡ true → inRange minChance maxChance c ≡ true
+    → judgeLimit (limitOf times c) bits
+    ≡ firstOf (unless (finite (workedOut times c)) 8 ∷ unless (eqb bits (toBits binary64 (workedOut times c))) 7 ∷ [])
+limit-judged times c bits t e = ap (λ (r : LimitResult). judgeLimit r bits) (limit-worked times c t e) ∙ judged-worked (workedOut times c) bits
 
 -- ---- what fits 8 bytes
 

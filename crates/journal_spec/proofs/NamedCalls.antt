@@ -10,13 +10,13 @@ use lib.ListN.{length, take, getD, replicate, length-replicate, getD-replicate}
 use lib.Seq.{append-snoc}
 use lib.Ieee.Scale.{finite}
 use borrow.Author.Tests.{le-leb, lt-leb, lt-ltb}
-use Rattle.journal_spec.specs.Refusals.{roomRefusal}
+use Rattle.journal_spec.specs.Refusals.{roomRefusal, unless, firstOf}
 use Rattle.journal_spec.specs.Record.{Record, IsDay, lastOf, recordBytes}
 use Rattle.journal_spec.specs.Scan.{maxLength}
-use Rattle.journal_spec.specs.Append.{Offer, extended, declined}
-use Rattle.journal_spec.specs.Calls.{Call, callAppend, callAppendUpto}
-use Rattle.journal_spec.specs.Model.{Model, emptyModel, lengthsOf, committedOf, workedOut, recordFor, Entry, enterRecord, enterUnless, enter}
-use Rattle.journal_spec.specs.Model.{noRoom, modelRefusal, modelAfter}
+use Rattle.journal_spec.specs.Request.{Budget, all, upTo, Request, Offer, offerOf, allowed, extended, declined}
+use Rattle.journal_spec.specs.Calls.{Call}
+use Rattle.journal_spec.specs.Model.{Model, emptyModel, lengthsOf, committedOf, workedOut, recordFor, byNumber, verdictOf, Entry}
+use Rattle.journal_spec.specs.Model.{enterRecord, enterBy, enter, noRoom, modelRefusals, modelRefusal, modelAfter}
 use Rattle.journal_spec.specs.Ranges.{Accepted}
 use Rattle.journal_spec.proofs.EvenChance.{worked-finite}
 use Rattle.journal_spec.proofs.Records.{length-record}
@@ -24,19 +24,26 @@ use Rattle.journal_spec.proofs.Ranged.{passed, accepted-exactly}
 use Rattle.journal_spec.proofs.Placing.{lengths-snoc, lastOf-snoc}
 
 -- day 1, times 100 and 100, an even chance
+unfoldable pub request : ℕ → Budget → Request
+request n budget = record { day = 1; name = replicate n 0x41; chances = 500_000 ∷ []; times = 100 ∷ 100 ∷ []; budget = budget }
+
 unfoldable pub named : ℕ → Offer
 named n = record { day = 1; name = replicate n 0x41; chances = 500_000 ∷ []; times = 100 ∷ 100 ∷ [] }
 
-pub named-day : (n : ℕ) → IsDay (named n .day)
-unfolding named
-named-day n = omega arith
+pub request-day : (n : ℕ) (budget : Budget) → IsDay (request n budget .day)
+unfolding request
+request-day n budget = omega arith
 
--- append of such an offer, and the call with the budget k
-unfoldable pub appendNamed : ℕ → Call
-appendNamed n = callAppend (named n) (named-day n)
+-- a call of such a request
+unfoldable pub callNamed : ℕ → Budget → Call
+callNamed n budget = record { request = request n budget; dayFits = request-day n budget }
 
-unfoldable pub appendNamedUpto : ℕ → ℕ → Call
-appendNamedUpto n k = callAppendUpto (named n) (named-day n) k
+-- append, and the call with the budget k
+abbrev pub appendNamed : ℕ → Call
+appendNamed n = callNamed n all
+
+abbrev pub appendNamedUpto : ℕ → ℕ → Call
+appendNamedUpto n k = callNamed n (upTo k)
 
 -- its record takes 32 + n bytes
 pub named-length : (n : ℕ) → length (recordBytes (recordFor (named n))) ≡ 32 + n
@@ -113,19 +120,19 @@ pub record Early (room : ℕ) (m : Model) (ns : List ℕ) : Type 0 where
   pub fits : committedOf m + sizes ns ≤ room
   pub most : committedOf m + sizes ns ≤ maxLength
 
-entered : (room : ℕ) (m : Model) (n k : ℕ) → lastOf (m .records) .day ≤ 1 → 1 ≤ n → n ≤ 32
+entered : (room : ℕ) (m : Model) (n : ℕ) (budget : Budget) → lastOf (m .records) .day ≤ 1 → 1 ≤ n → n ≤ 32
     → committedOf m + (32 + n) ≤ room → committedOf m + (32 + n) ≤ maxLength
-    → enterUnless (modelRefusal room m (named n)) m (recordFor (named n)) k ≡ enterRecord m (recordFor (named n)) k
-unfolding enterUnless
-entered room m n k day least most fits fits′ = rw (accepted-exactly room m (named n) .1 (accepts room m n day least most fits fits′)) refl
+    → enter room m (callNamed n budget) ≡ enterRecord m (recordFor (named n)) (allowed budget (length (recordBytes (recordFor (named n)))))
+unfolding enter enterBy verdictOf byNumber callNamed request named offerOf
+entered room m n budget day least most fits fits′ = rw (accepted-exactly room m (named n) .1 (accepts room m n day least most fits fits′)) refl
 
 pub finished : (room : ℕ) (m : Model) (n : ℕ) → lastOf (m .records) .day ≤ 1 → 1 ≤ n → n ≤ 32
     → committedOf m + (32 + n) ≤ room → committedOf m + (32 + n) ≤ maxLength
     → enter room m (appendNamed n)
     ≡ record { answer = extended (committedOf m + (32 + n)); model = record { records = m .records ++ recordFor (named n) ∷ []; tail = [] } }
-unfolding enter appendNamed enterRecord
+unfolding allowed enterRecord
 finished room m n day least most fits fits′ =
-    entered room m n (length (recordBytes (recordFor (named n)))) day least most fits fits′
+    entered room m n all day least most fits fits′
     ∙ rw (le-leb (length (recordBytes (recordFor (named n)))) (length (recordBytes (recordFor (named n)))) (omega arith), named-length n) refl
 
 -- after finished appends the model holds their records
@@ -148,15 +155,15 @@ after-appends room rs (n ∷ ns) h =
 pub cut-short : (room : ℕ) (n k : ℕ) → 1 ≤ n → n ≤ 32 → k < 32 + n → 32 + n ≤ room
     → enter room emptyModel (appendNamedUpto n k)
     ≡ record { answer = extended k; model = record { records = []; tail = take k (recordBytes (recordFor (named n))) } }
-unfolding enter appendNamedUpto enterRecord emptyModel committedOf lengthsOf lastOf
+unfolding allowed enterRecord emptyModel committedOf lengthsOf lastOf
 cut-short room n k least most less fits =
-    entered room emptyModel n k (omega arith) least most (omega arith) (omega arith)
+    entered room emptyModel n (upTo k) (omega arith) least most (omega arith) (omega arith)
     ∙ rw (named-length n, lt-leb (32 + n) k less, zero-add k) refl
 
 -- no room is the refusal where nothing else is refused
 pub full : (room : ℕ) (m : Model) (n : ℕ) → lastOf (m .records) .day ≤ 1 → 1 ≤ n → n ≤ 32 → committedOf m + (32 + n) ≤ maxLength
     → room < committedOf m + (32 + n) → modelRefusal room m (named n) ≡ roomRefusal
-unfolding modelRefusal noRoom
+unfolding modelRefusal modelRefusals unless firstOf noRoom
 full room m n day least most fits less =
     let big : ℕ = committedOf m + (32 + n) in
     let p = passed big m (named n) (accepted-exactly big m (named n) .1 (accepts big m n day least most (omega arith) fits)) in
@@ -164,5 +171,5 @@ full room m n day least most fits less =
 
 -- what the model answers then
 pub turned-away : (room : ℕ) (m : Model) (n : ℕ) → modelRefusal room m (named n) ≡ roomRefusal → enter room m (appendNamed n) .answer ≡ declined roomRefusal
-unfolding enter appendNamed enterUnless
+unfolding enter enterBy verdictOf byNumber callNamed request named offerOf
 turned-away room m n e = rw e refl

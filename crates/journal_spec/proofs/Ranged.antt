@@ -4,7 +4,7 @@ use mathlib.Core.Path.{_≡_, refl, sym, ap, ap₂, _∙_}
 use mathlib.Core.Logic.{_↔_}
 use Prim.Native.Nat.{ℕ, zero, suc, _+_, _≤_, _<_}
 use mathlib.Core.List.{List, [], _∷_, map}
-use mathlib.Core.Bool.{Bool, true, false, cond, not, _&&_, _||_}
+use mathlib.Core.Bool.{Bool, true, false, _&&_, _||_}
 use native.Mathlib.Omega.{arith}
 use lib.ListN.{length, getD, length-map}
 use lib.Dec.{leb, ltb, eqb}
@@ -12,23 +12,24 @@ use lib.Ieee.{binary64, toBits}
 use lib.Ieee.Scale.{finite}
 use borrow.Author.Tests.{le-leb, leb-true, le-ltb, ltb-false, eq-eqb}
 use Rattle.limit.specs.Times.{minTicks, maxTicks, minCount, maxCount, inRange}
-use Rattle.limit.specs.Answer.{chanceRefusal, timesRefusal, finiteRefusal}
+use Rattle.limit.specs.Answer.{chanceRefusal, timesRefusal}
 use Rattle.limit.specs.Limit.{minChance, maxChance}
 use Rattle.limit.proofs.InRange as R
-use Rattle.journal_spec.specs.Refusals.{dayRefusal, nameRefusal, roomRefusal, limitRefusal, firstOf}
+use Rattle.journal_spec.specs.Refusals.{dayRefusal, nameRefusal, limitRefusal, unless, firstOf}
 use Rattle.journal_spec.specs.Section.{sectionRefusal}
 use Rattle.journal_spec.specs.Record.{Record, Last, IsDay, lastOf, theForm, judgeForm, judgeDay, limitSection, minName, maxName, minByte}
-use Rattle.journal_spec.specs.Record.{maxByte, minChances, maxChances, recordBytes}
+use Rattle.journal_spec.specs.Record.{maxByte, minChances, maxChances, recordReader, recordBytes}
 use Rattle.journal_spec.specs.Scan.{maxLength}
-use Rattle.journal_spec.specs.Append.{Offer}
+use Rattle.journal_spec.specs.Request.{Offer}
 use Rattle.journal_spec.specs.Model.{Model, committedOf, workedOut, recordFor, each, rising, dayFalls, nameGood, chancesGood, timesGood}
-use Rattle.journal_spec.specs.Model.{limitsGood, noRoom, modelRefusal}
+use Rattle.journal_spec.specs.Model.{limitsGood, noRoom, modelRefusals, modelRefusal}
 use Rattle.journal_spec.specs.Ranges.{NameRanges, ChanceRanges, TimeRanges, FiniteLimits, Accepted, RecordRanges}
-use Rattle.journal_spec.proofs.Judging.{unless-none, unless-true, first-none, none-first}
+use Rattle.journal_spec.proofs.Judging.{unless-none, unless-not, unless-true, first-none, none-at, none-first}
 use Rattle.journal_spec.proofs.Each.{each-holds, holds-each, each-range, range-each, rising-holds, holds-rising}
 use Rattle.journal_spec.proofs.Limits.{formulaBits, allFinite, times-good, limits-good, limits-exact}
-use Rattle.journal_spec.proofs.Records.{Good, limit-count, form-one}
-use Rattle.journal_spec.proofs.Offers.{name-refused, chance-refused, time-refused, chances-each}
+use Rattle.journal_spec.proofs.Reading.{Reads}
+use Rattle.journal_spec.proofs.Records.{Good, limit-count, form-one, record-length, reads-record}
+use Rattle.journal_spec.proofs.SameRefusals.{name-refused, chance-refused, time-refused, chances-each}
 
 -- ---- the sections
 
@@ -94,31 +95,21 @@ pub record Passed (room : ℕ) (m : Model) (o : Offer) : Type 0 where
   pub limits : limitsGood o ≡ true
   pub room′ : noRoom room m o ≡ false
 
-none-of : (d n c t l r : Bool)
-    → cond d dayRefusal
-    (cond (not n) nameRefusal
-    (cond (not c) chanceRefusal
-    (cond (not t) timesRefusal
-    (cond (not l) finiteRefusal
-    (cond r roomRefusal
-    0)))))
-    ≡ 0 → (d ≡ false) × (n ≡ true) × (c ≡ true) × (t ≡ true) × (l ≡ true) × (r ≡ false)
-none-of true n c t l r h = absurd (omega arith)
-none-of false false c t l r h = absurd (omega arith)
-none-of false true false t l r h = absurd (omega arith)
-none-of false true true false l r h = absurd (omega arith)
-none-of false true true true false r h = absurd (omega arith)
-none-of false true true true true true h = absurd (omega arith)
-none-of false true true true true false h = (refl, refl, refl, refl, refl, refl)
-
 pub passed : (room : ℕ) (m : Model) (o : Offer) → modelRefusal room m o ≡ 0 → Passed room m o
-unfolding modelRefusal
+unfolding modelRefusal modelRefusals
 passed room m o h =
-    let z = none-of (dayFalls m o) (nameGood (o .name)) (chancesGood (o .chances)) (timesGood (o .times)) (limitsGood o) (noRoom room m o) h in
-    record { day = z .0; name = z .1; chances = z .2; times = z .3; limits = z .4; room′ = z .5 }
+    let row = none-at (modelRefusals room m o) h in
+    record {
+      day = unless-not (dayFalls m o) 2 (row 0);
+      name = unless-none (nameGood (o .name)) 3 (row 1);
+      chances = unless-none (chancesGood (o .chances)) 4 (row 2);
+      times = unless-none (timesGood (o .times)) 5 (row 3);
+      limits = unless-none (limitsGood o) 7 (row 4);
+      room′ = unless-not (noRoom room m o) 8 (row 5);
+    }
 
 pub not-declined : (room : ℕ) (m : Model) (o : Offer) → Passed room m o → modelRefusal room m o ≡ 0
-unfolding modelRefusal
+unfolding modelRefusal modelRefusals unless firstOf
 not-declined room m o p = rw (p .day, p .name, p .chances, p .times, p .limits, p .room′) refl
 
 either : (a b : Bool) → (a || b) ≡ false → (a ≡ false) × (b ≡ false)
@@ -237,3 +228,11 @@ good-exactly last r = (
       (time-ranged (r .times) .1 (k .times)) (finite-ranged (r .times) (r .chances) .1 (k .finite))
       (formula-list (r .times) (r .chances) (r .limits) (k .limitCount) (k .limits)),
 )
+
+-- such a record is read back from its bytes, 33 to 652 of them
+module _ (last : Last) (r : Record) (keeps : RecordRanges last r) where
+  pub reads-back : Reads (recordReader last) (recordBytes r) r
+  reads-back = reads-record last r (good-exactly last r .1 keeps)
+
+  pub encoding-length : (33 ≤ length (recordBytes r)) × (length (recordBytes r) ≤ 652)
+  encoding-length = record-length last r (good-exactly last r .1 keeps)

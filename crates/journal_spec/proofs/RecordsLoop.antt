@@ -10,7 +10,7 @@ use Rattle.journal_spec.specs.Refusals.{absentRefusal}
 use Rattle.journal_spec.specs.Reader.{Found, found, fault, short, run}
 use Rattle.journal_spec.specs.Record.{Record, Last, lastOf, judgeForm, recordReader}
 use Rattle.journal_spec.specs.Scan.{maxLength, Placed, recordsOf, standing, faulty, contentsFrom, contentsOf}
-use Rattle.journal_spec.specs.Read.{noPart, partAt, unmarked, marked, markOf, markAt}
+use Rattle.journal_spec.specs.Read.{noPart, partAt, unmarked, markAt}
 use Rattle.journal_spec.proofs.Reading.{field-short, field-found, run-left}
 use Rattle.journal_spec.proofs.Scanning.{recordsOf-snoc, turn-short, turn-fault, turn-found, contents-fits}
 use Rattle.journal_spec.proofs.Placing.{lastOf-snoc}
@@ -116,19 +116,6 @@ unfolding partAt
 part-beyond [] i h = refl
 part-beyond (p ∷ ps) zero h = absurd (omega arith)
 part-beyond (p ∷ ps) (suc i) h = part-beyond ps i (omega arith)
-
-pub mark-before : (ps qs : List Placed) (i : ℕ) → i < length ps → markAt (ps ++ qs) i ≡ markAt ps i
-unfolding markAt
-mark-before [] qs i h = absurd (omega arith)
-mark-before (p ∷ ps) qs zero h = refl
-mark-before (p ∷ ps) qs (suc i) h = mark-before ps qs i (omega arith)
-
-pub mark-this : (ps : List Placed) (p : Placed) (i : ℕ) → i ≡ length ps → markAt (ps ++ p ∷ []) i ≡ marked (markOf (p .content .times))
-unfolding markAt
-mark-this [] p zero h = refl
-mark-this [] p (suc i) h = absurd (omega arith)
-mark-this (q ∷ ps) p zero h = absurd (omega arith)
-mark-this (q ∷ ps) p (suc i) h = mark-this ps p i (omega arith)
 
 pub mark-beyond : (ps : List Placed) (i : ℕ) → length ps ≤ i → markAt ps i ≡ unmarked absentRefusal
 unfolding markAt

@@ -1,34 +1,30 @@
 -- Any refusal writes no byte: a call that is declined, or that finds the journal damaged, leaves every byte of the slice and the length.
--- For every slice and length, whether or not a list of calls leads there. Assumes nothing.
-use mathlib.Core.Path.{_≡_, refl, sym}
+-- And reading refuses as scan does. For every slice and length, whether or not a list of calls leads there. Assumes nothing.
+use mathlib.Core.Path.{_≡_, refl, sym, ap}
 use Prim.Native.Nat.{ℕ, zero, suc}
-use mathlib.Core.List.{List}
+use mathlib.Core.List.{List, []}
 use mathlib.Core.Bool.{Bool, true, false, cond}
 use lib.Dec.{eqb}
 use native.Mathlib.Omega.{arith}
 use lib.ListN.{length}
 use Rattle.journal_spec.specs.Scan.{Placed, Contents, standing, faulty, contentsOf, statusOf, scanOf}
 use Rattle.journal_spec.specs.Scan as S
-use Rattle.journal_spec.specs.Append.{Offer, AppendResult, extended, declined, damaged, Outcome, unchanged, extend, settle, appendTo}
-use Rattle.journal_spec.specs.Append.{appendUpto}
+use Rattle.journal_spec.specs.Read.{noPart, partOf, partPlace, partBytes, readPart, unmarked, markIn, readMark}
+use Rattle.journal_spec.specs.Request.{Journal, Budget, Request, Offer, offerOf, AppendResult, extended, declined, damaged}
+use Rattle.journal_spec.specs.Append.{unchanged, extend, settle, appendTo, appendOf}
 
--- every byte and the length are as they were
-pub record Untouched (slice : List ℕ) (len : ℕ) (out : Outcome) : Type 0 where
-  pub sliceStays : out .slice ≡ slice
-  pub lengthStays : out .len ≡ len
-
--- the answer is a length, or nothing was touched
-settle-untouched : (n : ℕ) (slice : List ℕ) (len committed : ℕ) (new : List ℕ) (a : AppendResult)
-    → settle n slice len committed new .answer ≡ a → ((m : ℕ) → a ≡ extended m → ⊥) → Untouched slice len (settle n slice len committed new)
+-- the answer is a length, or nothing was touched: every byte and the length are as they were
+settle-untouched : (n : ℕ) (j : Journal) (committed : ℕ) (new : List ℕ) (a : AppendResult)
+    → settle n j committed new .answer ≡ a → ((m : ℕ) → a ≡ extended m → ⊥) → settle n j committed new .journal ≡ j
 unfolding settle extend unchanged
-settle-untouched zero slice len committed new a e other = absurd (other _ (sym e))
-settle-untouched (suc n) slice len committed new a e other = record { sliceStays = refl; lengthStays = refl }
+settle-untouched zero j committed new a e other = absurd (other _ (sym e))
+settle-untouched (suc n) j committed new a e other = refl
 
-untouched : (x : Contents) (slice : List ℕ) (len : ℕ) (o : Offer) (k : ℕ) (a : AppendResult)
-    → appendTo x slice len o k .answer ≡ a → ((m : ℕ) → a ≡ extended m → ⊥) → Untouched slice len (appendTo x slice len o k)
+untouched : (x : Contents) (j : Journal) (o : Offer) (budget : Budget) (a : AppendResult)
+    → appendTo x j o budget .answer ≡ a → ((m : ℕ) → a ≡ extended m → ⊥) → appendTo x j o budget .journal ≡ j
 unfolding appendTo unchanged
-untouched (faulty n p) slice len o k a e other = record { sliceStays = refl; lengthStays = refl }
-untouched (standing ps committed) slice len o k a e other = settle-untouched _ slice len committed _ a e other
+untouched (faulty n p) j o budget a e other = refl
+untouched (standing ps committed) j o budget a e other = settle-untouched _ j committed _ a e other
 
 -- scan says damaged exactly of faulty contents
 pub standing-not-damaged : (len : ℕ) (ps : List Placed) (committed n p : ℕ) → statusOf len (standing ps committed) ≡ S.damaged n p → ⊥
@@ -39,28 +35,41 @@ standing-not-damaged len ps committed n p h = go (eqb committed len) h
     go true h = let z : _≡_ {A = ℕ} 0 1 = cc in omega arith
     go false h = let z : _≡_ {A = ℕ} 0 1 = cc in omega arith
 
-fault-said : (len m q n p : ℕ) (slice : List ℕ) (o : Offer) (k : ℕ) → statusOf len (faulty m q) ≡ S.damaged n p
-    → appendTo (faulty m q) slice len o k .answer ≡ damaged n p
+fault-said : (len m q n p : ℕ) (j : Journal) (o : Offer) (budget : Budget) → statusOf len (faulty m q) ≡ S.damaged n p
+    → appendTo (faulty m q) j o budget .answer ≡ damaged n p
 unfolding statusOf appendTo unchanged
-fault-said len m q n p slice o k h =
+fault-said len m q n p j o budget h =
     let a : m ≡ n = cc in
     let b : q ≡ p = cc in
     rw (a, b) refl
 
-module _ (slice : List ℕ) (len : ℕ) (o : Offer) (k : ℕ) where
-  pub declined-untouched : (n : ℕ) → appendUpto slice len o k .answer ≡ declined n → Untouched slice len (appendUpto slice len o k)
-  unfolding appendUpto
-  declined-untouched n e = untouched (contentsOf slice len) slice len o k (declined n) e (λ m x. let z : _≡_ {A = ℕ} 0 1 = cc in omega arith)
+module _ (j : Journal) (q : Request) where
+  pub declined-untouched : (n : ℕ) → appendOf j q .answer ≡ declined n → appendOf j q .journal ≡ j
+  unfolding appendOf
+  declined-untouched n e = untouched _ j (offerOf q) (q .budget) (declined n) e (λ m x. let z : _≡_ {A = ℕ} 0 1 = cc in omega arith)
 
-  pub damaged-untouched : (n p : ℕ) → appendUpto slice len o k .answer ≡ damaged n p → Untouched slice len (appendUpto slice len o k)
-  unfolding appendUpto
-  damaged-untouched n p e = untouched (contentsOf slice len) slice len o k (damaged n p) e (λ m x. let z : _≡_ {A = ℕ} 0 1 = cc in omega arith)
+  pub damaged-untouched : (n p : ℕ) → appendOf j q .answer ≡ damaged n p → appendOf j q .journal ≡ j
+  unfolding appendOf
+  damaged-untouched n p e = untouched _ j (offerOf q) (q .budget) (damaged n p) e (λ m x. let z : _≡_ {A = ℕ} 0 1 = cc in omega arith)
 
   -- the journal's faults come first, as scan says them, whatever is offered
-  pub faults-first : (n p : ℕ) → scanOf slice len ≡ S.damaged n p → appendUpto slice len o k .answer ≡ damaged n p
-  unfolding scanOf appendUpto
-  faults-first n p h = go (contentsOf slice len) h
+  pub faults-first : (n p : ℕ) → scanOf (j .slice) (j .len) ≡ S.damaged n p → appendOf j q .answer ≡ damaged n p
+  unfolding scanOf appendOf
+  faults-first n p h = go (contentsOf (j .slice) (j .len)) h
     where
-      go : (x : Contents) → statusOf len x ≡ S.damaged n p → appendTo x slice len o k .answer ≡ damaged n p
-      go (standing ps committed) h = absurd (standing-not-damaged len ps committed n p h)
-      go (faulty m q) h = fault-said len m q n p slice o k h
+      go : (x : Contents) → statusOf (j .len) x ≡ S.damaged n p → appendTo x j (offerOf q) (q .budget) .answer ≡ damaged n p
+      go (standing ps committed) h = absurd (standing-not-damaged (j .len) ps committed n p h)
+      go (faulty m p′) h = fault-said (j .len) m p′ n p j (offerOf q) (q .budget) h
+
+-- reading refuses as scan does: an empty part, and the fault's number
+pub reading-refused : (slice : List ℕ) (len i n p : ℕ) → scanOf slice len ≡ S.damaged n p
+    → (readPart slice len i ≡ []) × (readMark slice len i ≡ unmarked n)
+unfolding scanOf readPart partPlace readMark
+reading-refused slice len i n p h = go (contentsOf slice len) h
+  where
+    number : (m q : ℕ) → statusOf len (faulty m q) ≡ S.damaged n p → markIn (faulty m q) i ≡ unmarked n
+    number m q h = unfold statusOf markIn in let e : m ≡ n = cc in ap unmarked e
+
+    go : (x : Contents) → statusOf len x ≡ S.damaged n p → (partBytes slice (partOf x i) ≡ []) × (markIn x i ≡ unmarked n)
+    go (standing ps committed) h = absurd (standing-not-damaged len ps committed n p h)
+    go (faulty m q) h = (unfold partBytes partOf noPart in refl, number m q h)

@@ -13,21 +13,17 @@ use Rattle.journal_spec.specs.Refusals.{lengthRefusal}
 use Rattle.journal_spec.specs.Reader.{found, fault, short, run}
 use Rattle.journal_spec.specs.Record.{Record, lastOf, recordReader, recordBytes, recordsBytes}
 use Rattle.journal_spec.specs.Scan.{maxLength, Placed, recordsOf, standing, faulty, contentsFrom, contentsOf}
+use Rattle.journal_spec.specs.Ranges.{RecordRanges, AllRanges}
 use Rattle.journal_spec.proofs.Reading.{field-short}
-use Rattle.journal_spec.proofs.Records.{Good, reads-record, record-length}
+use Rattle.journal_spec.proofs.Ranged.{reads-back, encoding-length}
 
 -- ---- journals
-
--- each record is one that nothing refuses after those before it
-abbrev pub Follow : List Record → List Record → Type 0
-Follow before [] = Unit {0}
-Follow before (r ∷ rs) = Good (lastOf before) r × Follow (before ++ r ∷ []) rs
 
 -- a torn tail after some records: in it the bytes run out before a record is whole, with no refusal in the fields that stand
 pub record Torn (before : List Record) (tail : List ℕ) : Type 0 where
   pub runsOut : (at : ℕ) → run (recordReader (lastOf before)) at tail ≡ short
 
-pub follow-snoc : (before rs : List Record) (r : Record) → Follow before rs → Good (lastOf (before ++ rs)) r → Follow before (rs ++ r ∷ [])
+pub follow-snoc : (before rs : List Record) (r : Record) → AllRanges before rs → RecordRanges (lastOf (before ++ rs)) r → AllRanges before (rs ++ r ∷ [])
 follow-snoc before [] r f g = (rw append-nil at g, tt)
 follow-snoc before (s ∷ rs) r f g = (f .0, follow-snoc (before ++ s ∷ []) rs r (f .1) (rw append-snoc g))
 
@@ -42,11 +38,11 @@ records-snoc [] r = append-nil (recordBytes r)
 records-snoc (s ∷ rs) r = rw (records-snoc rs r) (sym (append-assoc (recordBytes s) (recordsBytes rs) (recordBytes r)))
 
 -- a journal has no more records than bytes
-pub records-count : (before rs : List Record) → Follow before rs → length rs ≤ length (recordsBytes rs)
+pub records-count : (before rs : List Record) → AllRanges before rs → length rs ≤ length (recordsBytes rs)
 unfolding recordsBytes joined
 records-count before [] f = omega arith
 records-count before (r ∷ rs) f =
-    rw length-append (omega (arith, record-length (lastOf before) r (f .0), records-count (before ++ r ∷ []) rs (f .1)))
+    rw length-append (omega (arith, encoding-length (lastOf before) r (f .0), records-count (before ++ r ∷ []) rs (f .1)))
 
 -- the records in their places, from the place `at` on
 unfoldable pub placedFrom : ℕ → List Record → List Placed
@@ -70,7 +66,7 @@ length-placed at (r ∷ rs) = ap suc (length-placed (at + length (recordBytes r)
 -- ---- the scan
 
 pub contents-from : (more : ℕ) (ps : List Placed) (rs : List Record) (at : ℕ) (tail : List ℕ)
-    → Follow (recordsOf ps) rs → Torn (recordsOf ps ++ rs) tail → length rs ≤ more
+    → AllRanges (recordsOf ps) rs → Torn (recordsOf ps ++ rs) tail → length rs ≤ more
     → contentsFrom more ps at (recordsBytes rs ++ tail) ≡ standing (ps ++ placedFrom at rs) (at + length (recordsBytes rs))
 unfolding contentsFrom recordsBytes joined placedFrom
 contents-from zero ps [] at tail f t h = rw (append-nil, add-zero)
@@ -79,7 +75,7 @@ contents-from (suc more) ps [] at tail f t h = rw ((rw append-nil at t) .runsOut
 contents-from (suc more) ps (r ∷ rs) at tail f t h =
     let n : ℕ = length (recordBytes r) in
     let p : Placed = record { content = r; start = at; size = n } in
-    let read = reads-record (lastOf (recordsOf ps)) r (f .0) .on at (recordsBytes rs ++ tail) in
+    let read = reads-back (lastOf (recordsOf ps)) r (f .0) .on at (recordsBytes rs ++ tail) in
     let snoc : recordsOf (ps ++ p ∷ []) ≡ recordsOf ps ++ r ∷ [] = recordsOf-snoc ps p in
     rw append-assoc
     (rw (read, contentsFrom)
@@ -89,7 +85,7 @@ contents-from (suc more) ps (r ∷ rs) at tail f t h =
 
 -- a slice that holds records end to end and a torn tail, up to a length
 pub contents-of : (slice : List ℕ) (len : ℕ) (rs : List Record) (tail : List ℕ) → len ≤ length slice → len ≤ maxLength
-    → take len slice ≡ recordsBytes rs ++ tail → len ≡ length (recordsBytes rs ++ tail) → Follow [] rs → Torn rs tail
+    → take len slice ≡ recordsBytes rs ++ tail → len ≡ length (recordsBytes rs ++ tail) → AllRanges [] rs → Torn rs tail
     → contentsOf slice len ≡ standing (placedFrom 0 rs) (length (recordsBytes rs))
 unfolding contentsOf recordsOf
 contents-of slice len rs tail fits most bytes n f t =

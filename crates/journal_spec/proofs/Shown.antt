@@ -3,39 +3,35 @@
 use mathlib.Core.Path.{_≡_, refl, sym, ap, _∙_}
 use Prim.Native.Nat.{ℕ, zero, suc, _<_}
 use mathlib.Core.List.{List, [], _∷_, _++_, append-assoc, append-nil}
-use mathlib.Core.Bool.{Bool, true, false, cond}
+use mathlib.Core.Bool.{Bool, true, false, cond, _&&_}
 use native.Mathlib.Omega.{arith}
 use native.Mathlib.Nat.{zero-add}
 use lib.ListN.{getD, length}
-use lib.Dec.{leb, eqb}
-use borrow.Author.Tests.{ne-eqb}
+use lib.Dec.{leb}
 use Rattle.journal_spec.specs.Reader.{found, run}
 use Rattle.journal_spec.specs.Record.{Last, lastOf, recordReader}
 use Rattle.journal_spec.specs.Record.{Record, recordBytes}
 use Rattle.journal_spec.specs.Read.{readPart, readMark}
-use Rattle.journal_spec.specs.Calls.{operations, Call, callAppend, callAppendUpto, emptyIn, journalAfter}
-use Rattle.journal_spec.specs.Model.{Model, emptyModel, lengthsOf, committedOf, workedOut, recordFor, Entry, enterRecord, enterUnless, enter}
-use Rattle.journal_spec.specs.Model.{modelRefusal, modelAfter}
-use Rattle.journal_spec.specs.Shown.{offerOf, budgetOf, recordOf, finishes, finished, Given}
+use Rattle.journal_spec.specs.Calls.{operations, Call, emptyIn, journalAfter}
+use Rattle.journal_spec.specs.Model.{Model, emptyModel, lengthsOf, committedOf, workedOut, recordFor, Verdict, taken, turned, verdictOf, Entry}
+use Rattle.journal_spec.specs.Model.{enterRecord, enterBy, enter, modelAfter}
+use Rattle.journal_spec.specs.Shown.{offerBy, budgetOf, recordOf, isTaken, finishes, finished, Given}
 use Rattle.journal_spec.specs.Demand.{bytesAt, recordMark}
-use Rattle.journal_spec.proofs.Records.{Good, reads-record}
-use Rattle.journal_spec.proofs.Scanning.{Follow}
+use Rattle.journal_spec.specs.Ranges.{RecordRanges, AllRanges}
+use Rattle.journal_spec.proofs.Ranged.{reads-back}
 use Rattle.journal_spec.proofs.Demand.{start, after-all, agrees, held-mark, demand3}
 
--- ---- the calls, one by one
-
-pub enter-is : (room : ℕ) (m : Model) (c : Call) → enter room m c ≡ enterUnless (modelRefusal room m (offerOf c)) m (recordOf c) (budgetOf c)
-unfolding enter offerOf budgetOf recordOf
-enter-is room m (callAppend o fits) = refl
-enter-is room m (callAppendUpto o fits k) = refl
+pub enter-is : (room : ℕ) (m : Model) (c : Call) → enter room m c ≡ enterBy (verdictOf room m (c .request)) m (recordOf c) (budgetOf c)
+unfolding enter offerBy budgetOf recordOf
+enter-is room m c = refl
 
 -- ---- which records are shown
 
-records-entered : (n : ℕ) (m : Model) (r : Record) (k : ℕ)
-    → enterUnless n m r k .model .records ≡ m .records ++ cond (cond (eqb n 0) (leb (length (recordBytes r)) k) false) (r ∷ []) []
-unfolding enterUnless enterRecord
-records-entered (suc n) m r k = rw (ne-eqb (suc n) 0 (λ e. omega arith)) (sym (append-nil (m .records)))
-records-entered zero m r k = go (leb (length (recordBytes r)) k) refl
+records-entered : (v : Verdict) (m : Model) (r : Record) (k : ℕ)
+    → enterBy v m r k .model .records ≡ m .records ++ cond (isTaken v && leb (length (recordBytes r)) k) (r ∷ []) []
+unfolding enterBy enterRecord isTaken
+records-entered (turned answer) m r k = sym (append-nil (m .records))
+records-entered taken m r k = go (leb (length (recordBytes r)) k) refl
   where
     go : (b : Bool) → leb (length (recordBytes r)) k ≡ b → enterRecord m r k .model .records ≡ m .records ++ cond (leb (length (recordBytes r)) k) (r ∷ []) []
     go true e = rw e refl
@@ -47,7 +43,7 @@ unfolding modelAfter finished finishes
 records-are-finished room m [] = sym (append-nil (m .records))
 records-are-finished room m (c ∷ cs) =
     let one : enter room m c .model .records ≡ m .records ++ cond (finishes room m c) (recordOf c ∷ []) [] =
-    ap (λ (e : Entry). e .model .records) (enter-is room m c) ∙ records-entered (modelRefusal room m (offerOf c)) m (recordOf c) (budgetOf c) in
+    ap (λ (e : Entry). e .model .records) (enter-is room m c) ∙ records-entered (verdictOf room m (c .request)) m (recordOf c) (budgetOf c) in
     records-are-finished room (enter room m c .model) cs
     ∙ ap (λ (rs : List Record). rs ++ finished room (enter room m c .model) cs) one
     ∙ append-assoc (m .records) _ _
@@ -63,7 +59,7 @@ shown-bytes slice cs i below =
     demand3 slice cs .agrees .shown i (rw e below) ∙ rw e refl
 
 -- each has what the call offered, and the formula's bits for its limits
-pub shown-fields : (c : Call) → Given (offerOf c) (recordOf c)
+pub shown-fields : (c : Call) → Given (offerBy c) (recordOf c)
 unfolding recordOf recordFor workedOut
 shown-fields c = record { day = refl; name = refl; chances = refl; times = refl; limits = refl }
 
@@ -79,7 +75,7 @@ bytes-at [] i h = absurd (omega arith)
 bytes-at (r ∷ rs) zero h = refl
 bytes-at (r ∷ rs) (suc i) h = bytes-at rs i (omega arith)
 
-good-at : (before rs : List Record) (i : ℕ) → Follow before rs → i < length rs → (last : Last) × Good last (getD rs i blank)
+good-at : (before rs : List Record) (i : ℕ) → AllRanges before rs → i < length rs → (last : Last) × RecordRanges last (getD rs i blank)
 good-at before [] i f h = absurd (omega arith)
 good-at before (r ∷ rs) zero f h = (lastOf before, f .0)
 good-at before (r ∷ rs) (suc i) f h = good-at (before ++ r ∷ []) rs i (f .1) (omega arith)
@@ -142,7 +138,7 @@ pub record ShownRecord (slice : List ℕ) (cs : List Call) (i : ℕ) : Type 0 wh
   pub whole : finishes (length slice) (modelAfter (length slice) emptyModel before) call ≡ true
   pub place : i ≡ length (finished (length slice) emptyModel before)
   pub part : readPart (journalAfter operations (emptyIn slice) cs .slice) (journalAfter operations (emptyIn slice) cs .len) i ≡ recordBytes (recordOf call)
-  pub fields : Given (offerOf call) (recordOf call)
+  pub fields : Given (offerBy call) (recordOf call)
   pub last : Last
   pub reads : run (recordReader last) 0 (recordBytes (recordOf call)) ≡ found (recordOf call) (length (recordBytes (recordOf call))) []
 
@@ -151,12 +147,12 @@ unfolding emptyModel
 shown-record slice cs i h =
     let rs : List Record = finished (length slice) emptyModel cs in
     let f = finished-at (length slice) emptyModel cs i h in
-    let follow : Follow [] rs =
+    let follow : AllRanges [] rs =
     rw (records-are-finished (length slice) emptyModel cs)
     at (after-all (length slice) (emptyIn slice) emptyModel (start slice) cs .holds .follow) in
     let g = good-at [] rs i follow h in
-    let good : Good (g .0) (recordOf (f .call)) = rw (f .is) at (g .1) in
-    let on = reads-record (g .0) (recordOf (f .call)) good .on 0 [] in
+    let good : RecordRanges (g .0) (recordOf (f .call)) = rw (f .is) at (g .1) in
+    let on = reads-back (g .0) (recordOf (f .call)) good .on 0 [] in
     record {
       before = f .before;
       call = f .call;

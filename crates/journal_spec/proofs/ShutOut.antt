@@ -10,13 +10,13 @@ use Rattle.journal_spec.specs.Bytes.{bytesOf, joined}
 use Rattle.journal_spec.specs.Refusals.{roomRefusal}
 use Rattle.journal_spec.specs.Record.{Record, lastOf, recordBytes, recordsBytes}
 use Rattle.journal_spec.specs.Scan.{maxLength, ScanResult, whole, torn, damaged}
-use Rattle.journal_spec.specs.Append.{Offer, AppendResult, extended, declined}
-use Rattle.journal_spec.specs.Calls.{Operations, Call, Journal, emptyIn, perform, journalOf, journalAfter}
+use Rattle.journal_spec.specs.Request.{Journal, all, Request, AppendResult, extended, declined}
+use Rattle.journal_spec.specs.Calls.{Operations, Call, emptyIn, perform, journalAfter}
 use Rattle.journal_spec.specs.Calls.{answersOf}
 use Rattle.journal_spec.specs.Model.{Model, emptyModel, lengthsOf, committedOf, recordFor, Entry, enter}
 use Rattle.journal_spec.specs.Model.{modelRefusal, modelAfter, modelAnswers}
 use Rattle.journal_spec.specs.Demand.{modelScan, bytesAt, Agrees, Demand3}
-use Rattle.journal_spec.proofs.NamedCalls.{named, appendNamed, appendNamedUpto, named-length, sizes, namedRecords, Names}
+use Rattle.journal_spec.proofs.NamedCalls.{request, named, callNamed, appendNamed, appendNamedUpto, named-length, sizes, namedRecords, Names}
 use Rattle.journal_spec.proofs.NamedCalls.{lengths-named, appends, finished, after-appends, cut-short, full, turned-away}
 
 -- the number of records that an answer of scan gives
@@ -75,13 +75,13 @@ module _ (ops : Operations) (holds : Demand3 ops) where
   answered room cs = rw (length-replicate {A = ℕ} room 0) at (holds (zeros room) cs .answers)
 
   -- an append that always declines
-  pub declines-all : ((slice : List ℕ) (len : ℕ) (o : Offer) → (n : ℕ) × (ops .append slice len o .answer ≡ declined n)) → ⊥
-  unfolding answersOf modelAnswers perform appendNamed emptyIn emptyModel committedOf lengthsOf lastOf firstAnswer
+  pub declines-all : ((j : Journal) (q : Request) → (n : ℕ) × (ops .append j q .answer ≡ declined n)) → ⊥
+  unfolding answersOf modelAnswers perform callNamed emptyIn emptyModel committedOf lengthsOf lastOf firstAnswer
   declines-all always =
       let a = answered 33 (appendNamed 1 ∷ []) in
-      let e : ops .append (zeros 33) 0 (named 1) .answer ≡ enter 33 emptyModel (appendNamed 1) .answer = ap firstAnswer a in
+      let e : ops .append (emptyIn (zeros 33)) (request 1 all) .answer ≡ enter 33 emptyModel (appendNamed 1) .answer = ap firstAnswer a in
       let f = finished 33 emptyModel 1 (omega arith) (omega arith) (omega arith) (omega arith) (omega arith) in
-      let d = always (zeros 33) 0 (named 1) in
+      let d = always (emptyIn (zeros 33)) (request 1 all) in
       let x : declined (d .0) ≡ extended 33 = sym (d .1) ∙ e ∙ ap (λ (y : Entry). y .answer) f in
       let z : _≡_ {A = ℕ} 0 1 = cc in
       omega arith
@@ -96,11 +96,11 @@ module _ (ops : Operations) (holds : Demand3 ops) where
       omega arith
 
   -- an append that hands back a length and writes nothing
-  pub writes-nothing : ((slice : List ℕ) (len : ℕ) (o : Offer) → ops .append slice len o .slice ≡ slice) → ⊥
-  unfolding sizes journalAfter perform appendNamed emptyIn journalOf
+  pub writes-nothing : ((j : Journal) (q : Request) → ops .append j q .journal .slice ≡ j .slice) → ⊥
+  unfolding sizes journalAfter perform callNamed emptyIn
   writes-nothing never =
       let a = appended 33 (1 ∷ []) (omega arith, omega arith, tt) (omega arith) (omega arith) in
-      let e : take 33 (zeros 33) ≡ recordsBytes (namedRecords (1 ∷ [])) = ap (take 33) (sym (never (zeros 33) 0 (named 1))) ∙ a .bytes in
+      let e : take 33 (zeros 33) ≡ recordsBytes (namedRecords (1 ∷ [])) = ap (take 33) (sym (never (emptyIn (zeros 33)) (request 1 all))) ∙ a .bytes in
       let z : _≡_ {A = ℕ} 0 1 = ap (λ (l : List ℕ). getD l 0 0) e ∙ unfold recordsBytes namedRecords recordBytes joined bytesOf recordFor in refl in
       omega arith
 
@@ -209,14 +209,14 @@ module _ (ops : Operations) (holds : Demand3 ops) where
       ∙ ap (λ (x : Entry). x .answer) (finished 65 cutModel 1 (omega arith) (omega arith) (omega arith) (omega arith) (omega arith))
 
   -- no room, or room, said of a journal that nobody read: from its length and the slice's length alone
-  pub says-no-room-unread : (f : ℕ → ℕ → Offer → AppendResult)
-      → ((slice : List ℕ) (len : ℕ) (o : Offer) → ops .append slice len o .answer ≡ f (length slice) len o) → ⊥
-  unfolding perform appendNamed sizes
+  pub says-no-room-unread : (f : ℕ → ℕ → Request → AppendResult)
+      → ((j : Journal) (q : Request) → ops .append j q .answer ≡ f (length (j .slice)) (j .len) q) → ⊥
+  unfolding perform callNamed sizes
   says-no-room-unread f only =
       let m : length (journal 65 (appends (1 ∷ [])) .slice) ≡ 65 = agreed 65 (appends (1 ∷ [])) .sliceLength in
       let n : length (journal 65 (cutCall ∷ []) .slice) ≡ 65 = agreed 65 (cutCall ∷ []) .sliceLength in
-      let a : f 65 33 (named 1) ≡ declined roomRefusal = rw (m, whole-first .len) at (sym (only _ _ (named 1)) ∙ after-whole) in
-      let b : f 65 33 (named 1) ≡ extended 33 = rw (n, cut-len) at (sym (only _ _ (named 1)) ∙ after-cut) in
+      let a : f 65 33 (request 1 all) ≡ declined roomRefusal = rw (m, whole-first .len) at (sym (only _ (request 1 all)) ∙ after-whole) in
+      let b : f 65 33 (request 1 all) ≡ extended 33 = rw (n, cut-len) at (sym (only _ (request 1 all)) ∙ after-cut) in
       let x : declined roomRefusal ≡ extended 33 = sym a ∙ b in
       let z : _≡_ {A = ℕ} 0 1 = cc in
       omega arith

@@ -1,29 +1,32 @@
--- Every refusal is a number of document 01's table: scan's are 1 to 8 and an append declines by 3 to 9, whatever the bytes and the offer.
+-- Every refusal is a number of document 01's table: scan's and append's, whatever the bytes and the offer.
 -- Assumes nothing.
 use mathlib.Core.Path.{_≡_, refl, sym, ap, _∙_}
-use Prim.Native.Nat.{ℕ, zero, suc, _+_, _-_, _≤_, min}
+use mathlib.Core.Logic.{_⊎_, inl, inr, ⊎-elim, _↔_}
+use Prim.Native.Nat.{ℕ, zero, suc, _+_, _-_, _≤_, _<_, min}
 use mathlib.Core.List.{List, [], _∷_, _++_}
-use mathlib.Core.Bool.{Bool, true, false, cond}
+use mathlib.Core.Bool.{Bool, true, false, cond, _||_}
 use native.Mathlib.Omega.{arith}
 use lib.ListN.{length, take, drop, getD, length-drop}
-use lib.Dec.{leb}
+use lib.Dec.{leb, eqb}
+use borrow.Author.Tests.{eqb-true}
 use Rattle.limit.specs.Answer.{LimitResult, limited, refused}
 use Rattle.limit.specs.Limit.{limitOf}
+use Rattle.limit.proofs.InRange as R
 use Rattle.journal_spec.specs.Bytes.{valueOf}
-use Rattle.journal_spec.specs.Refusals.{unless, outside, firstOf}
+use Rattle.journal_spec.specs.Refusals.{unless, outside, among, firstOf}
 use Rattle.journal_spec.specs.Reader.{Reader, done, field, then, Found, found, fault, short, run}
 use Rattle.journal_spec.specs.Section.{Section, items, section}
 use Rattle.journal_spec.specs.Record.{Record, Last, lastOf, judgeForm, judgeDay, judgeChance, judgeLimit, nameSection, chanceSection}
 use Rattle.journal_spec.specs.Record.{timeSection, limitSection, recordReader}
 use Rattle.journal_spec.specs.Scan.{maxLength, Placed, recordsOf, Contents, standing, faulty, contentsFrom, contentsOf, statusOf, scanOf}
 use Rattle.journal_spec.specs.Scan as S
-use Rattle.journal_spec.specs.Append.{Offer, declined, judgeWorked, limitsRefusal, judgeRoom, offerRefusal, appendRefusal, unchanged, extend}
-use Rattle.journal_spec.specs.Append.{settle, appendTo, appendUpto}
-use Rattle.journal_spec.specs.Model.{nameGood, chancesGood, timesGood}
-use Rattle.journal_spec.proofs.Reading.{field-cases, run-left}
-use Rattle.journal_spec.proofs.Scanning.{turn-short, turn-fault, turn-found}
+use Rattle.journal_spec.specs.Request.{Journal, Budget, Request, Offer, offerOf, declined}
+use Rattle.journal_spec.specs.Append.{judgeWorked, limitsRefusal, judgeRoom, appendRefusal, unchanged, extend, settle, appendTo, appendOf}
+use Rattle.journal_spec.specs.Model.{each, nameGood, chancesGood, timesGood}
+use Rattle.journal_spec.proofs.Reading.{by-order, field-cases, run-left}
+use Rattle.journal_spec.proofs.Scanning.{contents-fits, contents-long, turn-short, turn-fault, turn-found}
 use Rattle.journal_spec.proofs.Refused.{standing-not-damaged}
-use Rattle.journal_spec.proofs.Offers.{name-refused, chance-refused, time-refused}
+use Rattle.journal_spec.proofs.SameRefusals.{name-refused, chance-refused, time-refused}
 
 -- ---- what a reader can refuse by
 
@@ -60,42 +63,65 @@ faults-section P s f g = (f, λ n. faults-items P (s .width) (s .item) g n [])
 
 -- ---- the record's
 
--- one of 2 to 8
+-- the number is one of the table's
+abbrev pub Among : List ℕ → ℕ → Type 0
+Among table n = among table n ≡ true
+
+-- the numbers of a record that is read, in the order in which they are judged
+abbrev pub recordNumbers : List ℕ
+recordNumbers = 2 ∷ 3 ∷ 4 ∷ 5 ∷ 6 ∷ 7 ∷ 8 ∷ []
+
 abbrev pub OfRecord : ℕ → Type 0
-OfRecord n = (2 ≤ n) × (n ≤ 8)
+OfRecord = Among recordNumbers
 
 pub unless-number : (b : Bool) (m n : ℕ) → unless b m ≡ suc n → suc n ≡ m
 unfolding unless
 unless-number true m n h = absurd (omega arith)
 unless-number false m n h = sym h
 
-limit-number : (r : LimitResult) (bits n : ℕ) → judgeLimit r bits ≡ suc n → OfRecord (suc n)
-unfolding judgeLimit
-limit-number (limited x) bits n h = let e = unless-number _ 7 n h in (omega arith, omega arith)
-limit-number (refused m) bits n h = (omega arith, omega arith)
+-- a refusal of the one number m, which is of the table
+only : (table : List ℕ) (b : Bool) (m n : ℕ) → Among table m → unless b m ≡ suc n → Among table (suc n)
+only table b m n known h = rw (unless-number b m n h) known
 
--- a refusal of the one number m, which is of a record's
-only : (b : Bool) (m n : ℕ) → 2 ≤ m → m ≤ 8 → unless b m ≡ suc n → OfRecord (suc n)
-only b m n least most h = let e = unless-number b m n h in (omega arith, omega arith)
+-- a first refusal is one of its list
+first-number : (P : ℕ → Type 0) (a : ℕ) (ns : List ℕ) (n : ℕ) → ((m : ℕ) → a ≡ suc m → P (suc m))
+    → ((m : ℕ) → firstOf ns ≡ suc m → P (suc m)) → firstOf (a ∷ ns) ≡ suc n → P (suc n)
+unfolding firstOf
+first-number P zero ns n f g h = g n h
+first-number P (suc m) ns n f g h = rw h at (f m refl)
+
+-- every row refuses by a number with the property P
+abbrev pub Rows : (ℕ → Type 0) → List ℕ → Type 0
+Rows P [] = Unit {0}
+Rows P (a ∷ ns) = ((m : ℕ) → a ≡ suc m → P (suc m)) × Rows P ns
+
+one-of : (P : ℕ → Type 0) (ns : List ℕ) → Rows P ns → (n : ℕ) → firstOf ns ≡ suc n → P (suc n)
+one-of P [] rows n h = unfold firstOf in absurd (omega arith)
+one-of P (a ∷ ns) rows n h = first-number P a ns n (rows .0) (one-of P ns (rows .1)) h
+
+limit-number : (r : LimitResult) (bits n : ℕ) → judgeLimit r bits ≡ suc n → OfRecord (suc n)
+unfolding judgeLimit among
+limit-number (limited x) bits n h = only recordNumbers _ 7 n refl h
+limit-number (refused m) bits n h = rw (← h) refl
 
 pub record-faults : (last : Last) → Faults OfRecord (recordReader last)
-unfolding recordReader judgeForm judgeDay nameSection chanceSection judgeChance timeSection limitSection outside
+unfolding recordReader judgeForm judgeDay nameSection chanceSection judgeChance timeSection limitSection outside among
 record-faults last = (
-  λ v n h. only _ 2 n (omega arith) (omega arith) h,
+  λ v n h. only recordNumbers _ 2 n refl h,
   λ form. (
-    λ v n h. only _ 3 n (omega arith) (omega arith) h,
+    λ v n h. only recordNumbers _ 3 n refl h,
     λ day.
         faults-then OfRecord (section nameSection) _
-        (faults-section OfRecord nameSection (λ v n h. only _ 4 n (omega arith) (omega arith) h) (λ before v n h. only _ 4 n (omega arith) (omega arith) h))
+        (faults-section OfRecord nameSection (λ v n h. only recordNumbers _ 4 n refl h) (λ before v n h. only recordNumbers _ 4 n refl h))
         (λ name.
         faults-then OfRecord (section chanceSection) _
-        (faults-section OfRecord chanceSection (λ v n h. only _ 5 n (omega arith) (omega arith) h) (λ before v n h. only _ 5 n (omega arith) (omega arith) h))
+        (faults-section OfRecord chanceSection (λ v n h. only recordNumbers _ 5 n refl h) (λ before v n h. only recordNumbers _ 5 n refl h))
         (λ chances.
         faults-then OfRecord (section timeSection) _
-        (faults-section OfRecord timeSection (λ v n h. only _ 6 n (omega arith) (omega arith) h) (λ before v n h. only _ 6 n (omega arith) (omega arith) h))
+        (faults-section OfRecord timeSection (λ v n h. only recordNumbers _ 6 n refl h) (λ before v n h. only recordNumbers _ 6 n refl h))
         (λ times.
         faults-then OfRecord (section (limitSection chances times)) _
-        (faults-section OfRecord (limitSection chances times) (λ v n h. only _ 7 n (omega arith) (omega arith) h)
+        (faults-section OfRecord (limitSection chances times) (λ v n h. only recordNumbers _ 7 n refl h)
         (λ before v n h. limit-number (limitOf times (getD chances (length before) 0)) v n h))
         (λ limits. tt)))),
   ),
@@ -142,97 +168,135 @@ contents-fault zero ps at bs n p h = unfold contentsFrom in let z : _≡_ {A = �
 contents-fault (suc more) ps at bs n p h =
     by-found more n p (λ qs e rest. contents-fault more qs e rest n p) ps at bs h (run (recordReader (lastOf (recordsOf ps))) at bs) refl
 
+one-more : (m : ℕ) (table : List ℕ) (n : ℕ) → Among table n → Among (m ∷ table) n
+unfolding among
+one-more m table n h = go (eqb m n)
+  where
+    go : (b : Bool) → (b || among table n) ≡ true
+    go true = refl
+    go false = h
+
 contents-number : (more : ℕ) (ps : List Placed) (at : ℕ) (bs : List ℕ) (n p : ℕ) → contentsFrom more ps at bs ≡ faulty n p → OfRecord n
 contents-number more ps at bs n p h =
     let f = contents-fault more ps at bs n p h in
     fault-known OfRecord (recordReader (f .last)) (record-faults (f .last)) (f .start) (f .rest) n p (f .ran)
 
--- document 01's numbers of a damaged journal: 1 to 8
-pub scan-number : (slice : List ℕ) (len n p : ℕ) → scanOf slice len ≡ S.damaged n p → (1 ≤ n) × (n ≤ 8)
+-- the numbers of a damaged journal: 1, and those of a record
+pub scan-number : (slice : List ℕ) (len n p : ℕ) → scanOf slice len ≡ S.damaged n p → Among (1 ∷ recordNumbers) n
 unfolding scanOf
 scan-number slice len n p h = by-contents (contentsOf slice len) refl h
   where
-    by-length : (t : Bool) (m q : ℕ) → cond t (contentsFrom len [] 0 (take len slice)) (faulty 1 0) ≡ faulty m q → (1 ≤ m) × (m ≤ 8)
-    by-length true m q e = let r = contents-number len [] 0 (take len slice) m q e in (omega (arith, r), omega (arith, r))
-    by-length false m q e = let z : 1 ≡ m = cc in (omega arith, omega arith)
+    by-length : (t : Bool) (m q : ℕ) → cond t (contentsFrom len [] 0 (take len slice)) (faulty 1 0) ≡ faulty m q → Among (1 ∷ recordNumbers) m
+    by-length true m q e = one-more 1 recordNumbers m (contents-number len [] 0 (take len slice) m q e)
+    by-length false m q e = let z : 1 ≡ m = cc in rw (← z) (unfold among in refl)
 
-    by-contents : (x : Contents) → contentsOf slice len ≡ x → statusOf len x ≡ S.damaged n p → (1 ≤ n) × (n ≤ 8)
+    by-contents : (x : Contents) → contentsOf slice len ≡ x → statusOf len x ≡ S.damaged n p → Among (1 ∷ recordNumbers) n
     by-contents (standing ps committed) e h = absurd (standing-not-damaged len ps committed n p h)
     by-contents (faulty m q) e h =
         unfold statusOf in
         let same : m ≡ n = cc in
         rw same at (by-length (leb len (min (length slice) maxLength)) m q (unfold contentsOf in e))
 
+-- each number of a table passes a test that all of it passes
+pub among-each : (test : ℕ → Bool) (table : List ℕ) (n : ℕ) → each test table ≡ true → Among table n → test n ≡ true
+unfolding each among
+among-each test [] n h a = let z : _≡_ {A = ℕ} 0 1 = cc in absurd (omega arith)
+among-each test (m ∷ ms) n h a = go (among-each test ms n (R.second-of (test m) (each test ms) h)) (eqb m n) refl
+  where
+    go : (Among ms n → test n ≡ true) → (b : Bool) → eqb m n ≡ b → test n ≡ true
+    go later true e = rw (eqb-true m n e) at (R.first-of (test m) (each test ms) h)
+    go later false e = later (rw e at a)
+
+not-one : OfRecord 1 → ⊥
+unfolding among
+not-one h = let z : _≡_ {A = ℕ} 0 1 = cc in omega arith
+
+-- 1, at place 0, exactly if the length is beyond the slice or 65,536
+pub length-exactly : (slice : List ℕ) (len : ℕ) → (scanOf slice len ≡ S.damaged 1 0) ↔ ((length slice < len) ⊎ (65_536 < len))
+unfolding scanOf
+length-exactly slice len = (λ h. beyond (contentsOf slice len) refl h, λ b. ⊎-elim (λ h. long (omega arith)) (λ h. long (omega arith)) b)
+  where
+    long : min (length slice) maxLength < len → statusOf len (contentsOf slice len) ≡ S.damaged 1 0
+    long h = rw (contents-long slice len h) (unfold statusOf in refl)
+
+    inside : (x : Contents) → contentsFrom len [] 0 (take len slice) ≡ x → statusOf len x ≡ S.damaged 1 0 → ⊥
+    inside (standing ps committed) e h = standing-not-damaged len ps committed 1 0 h
+    inside (faulty n p) e h =
+        let one : n ≡ 1 = unfold statusOf in cc in
+        not-one (rw one at (contents-number len [] 0 (take len slice) n p e))
+
+    beyond : (x : Contents) → contentsOf slice len ≡ x → statusOf len x ≡ S.damaged 1 0 → (length slice < len) ⊎ (65_536 < len)
+    beyond x e h =
+        by-order len (length slice)
+        (λ fits.
+        by-order len 65_536 (λ few. absurd (inside x (sym (contents-fits slice len fits few) ∙ e) h)) (λ many. inr many))
+        (λ more. inl more)
+
 -- ---- append's
 
--- a first refusal is one of its list
-first-number : (P : ℕ → Type 0) (a : ℕ) (ns : List ℕ) (n : ℕ) → ((m : ℕ) → a ≡ suc m → P (suc m))
-    → ((m : ℕ) → firstOf ns ≡ suc m → P (suc m)) → firstOf (a ∷ ns) ≡ suc n → P (suc n)
-unfolding firstOf
-first-number P zero ns n f g h = g n h
-first-number P (suc m) ns n f g h = rw h at (f m refl)
+-- the numbers of a declined append, in the order in which they are judged (7 is none of them: an offer's limits are worked out, not given)
+abbrev pub appendNumbers : List ℕ
+appendNumbers = 3 ∷ 4 ∷ 5 ∷ 6 ∷ 8 ∷ 9 ∷ []
 
--- one of 3 to 9
 abbrev pub OfOffer : ℕ → Type 0
-OfOffer n = (3 ≤ n) × (n ≤ 9)
-
-offered-only : (b : Bool) (m n : ℕ) → 3 ≤ m → m ≤ 9 → unless b m ≡ suc n → OfOffer (suc n)
-offered-only b m n least most h = let e = unless-number b m n h in (omega arith, omega arith)
-
-none : (n : ℕ) → firstOf [] ≡ suc n → OfOffer (suc n)
-unfolding firstOf
-none n h = absurd (omega arith)
+OfOffer = Among appendNumbers
 
 worked-number : (r : LimitResult) (n : ℕ) → judgeWorked r ≡ suc n → OfOffer (suc n)
-unfolding judgeWorked
+unfolding judgeWorked among
 worked-number (limited x) n h = absurd (omega arith)
-worked-number (refused m) n h = (omega arith, omega arith)
+worked-number (refused m) n h = rw (← h) refl
 
 limits-number : (times chances : List ℕ) (n : ℕ) → limitsRefusal times chances ≡ suc n → OfOffer (suc n)
 unfolding limitsRefusal
-limits-number times [] n h = none n h
+limits-number times [] n h = unfold firstOf in absurd (omega arith)
 limits-number times (c ∷ cs) n h = first-number OfOffer _ _ n (λ m e. worked-number (limitOf times c) m e) (λ m e. limits-number times cs m e) h
 
-offer-number : (last : Last) (o : Offer) (n : ℕ) → offerRefusal last o ≡ suc n → OfOffer (suc n)
-unfolding offerRefusal judgeDay
-offer-number last o n h =
-    first-number OfOffer _ _ n (λ m e. offered-only _ 3 m (omega arith) (omega arith) e)
-    (λ m e. first-number OfOffer _ _ m (λ k d. offered-only (nameGood (o .name)) 4 k (omega arith) (omega arith) (sym (name-refused (o .name)) ∙ d))
-    (λ k d. first-number OfOffer _ _ k (λ i x. offered-only (chancesGood (o .chances)) 5 i (omega arith) (omega arith) (sym (chance-refused (o .chances)) ∙ x))
-    (λ i x. first-number OfOffer _ _ i (λ l y. offered-only (timesGood (o .times)) 6 l (omega arith) (omega arith) (sym (time-refused (o .times)) ∙ y))
-    (λ l y. first-number OfOffer _ _ l (limits-number (o .times) (o .chances)) none y)
-    x) d) e) h
-
 append-number : (room : ℕ) (last : Last) (committed : ℕ) (o : Offer) (n : ℕ) → appendRefusal room last committed o ≡ suc n → OfOffer (suc n)
-unfolding appendRefusal judgeRoom
-append-number room last committed o n h =
-    first-number OfOffer _ _ n (offer-number last o)
-    (λ m e. first-number OfOffer _ _ m (λ k d. offered-only _ 9 k (omega arith) (omega arith) d) none e) h
+unfolding appendRefusal judgeDay judgeRoom among
+append-number room last committed o = one-of OfOffer _ (
+  λ n e. only appendNumbers _ 3 n refl e,
+  (
+    λ n e. only appendNumbers (nameGood (o .name)) 4 n refl (sym (name-refused (o .name)) ∙ e),
+    (
+      λ n e. only appendNumbers (chancesGood (o .chances)) 5 n refl (sym (chance-refused (o .chances)) ∙ e),
+      (
+        λ n e. only appendNumbers (timesGood (o .times)) 6 n refl (sym (time-refused (o .times)) ∙ e),
+        (
+          limits-number (o .times) (o .chances),
+          (
+            λ n e. only appendNumbers _ 9 n refl e,
+            tt,
+          ),
+        ),
+      ),
+    ),
+  ),
+)
 
-extended-not-declined : (slice : List ℕ) (len committed : ℕ) (new : List ℕ) (n : ℕ) → settle 0 slice len committed new .answer ≡ declined n → ⊥
+extended-not-declined : (j : Journal) (committed : ℕ) (new : List ℕ) (n : ℕ) → settle 0 j committed new .answer ≡ declined n → ⊥
 unfolding settle extend
-extended-not-declined slice len committed new n e = let z : _≡_ {A = ℕ} 0 1 = cc in omega arith
+extended-not-declined j committed new n e = let z : _≡_ {A = ℕ} 0 1 = cc in omega arith
 
-declined-same : (m : ℕ) (slice : List ℕ) (len committed : ℕ) (new : List ℕ) (n : ℕ)
-    → settle (suc m) slice len committed new .answer ≡ declined n → suc m ≡ n
+declined-same : (m : ℕ) (j : Journal) (committed : ℕ) (new : List ℕ) (n : ℕ) → settle (suc m) j committed new .answer ≡ declined n → suc m ≡ n
 unfolding settle unchanged
-declined-same m slice len committed new n e = cc
+declined-same m j committed new n e = cc
 
-damaged-not-declined : (m p : ℕ) (slice : List ℕ) (len : ℕ) (o : Offer) (k n : ℕ) → appendTo (faulty m p) slice len o k .answer ≡ declined n → ⊥
+damaged-not-declined : (m p : ℕ) (j : Journal) (o : Offer) (budget : Budget) (n : ℕ) → appendTo (faulty m p) j o budget .answer ≡ declined n → ⊥
 unfolding appendTo unchanged
-damaged-not-declined m p slice len o k n e = let z : _≡_ {A = ℕ} 0 1 = cc in omega arith
+damaged-not-declined m p j o budget n e = let z : _≡_ {A = ℕ} 0 1 = cc in omega arith
 
--- document 01's numbers of a declined append: 3 to 9 (7 is no refusal of an offer: its limits are worked out and not given)
-pub declined-number : (slice : List ℕ) (len : ℕ) (o : Offer) (k n : ℕ) → appendUpto slice len o k .answer ≡ declined n → OfOffer n
-unfolding appendUpto
-declined-number slice len o k n h = by-contents (contentsOf slice len) h
+-- a declined append's number is one of them
+pub declined-number : (j : Journal) (q : Request) (n : ℕ) → appendOf j q .answer ≡ declined n → OfOffer n
+unfolding appendOf
+declined-number j q n h = by-contents (contentsOf (j .slice) (j .len)) h
   where
-    by-refusal : (m committed : ℕ) (new : List ℕ) → ((i : ℕ) → m ≡ suc i → OfOffer (suc i)) → settle m slice len committed new .answer ≡ declined n → OfOffer n
-    by-refusal zero committed new f e = absurd (extended-not-declined slice len committed new n e)
-    by-refusal (suc m) committed new f e = rw (declined-same m slice len committed new n e) at (f m refl)
+    by-refusal : (m committed : ℕ) (new : List ℕ) → ((i : ℕ) → m ≡ suc i → OfOffer (suc i)) → settle m j committed new .answer ≡ declined n → OfOffer n
+    by-refusal zero committed new f e = absurd (extended-not-declined j committed new n e)
+    by-refusal (suc m) committed new f e = rw (declined-same m j committed new n e) at (f m refl)
 
-    by-contents : (x : Contents) → appendTo x slice len o k .answer ≡ declined n → OfOffer n
-    by-contents (faulty m p) e = absurd (damaged-not-declined m p slice len o k n e)
+    by-contents : (x : Contents) → appendTo x j (offerOf q) (q .budget) .answer ≡ declined n → OfOffer n
+    by-contents (faulty m p) e = absurd (damaged-not-declined m p j (offerOf q) (q .budget) n e)
     by-contents (standing ps committed) e =
         unfold appendTo in
-        by-refusal (appendRefusal (length slice) (lastOf (recordsOf ps)) committed o) committed _ (append-number (length slice) _ committed o) e
+        by-refusal (appendRefusal (length (j .slice)) (lastOf (recordsOf ps)) committed (offerOf q)) committed _
+        (append-number (length (j .slice)) _ committed (offerOf q)) e

@@ -1,4 +1,4 @@
--- Append, and the call with a budget (document 01's call with k): what they answer, and the slice and the length after them.
+-- Append, with a budget or without (document 01's call with k, and its append): what it answers, and the journal after it.
 -- The record is written from the committed length onward, front to back, over a torn tail if there is one; nothing else changes.
 use Prim.Native.Nat.{ℕ, zero, suc, _+_, min}
 use mathlib.Core.List.{List, [], _∷_, _++_, map}
@@ -11,15 +11,9 @@ use Rattle.journal_spec.specs.Refusals.{roomRefusal, unless, firstOf}
 use Rattle.journal_spec.specs.Section.{sectionRefusal}
 use Rattle.journal_spec.specs.Record.{Record, Last, lastOf, theForm, judgeDay, nameSection, chanceSection, timeSection, recordBytes}
 use Rattle.journal_spec.specs.Scan.{maxLength, recordsOf, Contents, standing, faulty, contentsOf}
+use Rattle.journal_spec.specs.Request.{Journal, Budget, Request, Offer, offerOf, allowed, AppendResult, extended, declined, damaged, Outcome}
 
--- ---- what is offered
-
--- what a call is handed besides the journal and the budget: document 01's offered leaf, without its limits
-pub record Offer : Type 0 where
-  pub day : ℕ
-  pub name : List ℕ
-  pub chances : List ℕ
-  pub times : List ℕ
+-- ---- the record that is offered
 
 -- the bits of a limit worked out; where it is refused the offer is declined, and the number stands for nothing
 unfoldable pub limitBits : LimitResult → ℕ
@@ -56,64 +50,48 @@ limitsRefusal times chances = firstOf (map (λ (c : ℕ). judgeWorked (limitOf t
 unfoldable pub judgeRoom : ℕ → ℕ → ℕ → ℕ
 judgeRoom room committed size = unless (leb (committed + size) (min room maxLength)) roomRefusal
 
--- the refusals of an offer that need no room, in document 01's order: 3, 4, 5, 6, 8
-unfoldable pub offerRefusal : Last → Offer → ℕ
-offerRefusal last o =
+-- the refusal of an offer, the first in document 01's order: 3, 4, 5, 6, 8, 9
+unfoldable pub appendRefusal : ℕ → Last → ℕ → Offer → ℕ
+appendRefusal room last committed o =
     firstOf
     (judgeDay last (o .day)
     ∷ sectionRefusal nameSection (o .name)
     ∷ sectionRefusal chanceSection (o .chances)
     ∷ sectionRefusal timeSection (o .times)
     ∷ limitsRefusal (o .times) (o .chances)
+    ∷ judgeRoom room committed (length (recordBytes (offered o)))
     ∷ [])
 
--- the refusal of an offer: those, then 9
-unfoldable pub appendRefusal : ℕ → Last → ℕ → Offer → ℕ
-appendRefusal room last committed o =
-    firstOf (offerRefusal last o ∷ judgeRoom room committed (length (recordBytes (offered o))) ∷ [])
-
 -- ---- what is answered and written
-
--- document 01's answer of an append: the journal's length after it, declined by a number, or damaged with a fault's number and place
-pub data AppendResult : Type 0 where
-  extended : ℕ → AppendResult
-  declined : ℕ → AppendResult
-  damaged : ℕ → ℕ → AppendResult
-
--- the answer, the slice's bytes after the call, and the journal's length after it
-pub record Outcome : Type 0 where
-  pub answer : AppendResult
-  pub slice : List ℕ
-  pub len : ℕ
 
 -- the slice with the bytes `new` at the place `at`, and no other byte changed
 unfoldable pub written : List ℕ → ℕ → List ℕ → List ℕ
 written slice at new = take at slice ++ (new ++ drop (at + length new) slice)
 
 -- nothing is written
-unfoldable pub unchanged : AppendResult → List ℕ → ℕ → Outcome
-unchanged answer slice len = record { answer = answer; slice = slice; len = len }
+unfoldable pub unchanged : AppendResult → Journal → Outcome
+unchanged answer j = record { answer = answer; journal = j }
 
 -- the bytes `new` are written after the committed length
 unfoldable pub extend : List ℕ → ℕ → List ℕ → Outcome
 extend slice committed new =
-    record { answer = extended (committed + length new); slice = written slice committed new; len = committed + length new }
+    record {
+      answer = extended (committed + length new);
+      journal = record { slice = written slice committed new; len = committed + length new };
+    }
 
 -- what becomes of an offer with the refusal n, or with none
-unfoldable pub settle : ℕ → List ℕ → ℕ → ℕ → List ℕ → Outcome
-settle zero slice len committed new = extend slice committed new
-settle (suc n) slice len committed new = unchanged (declined (suc n)) slice len
+unfoldable pub settle : ℕ → Journal → ℕ → List ℕ → Outcome
+settle zero j committed new = extend (j .slice) committed new
+settle (suc n) j committed new = unchanged (declined (suc n)) j
 
 -- by what the journal holds: faults first
-unfoldable pub appendTo : Contents → List ℕ → ℕ → Offer → ℕ → Outcome
-appendTo (faulty n p) slice len o k = unchanged (damaged n p) slice len
-appendTo (standing ps committed) slice len o k =
-    settle (appendRefusal (length slice) (lastOf (recordsOf ps)) committed o) slice len committed (take k (recordBytes (offered o)))
+unfoldable pub appendTo : Contents → Journal → Offer → Budget → Outcome
+appendTo (faulty n p) j o budget = unchanged (damaged n p) j
+appendTo (standing ps committed) j o budget =
+    let bytes = recordBytes (offered o) in
+    settle (appendRefusal (length (j .slice)) (lastOf (recordsOf ps)) committed o) j committed (take (allowed budget (length bytes)) bytes)
 
--- the call with a budget: after append's checks, the first k bytes of the record are written; a k beyond the record is all
-unfoldable pub appendUpto : List ℕ → ℕ → Offer → ℕ → Outcome
-appendUpto slice len o k = appendTo (contentsOf slice len) slice len o k
-
--- append: that call with k = all
-unfoldable pub appendOf : List ℕ → ℕ → Offer → Outcome
-appendOf slice len o = appendUpto slice len o (length (recordBytes (offered o)))
+-- append: after its checks, the record's bytes are written as far as the budget goes; document 01's append has all of them for its budget
+unfoldable pub appendOf : Journal → Request → Outcome
+appendOf j q = appendTo (contentsOf (j .slice) (j .len)) j (offerOf q) (q .budget)

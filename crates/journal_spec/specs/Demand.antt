@@ -10,7 +10,8 @@ use Rattle.journal_spec.specs.Refusals.{absentRefusal}
 use Rattle.journal_spec.specs.Record.{Record, recordBytes, recordsBytes}
 use Rattle.journal_spec.specs.Scan.{ScanResult, whole, torn}
 use Rattle.journal_spec.specs.Read.{MarkResult, marked, unmarked, markOf}
-use Rattle.journal_spec.specs.Calls.{Operations, Call, Journal, emptyIn, perform, journalAfter, answersOf, reachOf}
+use Rattle.journal_spec.specs.Request.{Journal}
+use Rattle.journal_spec.specs.Calls.{Operations, Call, emptyIn, perform, journalAfter, answersOf, reachOf}
 use Rattle.journal_spec.specs.Model.{Model, emptyModel, committedOf, modelAfter, modelAnswers}
 
 -- whole if the torn tail is empty, else torn, with the number of records and the committed length
@@ -41,7 +42,9 @@ pub record Agrees (ops : Operations) (room : ℕ) (j : Journal) (m : Model) : Ty
 
 -- every byte at or beyond the length after a call is as it was before the call
 abbrev pub Beyond : Operations → Journal → Call → Type 0
-Beyond ops j c = drop (perform ops j c .len) (perform ops j c .slice) ≡ drop (perform ops j c .len) (j .slice)
+Beyond ops j c =
+    let after = perform ops j c .journal in
+    drop (after .len) (after .slice) ≡ drop (after .len) (j .slice)
 
 -- Demand 3 for one list of calls, from a journal in a slice of `room` bytes and the model that it starts with. Besides: a next call changes
 -- no byte beyond the length after it, and bytes at or beyond the greatest length of the list are the initial ones.

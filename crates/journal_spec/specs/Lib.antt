@@ -1,17 +1,22 @@
--- The journal's definitions, in the order in which they build on each other: bytes, refusals, readers and sections of fields,
--- the record, what scan, reading and append answer, the list of calls, the model, the ranges, and demand 3.
+-- The journal's definitions, in the order in which they build on each other. What a reader must believe comes first; what stands behind it
+-- is there for private contracts of the code, and no public contract and no promise speaks of it.
+
+-- the format: bytes, refusals, readers and sections of fields, the record
 pub mod Bytes
 pub mod Refusals
 pub mod Reader
 pub mod Section
 pub mod Record
-pub mod Stages
+-- what scan, reading and append answer
 pub mod Scan
 pub mod Read
+pub mod Request
 pub mod Append
-pub mod Wrote
+-- demand 3: the list of calls, the model, the ranges, the statement, and the words of its sentence
 pub mod Calls
 pub mod Model
 pub mod Ranges
 pub mod Demand
 pub mod Shown
+-- for private contracts: the record's reader from each of its parts on
+pub mod Stages

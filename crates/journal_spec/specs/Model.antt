@@ -12,11 +12,11 @@ use Rattle.limit.specs.Times.{minTicks, maxTicks, minCount, maxCount, inRange, 
 use Rattle.limit.specs.Formula.{formulaOf}
 use Rattle.limit.specs.Answer.{chanceRefusal, timesRefusal, finiteRefusal}
 use Rattle.limit.specs.Limit.{minChance, maxChance}
-use Rattle.journal_spec.specs.Refusals.{dayRefusal, nameRefusal, roomRefusal}
+use Rattle.journal_spec.specs.Refusals.{dayRefusal, nameRefusal, roomRefusal, unless, firstOf}
 use Rattle.journal_spec.specs.Record.{Record, lastOf, minName, maxName, minByte, maxByte, minChances, maxChances, recordBytes}
 use Rattle.journal_spec.specs.Scan.{maxLength}
-use Rattle.journal_spec.specs.Append.{Offer, AppendResult, extended, declined}
-use Rattle.journal_spec.specs.Calls.{Call, callAppend, callAppendUpto}
+use Rattle.journal_spec.specs.Request.{Request, Offer, offerOf, allowed, AppendResult, extended, declined}
+use Rattle.journal_spec.specs.Calls.{Call}
 
 -- document 01's book: a list of records and a torn tail
 pub record Model : Type 0 where
@@ -94,18 +94,35 @@ limitsGood o = each (λ (c : ℕ). finite (workedOut (o .times) c)) (o .chances)
 unfoldable pub noRoom : ℕ → Model → Offer → Bool
 noRoom room m o = ltb room (committedOf m + length (recordBytes (recordFor o))) || ltb maxLength (committedOf m + length (recordBytes (recordFor o)))
 
--- the first of these that holds, or 0
+-- what declines an offer, in document 01's order
+unfoldable pub modelRefusals : ℕ → Model → Offer → List ℕ
+modelRefusals room m o =
+    unless (not (dayFalls m o)) dayRefusal
+    ∷ unless (nameGood (o .name)) nameRefusal
+    ∷ unless (chancesGood (o .chances)) chanceRefusal
+    ∷ unless (timesGood (o .times)) timesRefusal
+    ∷ unless (limitsGood o) finiteRefusal
+    ∷ unless (not (noRoom room m o)) roomRefusal
+    ∷ []
+
+-- the first of these, or 0
 unfoldable pub modelRefusal : ℕ → Model → Offer → ℕ
-modelRefusal room m o =
-    cond (dayFalls m o) dayRefusal
-    (cond (not (nameGood (o .name))) nameRefusal
-    (cond (not (chancesGood (o .chances))) chanceRefusal
-    (cond (not (timesGood (o .times))) timesRefusal
-    (cond (not (limitsGood o)) finiteRefusal
-    (cond (noRoom room m o) roomRefusal
-    0)))))
+modelRefusal room m o = firstOf (modelRefusals room m o)
 
 -- ---- a call
+
+-- what the model says of a call: its record is entered, or it is turned away with an answer, and then the model stays
+pub data Verdict : Type 0 where
+  taken : Verdict
+  turned : AppendResult → Verdict
+
+-- declined by a number, or taken where there is none
+unfoldable pub byNumber : ℕ → Verdict
+byNumber zero = taken
+byNumber (suc n) = turned (declined (suc n))
+
+unfoldable pub verdictOf : ℕ → Model → Request → Verdict
+verdictOf room m q = byNumber (modelRefusal room m (offerOf q))
 
 -- a call's answer, and the model after it
 pub record Entry : Type 0 where
@@ -125,15 +142,15 @@ enterRecord m r k =
       model = record { records = m .records; tail = take k (recordBytes r) };
     })
 
--- declined by the refusal n, and then the model stays; or entered where there is none
-unfoldable pub enterUnless : ℕ → Model → Record → ℕ → Entry
-enterUnless zero m r k = enterRecord m r k
-enterUnless (suc n) m r k = record { answer = declined (suc n); model = m }
+unfoldable pub enterBy : Verdict → Model → Record → ℕ → Entry
+enterBy taken m r k = enterRecord m r k
+enterBy (turned answer) m r k = record { answer = answer; model = m }
 
--- a call of append has all of its record for a budget
+-- a call: its budget is all of its record, or k
 unfoldable pub enter : ℕ → Model → Call → Entry
-enter room m (callAppend o fits) = enterUnless (modelRefusal room m o) m (recordFor o) (length (recordBytes (recordFor o)))
-enter room m (callAppendUpto o fits k) = enterUnless (modelRefusal room m o) m (recordFor o) k
+enter room m c =
+    let r = recordFor (offerOf (c .request)) in
+    enterBy (verdictOf room m (c .request)) m r (allowed (c .request .budget) (length (recordBytes r)))
 
 -- ---- a list of calls
 

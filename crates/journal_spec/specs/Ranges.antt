@@ -12,7 +12,7 @@ use Rattle.limit.specs.Limit.{minChance, maxChance}
 use Rattle.journal_spec.specs.Record.{Record, Last, IsDay, lastOf, theForm, minName, maxName, minByte, maxByte, minChances, maxChances}
 use Rattle.journal_spec.specs.Record.{recordBytes}
 use Rattle.journal_spec.specs.Scan.{maxLength}
-use Rattle.journal_spec.specs.Append.{Offer}
+use Rattle.journal_spec.specs.Request.{Offer}
 use Rattle.journal_spec.specs.Model.{Model, committedOf, workedOut, recordFor}
 
 -- each number of the list is one of low, low + 1, .., high

@@ -2,7 +2,8 @@
 -- A refusal is its number, from 1 up; 0 stands for none. 5, 6 and 8 are `chanceRefusal`, `timesRefusal` and `finiteRefusal` of `limit`.
 use Prim.Native.Nat.{ℕ, zero, suc}
 use mathlib.Core.List.{List, [], _∷_}
-use mathlib.Core.Bool.{Bool, cond}
+use mathlib.Core.Bool.{Bool, false, cond, _||_}
+use lib.Dec.{eqb}
 use Rattle.limit.specs.Times.{inRange}
 
 -- 1: length beyond the slice or the longest journal
@@ -40,6 +41,11 @@ unless good n = cond good 0 n
 -- the refusal n of a number that is not low, low + 1, .., high
 unfoldable pub outside : ℕ → ℕ → ℕ → ℕ → ℕ
 outside low high n x = unless (inRange low high x) n
+
+-- the number is one of a table's
+unfoldable pub among : List ℕ → ℕ → Bool
+among [] n = false
+among (m ∷ ms) n = eqb m n || among ms n
 
 -- the first that is a refusal, or none
 unfoldable pub firstOf : List ℕ → ℕ

@@ -3,34 +3,36 @@
 use mathlib.Core.Path.{_≡_}
 use Prim.Native.Nat.{ℕ}
 use mathlib.Core.List.{List, [], _∷_, _++_, map}
-use mathlib.Core.Bool.{Bool, false, cond}
+use mathlib.Core.Bool.{Bool, true, false, cond, _&&_}
 use lib.ListN.{length}
-use lib.Dec.{leb, eqb}
+use lib.Dec.{leb}
 use lib.Ieee.{binary64, toBits}
 use Rattle.limit.specs.Times.{sumOf, squaresOf}
 use Rattle.limit.specs.Formula.{formulaOf}
 use Rattle.journal_spec.specs.Record.{Record, recordBytes}
-use Rattle.journal_spec.specs.Append.{Offer}
-use Rattle.journal_spec.specs.Calls.{Call, callAppend, callAppendUpto}
-use Rattle.journal_spec.specs.Model.{Model, recordFor, enter, modelRefusal}
+use Rattle.journal_spec.specs.Request.{Offer, offerOf, allowed}
+use Rattle.journal_spec.specs.Calls.{Call}
+use Rattle.journal_spec.specs.Model.{Model, recordFor, Verdict, taken, turned, verdictOf, enter}
 
 -- what a call offers
-unfoldable pub offerOf : Call → Offer
-offerOf (callAppend o fits) = o
-offerOf (callAppendUpto o fits k) = o
-
--- how many bytes it may write: all of its record, or k
-unfoldable pub budgetOf : Call → ℕ
-budgetOf (callAppend o fits) = length (recordBytes (recordFor o))
-budgetOf (callAppendUpto o fits k) = k
+unfoldable pub offerBy : Call → Offer
+offerBy c = offerOf (c .request)
 
 -- the record of a call
 unfoldable pub recordOf : Call → Record
-recordOf c = recordFor (offerOf c)
+recordOf c = recordFor (offerBy c)
+
+-- how many bytes it may write: all of its record, or k
+unfoldable pub budgetOf : Call → ℕ
+budgetOf c = allowed (c .request .budget) (length (recordBytes (recordOf c)))
+
+unfoldable pub isTaken : Verdict → Bool
+isTaken taken = true
+isTaken (turned answer) = false
 
 -- the call is not declined, and its budget reaches the record's last byte
 unfoldable pub finishes : ℕ → Model → Call → Bool
-finishes room m c = cond (eqb (modelRefusal room m (offerOf c)) 0) (leb (length (recordBytes (recordOf c))) (budgetOf c)) false
+finishes room m c = isTaken (verdictOf room m (c .request)) && leb (length (recordBytes (recordOf c))) (budgetOf c)
 
 -- the records of the calls that finish, in their order
 unfoldable pub finished : ℕ → Model → List Call → List Record
@@ -49,4 +51,4 @@ pub record Given (o : Offer) (r : Record) : Type 0 where
 -- each call of the list is declined, so that the model stays
 abbrev pub AllDeclined : ℕ → Model → List Call → Type 0
 AllDeclined room m [] = Unit {0}
-AllDeclined room m (c ∷ cs) = (modelRefusal room m (offerOf c) ≡ 0 → ⊥) × AllDeclined room m cs
+AllDeclined room m (c ∷ cs) = (verdictOf room m (c .request) ≡ taken → ⊥) × AllDeclined room m cs

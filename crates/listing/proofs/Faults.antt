@@ -3,7 +3,7 @@
 -- Assumes nothing.
 use mathlib.Core.Path.{_≡_, refl, sym, ap, _∙_}
 use Prim.Native.Nat.{ℕ, _+_, _≤_, min}
-use mathlib.Core.List.{List, []}
+use mathlib.Core.List.{List, [], _∷_}
 use mathlib.Core.Bool.{Bool, true, false, cond}
 use native.Mathlib.Omega.{arith}
 use lib.ListN.{length, take, drop, length-drop, length-append}
@@ -14,9 +14,10 @@ use Rattle.journal_spec.specs.Bytes.{valueOf, AreBytes}
 use Rattle.journal_spec.specs.Reader.{Reader, done, field, fault, run}
 use Rattle.journal_spec.specs.Record.{recordReader, recordsBytes}
 use Rattle.journal_spec.specs.Scan.{maxLength, Placed, Contents, standing, faulty, contentsOf, whole, torn, statusOf, scanOf}
+use Rattle.journal_spec.specs.Model.{each}
 use Rattle.journal_spec.proofs.Reading.{field-cases}
 use Rattle.journal_spec.proofs.Scanning.{records-count, length-placed, contents-fits, contents-long}
-use Rattle.journal_spec.proofs.Table.{contents-fault, scan-number}
+use Rattle.journal_spec.proofs.Table.{recordNumbers, among-each, contents-fault, scan-number}
 use Rattle.journal_spec.proofs.Explained.{holding}
 use Rattle.listing.proofs.Longest.{Numbered}
 
@@ -65,6 +66,7 @@ scan-numbered b bytes = go (contentsOf b (length b)) refl
     go : (c : Contents) → contentsOf b (length b) ≡ c → Numbered (statusOf (length b) (contentsOf b (length b)))
     go (standing ps committed) e = let k = stands ps committed e in rw e (one-of (eqb committed (length b)) (length ps) committed (k .0) (k .1))
     go (faulty n p) e =
-        let number = scan-number b (length b) n p (rw e refl) in
+        let number = leb-true n maxLength (among-each (λ (m : ℕ). leb m maxLength) (1 ∷ recordNumbers) n (unfold each in refl)
+        (scan-number b (length b) n p (rw e refl))) in
         let place = inside (leb (length b) (min (length b) maxLength)) n p refl e in
         rw e (omega (arith, number), omega (arith, place))

@@ -21,3 +21,5 @@ pub mod Faults
 pub mod LinesFit
 -- examples
 pub mod Examples
+-- nothing is left free
+pub mod Cursors

@@ -8,8 +8,7 @@ use lib.ListN.{length}
 use Rattle.journal_spec.specs.Bytes.{joined, AreBytes}
 use Rattle.journal_spec.specs.Record.{Record, lastOf, recordBytes, recordsBytes}
 use Rattle.journal_spec.specs.Scan.{ScanResult, scanOf}
-use Rattle.journal_spec.proofs.Ranged.{good-exactly}
-use Rattle.journal_spec.proofs.Scanning.{Follow}
+use Rattle.journal_spec.specs.Ranges.{AllRanges}
 use Rattle.listing.specs.Lines.{Position, startOf, endOf, noLine, stepBy, step, maxLine, LinesWithin}
 use Rattle.listing.proofs.Starting.{leaving, step-next, starting}
 use Rattle.listing.proofs.Longest.{Numbered, record-fits, state-fits}
@@ -22,7 +21,7 @@ within-end (suc k) p b = (omega arith, within-end k p b)
 
 -- the records that are left, and then the end state
 within-left : (rs : List Record) (earlier : List Record) (pre tail b : List ℕ) (state : ScanResult) (k : ℕ)
-    → Follow earlier rs → b ≡ pre ++ (recordsBytes rs ++ tail) → Numbered state → LinesWithin maxLine k (leaving pre rs state) b
+    → AllRanges earlier rs → b ≡ pre ++ (recordsBytes rs ++ tail) → Numbered state → LinesWithin maxLine k (leaving pre rs state) b
 unfolding recordsBytes joined
 within-left rs earlier pre tail b state zero f e h = tt
 within-left [] earlier pre tail b state (suc k) f e h = unfold step stepBy in (state-fits state h, within-end k _ b)
@@ -30,7 +29,7 @@ within-left (r ∷ rs) earlier pre tail b state (suc k) f e h =
     let more : List ℕ = recordsBytes rs ++ tail in
     let bytes : b ≡ pre ++ (recordBytes r ++ more) = e ∙ rw append-assoc refl in
     rw (step-next (lastOf earlier) r rs pre more b state (f .0) bytes) (
-      record-fits (lastOf earlier) r (good-exactly (lastOf earlier) r .0 (f .0)),
+      record-fits (lastOf earlier) r (f .0),
       within-left rs (earlier ++ r ∷ []) (pre ++ recordBytes r) tail b state k (f .1) (bytes ∙ sym (append-assoc pre (recordBytes r) more)) h,
     )
 

@@ -8,7 +8,7 @@ use lib.ListN.{length}
 use Rattle.journal_spec.specs.Bytes.{joined, AreBytes}
 use Rattle.journal_spec.specs.Record.{Record, lastOf, recordBytes, recordsBytes}
 use Rattle.journal_spec.specs.Scan.{ScanResult, whole, torn, damaged, scanOf}
-use Rattle.journal_spec.proofs.Scanning.{Follow}
+use Rattle.journal_spec.specs.Ranges.{AllRanges}
 use Rattle.listing.specs.Listing.{newline, spaced, lineOf, recordLine, stateLine, listingOf}
 use Rattle.listing.specs.Lines.{Position, listedOf, startOf, endOf, noLine, stepBy, step, onward, linesFrom}
 use Rattle.listing.proofs.Starting.{leaving, step-next, starting}
@@ -41,7 +41,7 @@ lines-end (suc k) p b = refl
 
 -- the records that are left, and then the end state
 lines-left : (rs : List Record) (earlier : List Record) (pre tail b : List ℕ) (state : ScanResult) (k : ℕ)
-    → Follow earlier rs → b ≡ pre ++ (recordsBytes rs ++ tail) → length rs < k
+    → AllRanges earlier rs → b ≡ pre ++ (recordsBytes rs ++ tail) → length rs < k
     → linesFrom k (leaving pre rs state) b ≡ joined (map recordLine rs) ++ stateLine state
 unfolding recordsBytes joined linesFrom
 lines-left [] earlier pre tail b state zero f e h = absurd (omega arith)

@@ -8,7 +8,7 @@ use lib.ListN.{length}
 use Rattle.hex.specs.Text.{Put}
 use Rattle.journal_spec.specs.Bytes.{numberAt, numbersIn}
 use Rattle.journal.specs.Numbers.{numberIn}
-use Rattle.journal.proofs.NumbersIn.{number-stands}
+use Rattle.journal.proofs.NumberStands.{number-stands}
 use Rattle.listing.specs.Listing.{space, quotedLimit, quotedLimits}
 use Rattle.listing.specs.Spaced.{eachSpaced}
 use Rattle.listing.proofs.Putting.{put-nothing, put-put}

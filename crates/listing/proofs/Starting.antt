@@ -12,8 +12,9 @@ use Rattle.journal_spec.specs.Bytes.{joined, AreBytes}
 use Rattle.journal_spec.specs.Reader.{found, then}
 use Rattle.journal_spec.specs.Record.{Record, Last, lastOf, recordReader, recordBytes, recordsBytes}
 use Rattle.journal_spec.specs.Scan.{Placed, recordsOf, Contents, standing, faulty, contentsOf, ScanResult, whole, torn, statusOf, scanOf}
-use Rattle.journal_spec.proofs.Records.{Good, reads-record}
-use Rattle.journal_spec.proofs.Scanning.{Follow, recordsOf-placed, length-placed}
+use Rattle.journal_spec.specs.Ranges.{RecordRanges, AllRanges}
+use Rattle.journal_spec.proofs.Ranged.{reads-back}
+use Rattle.journal_spec.proofs.Scanning.{recordsOf-placed, length-placed}
 use Rattle.journal_spec.proofs.Explained.{holding}
 use Rattle.listing.specs.Listing.{recordLine, recordLines, stateLine, listingOf}
 use Rattle.listing.specs.Plain.{plain, plainRecordAt}
@@ -28,12 +29,12 @@ unfolding recordReader plain then
 plain-same last other = refl
 
 -- a record that nothing refuses is found again behind any bytes
-record-there : (last : Last) (r : Record) (pre post : List ℕ) → Good last r
+record-there : (last : Last) (r : Record) (pre post : List ℕ) → RecordRanges last r
     → plainRecordAt (length pre) (pre ++ (recordBytes r ++ post)) ≡ found r (length pre + length (recordBytes r)) post
 unfolding plainRecordAt
 record-there last r pre post good =
     let bytes : drop (length pre) (pre ++ (recordBytes r ++ post)) ≡ recordBytes r ++ post = drop-at pre (recordBytes r ++ post) (length pre) refl in
-    let read = reads-record last r good .on (length pre) post in
+    let read = reads-back last r good .on (length pre) post in
     rw (bytes, plain-same (lastOf []) last) (plain-finds (recordReader last) (length pre) (recordBytes r ++ post) r _ post read)
 
 -- a position before some records that are left
@@ -41,7 +42,7 @@ abbrev pub leaving : List ℕ → List Record → ScanResult → Position
 leaving pre rs state = record { at = length pre; left = length rs; ended = false; state = state }
 
 -- the line of the first of them, and the position behind it
-pub step-next : (last : Last) (r : Record) (rs : List Record) (pre more b : List ℕ) (state : ScanResult) → Good last r
+pub step-next : (last : Last) (r : Record) (rs : List Record) (pre more b : List ℕ) (state : ScanResult) → RecordRanges last r
     → b ≡ pre ++ (recordBytes r ++ more)
     → step (leaving pre (r ∷ rs) state) b ≡ record { text = recordLine r; position = leaving (pre ++ recordBytes r) rs state }
 unfolding step stepBy recordStep
@@ -66,7 +67,7 @@ pub record Starting (b : List ℕ) : Type 0 where
   pub records : List Record
   pub tail : List ℕ
   pub bytes : b ≡ recordsBytes records ++ tail
-  pub follow : Follow [] records
+  pub follow : AllRanges [] records
   pub count : listedOf (scanOf b (length b)) ≡ length records
   pub start : startOf b ≡ leaving [] records (scanOf b (length b))
   pub text : listingOf b ≡ joined (map recordLine records) ++ stateLine (scanOf b (length b))

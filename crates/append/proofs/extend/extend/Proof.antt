@@ -7,8 +7,8 @@ use borrow.Author.Needs.{needs}
 use lib.ListN.{length}
 use denote.Ref.{now}
 use Rattle.journal_spec.specs.Scan.{maxLength}
-use Rattle.journal_spec.specs.Append.{Offer}
-use Rattle.journal.specs.Offering.{offerFrom}
+use Rattle.journal_spec.specs.Request.{Offer}
+use Rattle.journal.specs.Handed.{offerFrom}
 use Rattle.append.proofs.WrittenPart.{offered-length, extended-said, extends-record, declined-unwritten, damaged-unwritten}
 use Rattle.append.proofs.WrittenPart.{extends-nothing}
 use Rattle.append.proofs.extend.extend.Statement.{statement}
@@ -41,7 +41,7 @@ returns c =
     _ _ (c .before .answer .given .1) refl (omega arith)
 
 returns-2 : tie.Need-returns-2
-unfolding offer
+unfolding offer offerFrom
 returns-2 c =
     let appended = c .before .before .before .before in
     let a = appended .before .before .before .before .before .before .args in
@@ -49,7 +49,7 @@ returns-2 c =
     (declined-unwritten _ _ (c .enum-told .given .1))
 
 returns-3 : tie.Need-returns-3
-unfolding offer
+unfolding offer offerFrom
 returns-3 c =
     let appended = c .before .before .before .before in
     let a = appended .before .before .before .before .before .before .args in

@@ -3,21 +3,19 @@
 use mathlib.Core.Path.{_≡_, sym, _∙_}
 use native.Mathlib.Omega.{arith}
 use borrow.Author.Needs.{needs}
-use lib.ListN.{length, length-take}
+use lib.ListN.{length-take}
 use denote.Ref.{now}
 use Rattle.journal.specs.Records.{asLast}
-use Rattle.journal.specs.Offering.{offerFrom}
-use Rattle.journal.proofs.Offered.{Few, offer-few}
+use Rattle.journal.specs.Handed.{offerFrom}
+use Rattle.journal.proofs.RefusalOrder.{Few, offer-few}
 use Rattle.journal.proofs.Extending.{offer-declined, offered-record, offer-settled}
 use Rattle.journal.proofs.extend.extend_by.Statement.{statement}
 use Rattle.journal.proofs.extend.extend_by.Tie as tie
 
 returns : tie.Need-returns
-returns c len =
+returns c len ps is =
     let check = c .before .before .offer-refusal in
-    let a = c .before .before .before .before .before .before .before .before .args in
-    offer-declined (length (now (a .v))) (asLast (a .last)) (a .committed) (offerFrom (a .day) (now (a .name)) (now (a .chances)) (now (a .times)))
-    (check .result) (now (a .v)) len _ (omega arith) (check .ensures .refusal)
+    offer-declined _ _ _ _ _ ps is (check .result) (omega arith) (check .ensures .refusal)
 
 -- the offer is not refused
 few : (c : tie.After-extend-within-arg)
@@ -46,15 +44,11 @@ extend-within-requires c κs =
 
 returns-2 : tie.Need-returns-2
 unfolding offerFrom
-returns-2 c len =
+returns-2 c len ps is =
     let check = c .before .before .before .before .before .before .before .offer-refusal in
-    let a = c .before .before .before .before .before .before .before .before .before .before .before .before .before .args in
-    let o = offerFrom (a .day) (now (a .name)) (now (a .chances)) (now (a .times)) in
     let none : check .result ≡ 0 = omega arith in
     c .before .before .extend-within .ensures len
-    ∙ offer-settled (length (now (a .v))) (asLast (a .last)) (a .committed) o _ (now (a .v)) len (a .budget)
-    (sym (check .ensures .refusal) ∙ none)
-    (offered-record (a .day) (now (a .name)) (now (a .chances)) (now (a .times)) _ (check .ensures .limits none))
+    ∙ offer-settled _ _ _ _ _ ps is _ (sym (check .ensures .refusal) ∙ none) (offered-record _ _ _ _ _ (check .ensures .limits none))
 
 pub extend-by-spec : {M : Type 1} → statement M
 extend-by-spec =

@@ -1,44 +1,32 @@
--- `extend_within` takes the record's length for its room, and lends the slice from the committed length on to the writers.
+-- `extend_within` takes the record's length for its room, and lends the slice from the committed length on to the writer.
 -- Assumes nothing.
-use mathlib.Core.Path.{_≡_, sym, _∙_}
-use Prim.Native.Nat.{_+_, _*_, _≤_, min}
-use mathlib.Core.Bool.{true}
+use mathlib.Core.Path.{_≡_}
+use Prim.Native.Nat.{_+_, _≤_, min}
 use native.Mathlib.Omega.{arith}
 use borrow.Author.Needs.{needs}
-use borrow.Author.Tests.{not-true, not-false, leb-true}
-use lib.Dec.{leb}
 use lib.ListN.{length, length-take, length-drop}
 use denote.Ref.{now}
-use Rattle.journal_spec.specs.Record.{recordBytes}
 use Rattle.journal_spec.specs.Scan.{maxLength}
-use Rattle.journal_spec.proofs.Records.{length-record}
-use Rattle.journal_spec.proofs.Writing.{wrote-inside}
-use Rattle.journal.specs.Offering.{recordFrom}
-use Rattle.journal.proofs.Extending.{room-declined, room-extended}
+use Rattle.journal.specs.Handed.{bytesFrom}
+use Rattle.journal.proofs.Extending.{room-fits, room-declined, room-extended}
 use Rattle.journal.proofs.extend.extend_within.Statement.{statement}
 use Rattle.journal.proofs.extend.extend_within.Tie as tie
 
-returns : tie.Need-returns
-unfolding recordFrom
-returns c len =
-    let a = c .before .before .before .before .before .before .before .args in
-    let r = recordFrom (a .day) (now (a .name)) (now (a .chances)) (now (a .times)) (now (a .limits)) in
-    room-declined (now (a .v)) (a .committed) _ (a .budget) (recordBytes r) len (sym (length-record r))
-    (sym (c .before .has-room .ensures) ∙ not-true _ (c .if1 .taken))
+-- the size is that of the record's bytes
+sized : (c : tie.After-size-of)
+    → let a = c .before .before .before .before .before .before .args in
+    c .size-of .result ≡ length (bytesFrom (a .day) (now (a .name)) (now (a .chances)) (now (a .times)) (now (a .limits)))
+sized c = c .size-of .ensures _
 
 -- after the test of the room, the record ends inside the slice and the longest journal
-room : (c : tie.After-least)
-    → let a = c .before .before .before .before .before .before .before .before .args in
-    leb (a .committed + (12 + length (now (a .name)) + 4 * length (now (a .chances)) + 4 * length (now (a .times)) + 8 * length (now (a .limits))))
-    (min (length (now (a .v))) maxLength)
-    ≡ true
-room c = sym (c .before .before .has-room .ensures) ∙ not-false _ (c .before .if1 .left)
+fits : (c : tie.After-end-of)
+    → let size = c .before .before .before in
+    let a = size .before .before .before .before .before .before .args in
+    a .committed + size .size-of .result ≤ min (length (now (a .v))) maxLength
+fits c = room-fits _ _ _ (c .before .before .has-room .ensures) (c .before .if1 .left)
 
-fits : (c : tie.After-least)
-    → let a = c .before .before .before .before .before .before .before .before .args in
-    a .committed + (12 + length (now (a .name)) + 4 * length (now (a .chances)) + 4 * length (now (a .times)) + 8 * length (now (a .limits)))
-    ≤ min (length (now (a .v))) maxLength
-fits c = leb-true _ _ (room c)
+returns : tie.Need-returns
+returns c len = room-declined _ _ _ _ _ (sized (c .before .before)) _ (c .before .has-room .ensures) (c .if1 .taken)
 
 sub-put-record : tie.Need-sub-put-record
 sub-put-record c = omega (arith, fits c)
@@ -47,33 +35,28 @@ part-put-record-start : tie.Need-part-put-record-start
 part-put-record-start c = omega (arith, fits c)
 
 put-record-requires : tie.Need-put-record-requires
-put-record-requires c κs = rw (length-take, length-drop) (omega (arith, fits (c .before), c .before .least .ensures))
+put-record-requires c κs =
+    let ready = c .before in (
+      rw (length-take, length-drop) (omega (arith, fits ready, ready .end-of .ensures)),
+      omega (arith, sized (ready .before .before .before), ready .end-of .ensures),
+    )
 
-add-t13 : tie.Need-add-t13
-add-t13 c =
+add-after : tie.Need-add-after
+add-after c =
     let ready = c .before .before .before .before in
-    omega (arith, fits ready, ready .least .ensures, wrote-inside _ 0 _ _ _ _ (omega arith) (c .before .before .put-record .ensures))
+    omega (arith, fits ready, ready .end-of .ensures, c .before .before .put-record .ensures .1)
 
 returns-2 : tie.Need-returns-2
-unfolding recordFrom
 returns-2 c len =
     let ready = c .before .before .before .before in
-    let a = ready .before .before .before .before .before .before .before .before .args in
-    let r = recordFrom (a .day) (now (a .name)) (now (a .chances)) (now (a .times)) (now (a .limits)) in
-    room-extended (now (a .v)) (a .committed) _ (a .budget) (ready .least .result) (recordBytes r) len (c .before .before .put-record .result) _
-    (sym (length-record r)) (omega (arith, fits ready)) (room ready) (ready .least .ensures) (c .before .before .put-record .ensures)
+    room-extended _ _ _ _ (sized (ready .before .before .before)) _ (ready .before .before .has-room .ensures) (ready .before .if1 .left)
+    _ _ _ _ (ready .end-of .ensures) (c .before .before .put-record .ensures .1) (c .before .before .put-record .ensures .0)
 
 pub extend-within-spec : {M : Type 1} → statement M
 extend-within-spec =
     tie.close
     (tie.spec
-    (λ c. search needs)
-    (λ c. search needs)
-    (λ c. search needs)
-    (λ c. search needs)
-    (λ c. search needs)
-    (λ c. search needs)
-    (λ c. search needs)
+    (λ c κs. search needs)
     (λ c κs. search needs)
     returns
     (λ c κs. search needs)
@@ -81,6 +64,6 @@ extend-within-spec =
     part-put-record-start
     (λ c. search needs)
     put-record-requires
-    add-t13
+    add-after
     (λ c. search needs)
     returns-2)

@@ -5,7 +5,7 @@ use Prim.Native.Nat.{ℕ, _+_, _-_, _<_, _^_}
 use native.Mathlib.Omega.{arith}
 use denote.Ref.{now}
 use lib.ListN.{getD}
-use Rattle.journal_spec.proofs.NumberLoop.{Gathering, gather-start, gather-turn, gather-fits, gather-end}
+use Rattle.journal_spec.proofs.NumberFromBytes.{Gathering, gather-start, gather-turn, gather-fits, gather-end}
 use Rattle.journal.proofs.number.bytes_at.Statement.{statement}
 use Rattle.journal.proofs.number.bytes_at.Tie as tie
 

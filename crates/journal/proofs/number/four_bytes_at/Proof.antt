@@ -6,7 +6,7 @@ use native.Mathlib.Omega.{arith}
 use borrow.Author.Needs.{needs}
 use denote.Ref.{now}
 use lib.ListN.{getD}
-use Rattle.journal_spec.proofs.NumberLoop.{gather-four, gather-end}
+use Rattle.journal_spec.proofs.NumberFromBytes.{gather-four, gather-end}
 use Rattle.journal.proofs.number.four_bytes_at.Statement.{statement}
 use Rattle.journal.proofs.number.four_bytes_at.Tie as tie
 

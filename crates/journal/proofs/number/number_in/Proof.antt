@@ -4,7 +4,7 @@ use mathlib.Core.Path.{sym, _∙_}
 use native.Mathlib.Omega.{arith}
 use borrow.Author.Needs.{needs}
 use denote.Ref.{now}
-use Rattle.journal.proofs.NumbersIn.{number-stands, number-wide, number-beyond}
+use Rattle.journal.proofs.NumberStands.{number-stands, number-wide, number-beyond}
 use Rattle.journal.proofs.number.number_in.Statement.{statement}
 use Rattle.journal.proofs.number.number_in.Tie as tie
 

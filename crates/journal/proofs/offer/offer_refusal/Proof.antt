@@ -5,8 +5,8 @@ use native.Mathlib.Omega.{arith}
 use borrow.Author.Needs.{needs}
 use denote.Ref.{now}
 use Rattle.journal.specs.Records.{asLast}
-use Rattle.journal.specs.Offering.{offerFrom}
-use Rattle.journal.proofs.Offered.{chances-few, day-refused, name-refused, chances-refused, times-refused, limits-judged}
+use Rattle.journal.specs.Handed.{offerFrom}
+use Rattle.journal.proofs.RefusalOrder.{chances-few, day-refused, name-refused, chances-refused, times-refused, limits-judged}
 use Rattle.journal.proofs.offer.offer_refusal.Statement.{statement}
 use Rattle.journal.proofs.offer.offer_refusal.Tie as tie
 

@@ -7,7 +7,7 @@ use denote.Ref.{now}
 use Rattle.limit.specs.Times.{maxTicks}
 use Rattle.journal.specs.Found.{numbersAt}
 use Rattle.journal.proofs.Fields.{FieldValue, field-value}
-use Rattle.journal.proofs.NumbersLoop.{Numbering, numbering-start, numbering-end, numbering-short, numbering-refused, numbering-more}
+use Rattle.journal.proofs.RuleLoop.{Numbering, numbering-start, numbering-end, numbering-short, numbering-refused, numbering-more}
 use Rattle.journal.proofs.section.numbers_at.Statement.{statement}
 use Rattle.journal.proofs.section.numbers_at.Tie as tie
 

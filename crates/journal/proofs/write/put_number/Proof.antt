@@ -1,77 +1,95 @@
--- `put_number` writes one byte a turn: its loop keeps what of the number is still to be written.
--- The measure is the number of bytes left. Assumes nothing.
-use mathlib.Core.Path.{_≡_, refl}
-use Prim.Native.Nat.{_%_}
+-- `put_number` takes one step after another to the number's end or the budget's. The measure is how many bytes are left.
+-- Assumes nothing.
+use Prim.Native.Nat.{_+_, _-_, _≤_}
 use native.Mathlib.Omega.{arith}
-use lib.ListN.{drop}
-use denote.Ref.{now}
-use Rattle.journal_spec.specs.Bytes.{bytesOf}
-use Rattle.journal_spec.proofs.Writing.{Putting, put-start, put-length, put-turn, put-cut, put-all}
-use Rattle.journal.proofs.Putting.{bytes-left, byte-next}
+use borrow.Author.Needs.{needs}
+use borrow.Author.Tests.{ltb-true, ltb-false}
+use Rattle.journal.specs.Stepped.{Filled}
+use Rattle.journal.specs.Handed.{bytesFrom}
+use Rattle.journal.proofs.RecordByte.{place-next}
+use Rattle.journal.proofs.Filling.{filled-none, filled-length, filled-more}
 use Rattle.journal.proofs.write.put_number.Statement.{statement}
 use Rattle.journal.proofs.write.put_number.Tie as tie
 
 abbrev Inv-loop : tie.InvT-loop
-Inv-loop part₀ at end w x p₀ v₀ left₀ part p v left =
-    (q : Putting part₀ at end (bytesOf w x) part p) × (drop (q .count) (bytesOf w x) ≡ bytesOf left v)
+Inv-loop part₀ at end section i day name chances times limits w p₀ part p =
+    Filled (bytesFrom day name chances times limits) part₀ at p part × (p ≤ at + w) × (p ≤ end)
 
 abbrev μ-loop : tie.MeasureT-loop
-μ-loop part₀ at end w x p₀ v₀ left₀ part p v left = left
+μ-loop part₀ at end section i day name chances times limits w p₀ part p = at + w - p
 
 loop-holds : tie.Need-loop-holds Inv-loop μ-loop
-unfolding put-start
-loop-holds c =
-    let a = c .before .args in
-    (put-start (now (a .part)) (a .at) (a .end) (bytesOf (a .w) (a .x)) (omega arith) (omega arith), refl)
-
-same-length : tie.Need-same-length Inv-loop μ-loop
-same-length c =
-    let a = c .before .before .before .before .args in
-    let l = c .before .before .loop in
-    put-length (now (a .part)) (a .at) (a .end) (bytesOf (a .w) (a .x)) (l .part) (l .p) (l .inv .0)
-
-returns : tie.Need-returns Inv-loop μ-loop
-returns c =
-    let a = c .before .before .before .before .args in
-    let l = c .before .before .loop in
-    put-cut (now (a .part)) (a .at) (a .end) (bytesOf (a .w) (a .x)) (l .part) (l .p) (l .inv .0) (omega arith)
+loop-holds c = (filled-none _ _ _ (omega arith) (omega arith), omega arith, omega arith)
 
 step-requires : tie.Need-step-requires Inv-loop μ-loop
 step-requires c κs =
-    let a = c .before .before .before .before .before .args in
-    let l = c .before .before .before .loop in
-    let q = l .inv .0 in
-    omega (arith, put-length (now (a .part)) (a .at) (a .end) (bytesOf (a .w) (a .x)) (l .part) (l .p) q, q .room)
+    let more = c .before .before .before in
+    let start = more .before .before .before .before .before .before .before in
+    let f = more .loop .inv .0 in
+    let short = ltb-true (more .loop .p) (start .args .end) (c .before .if1 .taken) in (
+      omega (arith, filled-length _ _ _ _ _ f, start .pre .0, short),
+      record {
+        number = start .pre .2;
+        place = omega (arith, f .onward, start .pre .3, short);
+        above = f .onward;
+        below = omega (arith, more .before .width-of .ensures);
+      },
+    )
+
+loop-less : tie.Need-loop-less Inv-loop μ-loop
+loop-less c =
+    let more = c .before .before .before .before .before .before in
+    omega (arith, c .before .before .step .ensures .place, more .loop .inv .0 .onward)
 
 loop-again : tie.Need-loop-again Inv-loop μ-loop
-unfolding put-turn
 loop-again c =
-    let a = c .before .before .before .before .before .before .before .before .args in
-    let l = c .before .before .before .before .before .before .loop in
-    let q = l .inv .0 in
-    let new = bytesOf (a .w) (a .x) in
-    let n = byte-next new (q .count) (l .left) (l .v) (l .inv .1) (omega arith) in
+    let more = c .before .before .before .before .before .before in
+    let start = more .before .before .before .before .before .before .before in
     let s = c .before .before .step .ensures in
-    rw (s .place, s .bytes) (
-      put-turn (now (a .part)) (a .at) (a .end) new (l .part) (l .p) q (l .v % 256) (omega arith)
-          (omega (arith, bytes-left new (q .count) (l .left) (l .v) (l .inv .1))) (n .0),
-      n .1,
+    let short = ltb-true (more .loop .p) (start .args .end) (c .before .before .before .before .if1 .taken) in (
+      filled-more _ _ _ _ _ _ _ (more .loop .inv .0) (omega (arith, start .pre .0, short)) (omega (arith, start .pre .1, short)) s,
+      omega (arith, s .place),
+      omega (arith, s .place, short),
+    )
+
+same-length : tie.Need-same-length Inv-loop μ-loop
+same-length c = filled-length _ _ _ _ _ (c .before .before .loop .inv .0)
+
+returns : tie.Need-returns Inv-loop μ-loop
+returns c =
+    let more = c .before .before in
+    let start = more .before .before .before .before .before .before .before in
+    let over = ltb-false (more .loop .p) (start .args .end) (c .if1 .left) in (
+      more .loop .inv .0,
+      omega (
+        arith,
+        over,
+        start .pre .3,
+        more .loop .inv .0 .onward,
+        more .loop .inv .2,
+        more .before .width-of .ensures,
+        place-next (start .args .section) (start .args .i),
+      ),
     )
 
 same-length-2 : tie.Need-same-length-2 Inv-loop μ-loop
-same-length-2 c =
-    let a = c .before .before .before .args in
-    let l = c .before .loop in
-    put-length (now (a .part)) (a .at) (a .end) (bytesOf (a .w) (a .x)) (l .part) (l .p) (l .inv .0)
+same-length-2 c = filled-length _ _ _ _ _ (c .before .loop .inv .0)
 
 returns-2 : tie.Need-returns-2 Inv-loop μ-loop
 returns-2 c =
-    let a = c .before .before .before .args in
-    let l = c .before .loop in
-    let q = l .inv .0 in
-    let new = bytesOf (a .w) (a .x) in
-    put-all (now (a .part)) (a .at) (a .end) new (l .part) (l .p) q
-    (omega (arith, bytes-left new (q .count) (l .left) (l .v) (l .inv .1)))
+    let more = c .before in
+    let start = more .before .before .before .before .before .before .before in (
+      more .loop .inv .0,
+      omega (
+        arith,
+        start .pre .3,
+        more .loop .inv .0 .onward,
+        more .loop .inv .1,
+        more .loop .inv .2,
+        more .before .width-of .ensures,
+        place-next (start .args .section) (start .args .i),
+      ),
+    )
 
 pub put-number-spec : {M : Type 1} → statement M
 put-number-spec =
@@ -79,13 +97,13 @@ put-number-spec =
     (tie.spec
     Inv-loop
     μ-loop
+    (λ c κs. search needs)
     loop-holds
+    (λ c. omega (arith, c .loop .inv .0 .onward))
+    step-requires
+    loop-less
+    loop-again
     same-length
     returns
-    (λ c. omega arith)
-    step-requires
-    (λ c. omega arith)
-    (λ c. omega arith)
-    loop-again
     same-length-2
     returns-2)

@@ -7,7 +7,7 @@ use borrow.Author.Needs.{needs}
 use denote.Ref.{now}
 use lib.ListN.{length}
 use Rattle.journal_spec.specs.Bytes.{numberAt}
-use Rattle.journal.proofs.NumbersIn.{number-stands}
+use Rattle.journal.proofs.NumberStands.{number-stands}
 use Rattle.listing.specs.Spans.{noSpan}
 use Rattle.listing.proofs.Reached.{span-stands, span-beyond}
 use Rattle.listing.proofs.Rooms.{room-holds, room-lacks}

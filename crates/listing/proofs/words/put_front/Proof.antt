@@ -8,7 +8,7 @@ use native.Mathlib.Nat.{add-sub-cancel-left}
 use borrow.Author.Needs.{needs}
 use denote.Ref.{now}
 use Rattle.listing.specs.Spans.{numbersOf}
-use Rattle.journal.proofs.NumbersIn.{number-stands}
+use Rattle.journal.proofs.NumberStands.{number-stands}
 use Rattle.listing.proofs.Putting.{put-put, put-as}
 use Rattle.listing.proofs.Texts.{bytes-in}
 use Rattle.listing.proofs.words.put_front.Statement.{statement}

@@ -1,13 +1,16 @@
--- For code that judges and writes an offered list of numbers from the front: one number more, and the end of the list.
+-- For code that judges an offered list of numbers from the front: the first refusal from a number on, by that number and the next.
 -- Assumes nothing.
 use mathlib.Core.Path.{_≡_, refl, _∙_}
 use Prim.Native.Nat.{ℕ, zero, suc, _≤_, _<_}
-use mathlib.Core.List.{List, [], _∷_, _++_}
+use mathlib.Core.List.{List, [], _∷_}
 use lib.ListN.{length, take, drop, getD, drop-of-length-le}
 use lib.Seq.{take-suc, drop-cons}
-use Rattle.journal_spec.specs.Bytes.{bytesOf}
 use Rattle.journal_spec.specs.Refusals.{firstOf}
-use Rattle.journal_spec.specs.Section.{numberBytes, itemsRefusal, refusalFrom}
+use Rattle.journal_spec.specs.Section.{itemsRefusal}
+
+-- the first refusal of the numbers from the i-th on, by those before it
+unfoldable pub refusalFrom : (List ℕ → ℕ → ℕ) → List ℕ → ℕ → ℕ
+refusalFrom refusal xs i = itemsRefusal refusal (take i xs) (drop i xs)
 
 module _ (refusal : List ℕ → ℕ → ℕ) (xs : List ℕ) (i : ℕ) where
   judged : i < length xs
@@ -32,13 +35,3 @@ module _ (refusal : List ℕ → ℕ → ℕ) (xs : List ℕ) (i : ℕ) where
   pub refuse-none : length xs ≤ i → refusalFrom refusal xs i ≡ 0
   unfolding refusalFrom itemsRefusal
   refuse-none h = rw (drop-of-length-le xs {i = i} h) refl
-
--- the bytes of the numbers from the i-th on
-pub numbers-next : (w : ℕ) (xs : List ℕ) (i : ℕ) → i < length xs
-    → numberBytes w (drop i xs) ≡ bytesOf w (getD xs i 0) ++ numberBytes w (drop (suc i) xs)
-unfolding numberBytes
-numbers-next w xs i h = rw (drop-cons xs i 0 h) refl
-
-pub numbers-end : (w : ℕ) (xs : List ℕ) (i : ℕ) → length xs ≤ i → numberBytes w (drop i xs) ≡ []
-unfolding numberBytes
-numbers-end w xs i h = rw (drop-of-length-le xs {i = i} h) refl

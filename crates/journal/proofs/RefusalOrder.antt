@@ -3,9 +3,9 @@
 use mathlib.Core.Path.{_≡_, sym, _∙_}
 use Prim.Native.Nat.{ℕ, _≤_, _<_}
 use mathlib.Core.Bool.{true}
-use mathlib.Core.List.{List, [], _∷_}
+use mathlib.Core.List.{List}
 use native.Mathlib.Omega.{arith}
-use lib.ListN.{length}
+use lib.ListN.{length, drop}
 use lib.Dec.{leb}
 use borrow.Author.Tests.{le-leb, lt-leb}
 use Rattle.limit.specs.declared.sums.Sums.{Sums}
@@ -18,11 +18,11 @@ use Rattle.limit.proofs.Gathered.{gathered-within, gathered-outside}
 use Rattle.journal_spec.specs.Refusals.{dayRefusal, firstOf}
 use Rattle.journal_spec.specs.Section.{sectionRefusal}
 use Rattle.journal_spec.specs.Record.{Last, judgeDay, nameSection, chanceSection, timeSection, minName, maxName, minChances, maxChances}
-use Rattle.journal_spec.specs.Append.{Offer, limitsRefusal, offerRefusal}
+use Rattle.journal_spec.specs.Request.{Offer}
 use Rattle.journal_spec.proofs.Judging.{unless-true, unless-false, first-none, outside-none}
-use Rattle.journal_spec.proofs.Offers.{time-refused}
+use Rattle.journal_spec.proofs.SameRefusals.{time-refused}
 use Rattle.journal_spec.proofs.Limits.{times-good}
-use Rattle.journal.specs.Offering.{LimitsChecked, OfferChecked}
+use Rattle.journal.specs.Handed.{LimitsChecked, offerRefusals, OfferChecked}
 use Rattle.journal.proofs.Checking.{first-this, first-later, first-alone}
 
 -- ---- the counts of sections that are not refused
@@ -45,8 +45,8 @@ pub record Few (o : Offer) : Type 0 where
   pub chances : length (o .chances) ≤ maxChances
   pub times : length (o .times) ≤ maxCount
 
-pub offer-few : (last : Last) (o : Offer) → offerRefusal last o ≡ 0 → Few o
-unfolding offerRefusal
+pub offer-few : (last : Last) (o : Offer) → firstOf (offerRefusals last o) ≡ 0 → Few o
+unfolding offerRefusals
 offer-few last o e =
     let day = first-none (judgeDay last (o .day)) _ e in
     let name = first-none (sectionRefusal nameSection (o .name)) _ (day .1) in
@@ -56,48 +56,46 @@ offer-few last o e =
 
 -- ---- one refusal after another
 
+-- the rows before the i-th refuse nothing, so that the others decide
+abbrev Reached : Last → Offer → ℕ → Type 0
+Reached last o i = firstOf (offerRefusals last o) ≡ firstOf (drop i (offerRefusals last o))
+
 module _ (last : Last) (o : Offer) (bits : List ℕ) where
   -- a refusal leaves nothing to say of the limits
-  refused-by : (r : ℕ) → 0 < r → r ≡ offerRefusal last o → OfferChecked last o r bits
+  refused-by : (r : ℕ) → 0 < r → r ≡ firstOf (offerRefusals last o) → OfferChecked last o r bits
   refused-by r h e = record { refusal = e; limits = λ z. absurd (omega arith) }
 
   pub day-refused : o .day < last .day → OfferChecked last o dayRefusal bits
-  unfolding offerRefusal judgeDay
+  unfolding offerRefusals judgeDay
   day-refused h =
       refused-by dayRefusal (omega arith)
       (first-this dayRefusal _ _ (omega arith) (sym (unless-false (leb (last .day) (o .day)) dayRefusal (lt-leb (last .day) (o .day) h))))
 
   module _ (d : last .day ≤ o .day) where
-    after-day : offerRefusal last o
-        ≡ firstOf
-        (sectionRefusal nameSection (o .name)
-        ∷ sectionRefusal chanceSection (o .chances)
-        ∷ sectionRefusal timeSection (o .times)
-        ∷ limitsRefusal (o .times) (o .chances)
-        ∷ [])
-    unfolding offerRefusal judgeDay
+    after-day : Reached last o 1
+    unfolding offerRefusals judgeDay
     after-day = first-later _ _ (unless-true (leb (last .day) (o .day)) dayRefusal (le-leb (last .day) (o .day) d))
 
     pub name-refused : (r : ℕ) → 0 < r → r ≡ sectionRefusal nameSection (o .name) → OfferChecked last o r bits
+    unfolding offerRefusals
     name-refused r h e = refused-by r h (first-this r _ _ h e ∙ sym after-day)
 
     module _ (n : sectionRefusal nameSection (o .name) ≡ 0) where
-      after-name : offerRefusal last o
-          ≡ firstOf
-          (sectionRefusal chanceSection (o .chances)
-          ∷ sectionRefusal timeSection (o .times)
-          ∷ limitsRefusal (o .times) (o .chances)
-          ∷ [])
+      after-name : Reached last o 2
+      unfolding offerRefusals
       after-name = after-day ∙ first-later _ _ n
 
       pub chances-refused : (r : ℕ) → 0 < r → r ≡ sectionRefusal chanceSection (o .chances) → OfferChecked last o r bits
+      unfolding offerRefusals
       chances-refused r h e = refused-by r h (first-this r _ _ h e ∙ sym after-name)
 
       module _ (c : sectionRefusal chanceSection (o .chances) ≡ 0) (g : Gathered) (read : gatheredMeaning g ≡ gatherOf (o .times)) where
-        after-chances : offerRefusal last o ≡ firstOf (sectionRefusal timeSection (o .times) ∷ limitsRefusal (o .times) (o .chances) ∷ [])
+        after-chances : Reached last o 3
+        unfolding offerRefusals
         after-chances = after-name ∙ first-later _ _ c
 
         pub times-refused : g ≡ G.Outside → OfferChecked last o timesRefusal bits
+        unfolding offerRefusals
         times-refused told =
             let bad = gathered-outside (o .times) g read told in
             let e : timesRefusal ≡ sectionRefusal timeSection (o .times) =
@@ -107,6 +105,7 @@ module _ (last : Last) (o : Offer) (bits : List ℕ) where
         pub limits-judged : (s : Sums) → g ≡ G.Within s → (r : ℕ)
             → ((times : List ℕ) → timesInRange times ≡ true → s ≡ sumsOf times → LimitsChecked times (o .chances) r bits)
             → OfferChecked last o r bits
+        unfolding offerRefusals
         limits-judged s told r judged =
             let within = gathered-within (o .times) g read s told in
             let t : sectionRefusal timeSection (o .times) ≡ 0 =

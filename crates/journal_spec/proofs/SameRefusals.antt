@@ -1,26 +1,27 @@
 -- Append's refusals of an offer are the model's, number for number, for every offer, whatever it holds.
 -- Assumes nothing.
 use mathlib.Core.Path.{_≡_, refl, sym, ap, _∙_}
-use Prim.Native.Nat.{ℕ, suc, _+_, min}
+use Prim.Native.Nat.{ℕ, zero, suc, _+_, min}
 use mathlib.Core.List.{List, [], _∷_, _++_}
-use mathlib.Core.Bool.{Bool, true, false, cond, not, _&&_, _||_}
+use mathlib.Core.Bool.{Bool, true, false, not, _&&_, _||_}
 use native.Mathlib.Omega.{arith}
 use lib.ListN.{length, length-map}
 use lib.Dec.{leb, ltb}
 use borrow.Author.Tests.{le-leb, lt-leb, lt-ltb, le-ltb}
 use Rattle.limit.specs.Times.{minTicks, maxTicks, minCount, maxCount, inRange}
-use Rattle.limit.specs.Answer.{chanceRefusal, timesRefusal, finiteRefusal}
+use Rattle.limit.specs.Answer.{chanceRefusal, timesRefusal}
 use Rattle.limit.specs.Limit.{minChance, maxChance, chanceInRange}
 use Rattle.limit.proofs.InRange as R
-use Rattle.journal_spec.specs.Refusals.{dayRefusal, nameRefusal, roomRefusal, unless, outside, firstOf}
+use Rattle.journal_spec.specs.Refusals.{nameRefusal, unless, outside, firstOf}
 use Rattle.journal_spec.specs.Section.{itemsRefusal, sectionRefusal}
 use Rattle.journal_spec.specs.Record.{lastOf, judgeDay, lastChance, judgeChance, nameSection, chanceSection, timeSection, minName, maxName}
 use Rattle.journal_spec.specs.Record.{minByte, maxByte, minChances, maxChances, recordBytes}
 use Rattle.journal_spec.specs.Scan.{maxLength}
-use Rattle.journal_spec.specs.Append.{Offer, offered, limitsOf, limitsRefusal, judgeRoom, offerRefusal, appendRefusal}
+use Rattle.journal_spec.specs.Request.{Offer}
+use Rattle.journal_spec.specs.Append.{offered, limitsOf, judgeRoom, appendRefusal}
 use Rattle.journal_spec.specs.Model.{Model, committedOf, recordFor, each, risingFrom, rising, dayFalls, nameGood, chancesGood, timesGood}
-use Rattle.journal_spec.specs.Model.{limitsGood, noRoom, modelRefusal}
-use Rattle.journal_spec.proofs.Judging.{first-of-two}
+use Rattle.journal_spec.specs.Model.{limitsGood, noRoom, modelRefusals, modelRefusal}
+use Rattle.journal_spec.proofs.Judging.{first-of-two, unless-none}
 use Rattle.journal_spec.proofs.Reading.{by-order}
 use Rattle.journal_spec.proofs.Limits.{formulaBits, times-good, limits-refused, limits-are}
 use Rattle.journal_spec.proofs.Records.{length-record}
@@ -118,27 +119,20 @@ fits-both a r m =
 
 -- ---- all refusals, in order
 
--- both lists of refusals, by the tests' values: the limits are judged only where chances and times are good
-in-order : (d n c t l r : Bool) (limits : ℕ) → (c ≡ true → t ≡ true → limits ≡ unless l finiteRefusal)
-    → firstOf
-    (firstOf (unless (not d) dayRefusal ∷ unless n nameRefusal ∷ unless c chanceRefusal ∷ unless t timesRefusal ∷ limits ∷ [])
-    ∷ unless (not r) roomRefusal
-    ∷ [])
-    ≡ cond d dayRefusal
-    (cond (not n) nameRefusal
-    (cond (not c) chanceRefusal
-    (cond (not t) timesRefusal
-    (cond (not l) finiteRefusal
-    (cond r roomRefusal
-    0)))))
-unfolding unless firstOf
-in-order true n c t l r limits h = refl
-in-order false false c t l r limits h = refl
-in-order false true false t l r limits h = refl
-in-order false true true false l r limits h = refl
-in-order false true true true false r limits h = rw (h refl refl) refl
-in-order false true true true true true limits h = rw (h refl refl) refl
-in-order false true true true true false limits h = rw (h refl refl) refl
+-- Two lists of refusals, row by row: a row need only agree where no row before it refuses.
+abbrev pub SameRows : List ℕ → List ℕ → Type 0
+SameRows [] [] = Unit {0}
+SameRows [] (m ∷ ms) = ⊥
+SameRows (n ∷ ns) [] = ⊥
+SameRows (n ∷ ns) (m ∷ ms) = (n ≡ m) × (m ≡ 0 → SameRows ns ms)
+
+pub same-rows : (ns ms : List ℕ) → SameRows ns ms → firstOf ns ≡ firstOf ms
+unfolding firstOf
+same-rows [] [] h = refl
+same-rows [] (m ∷ ms) h = absurd h
+same-rows (n ∷ ns) [] h = absurd h
+same-rows (n ∷ ns) (zero ∷ ms) h = rw (h .0) (same-rows ns ms (h .1 refl))
+same-rows (n ∷ ns) (suc m ∷ ms) h = rw (h .0) refl
 
 -- what good chances say of each
 pub chances-each : (xs : List ℕ) → chancesGood xs ≡ true → each (inRange minChance maxChance) xs ≡ true
@@ -154,20 +148,30 @@ same-length o = length-record (offered o) ∙ rw (length-map, length-map) refl �
 
 pub same-refusal : (room : ℕ) (m : Model) (o : Offer)
     → appendRefusal room (lastOf (m .records)) (committedOf m) o ≡ modelRefusal room m o
-unfolding appendRefusal offerRefusal modelRefusal judgeDay judgeRoom dayFalls noRoom limitsGood
+unfolding appendRefusal modelRefusal modelRefusals judgeDay judgeRoom dayFalls noRoom limitsGood
 same-refusal room m o =
     let size : ℕ = committedOf m + length (recordBytes (recordFor o)) in
-    rw (
-      not-below (lastOf (m .records) .day) (o .day),
-      name-refused (o .name),
-      chance-refused (o .chances),
-      time-refused (o .times),
-      same-length o,
-      fits-both size room maxLength,
+    same-rows _ _ (
+      rw (not-below (lastOf (m .records) .day) (o .day)) refl,
+      λ day. (
+        name-refused (o .name),
+        λ name. (
+          chance-refused (o .chances),
+          λ chances. (
+            time-refused (o .times),
+            λ times. (
+              (let c = unless-none (chancesGood (o .chances)) 4 chances in
+                  let t = unless-none (timesGood (o .times)) 5 times in
+                  limits-refused (o .times) (sym (times-good (o .times)) ∙ t) (o .chances) (chances-each (o .chances) c)),
+              λ limits. (
+                rw (same-length o, fits-both size room maxLength) refl,
+                λ fits. tt,
+              ),
+            ),
+          ),
+        ),
+      ),
     )
-    (in-order (ltb (o .day) (lastOf (m .records) .day)) (nameGood (o .name)) (chancesGood (o .chances)) (timesGood (o .times))
-    (unfold limitsGood in limitsGood o) (ltb room size || ltb maxLength size) (limitsRefusal (o .times) (o .chances))
-    (λ c t. limits-refused (o .times) (sym (times-good (o .times)) ∙ t) (o .chances) (chances-each (o .chances) c)))
 
 -- an offer that is not declined is the model's record
 pub same-record : (o : Offer) → chancesGood (o .chances) ≡ true → timesGood (o .times) ≡ true → limitsGood o ≡ true → offered o ≡ recordFor o

@@ -1,0 +1,58 @@
+-- What a call is handed, as the journal's definitions take it: the offer, and the record of it with given limits.
+-- The contracts of the check, the writers and append cite these.
+use mathlib.Core.Path.{_≡_}
+use Prim.Native.Nat.{ℕ}
+use mathlib.Core.List.{List, [], _∷_}
+use lib.ListN.{length, take}
+use Rattle.journal_spec.specs.Refusals.{firstOf}
+use Rattle.journal_spec.specs.Record.{Record, Last, theForm, judgeDay, nameSection, chanceSection, timeSection, recordBytes}
+use Rattle.journal_spec.specs.Section.{sectionRefusal}
+use Rattle.journal_spec.specs.Request.{Offer}
+use Rattle.journal_spec.specs.Request as Request
+use Rattle.journal_spec.specs.Append.{limitsOf, limitsRefusal}
+use Rattle.journal.specs.declared.extend.Budget.{Budget}
+use Rattle.journal.specs.declared.extend.Budget.the-variants as B
+
+-- document 01's offered leaf, from a call's arguments
+unfoldable pub offerFrom : ℕ → List ℕ → List ℕ → List ℕ → Offer
+offerFrom day name chances times = record { day = day; name = name; chances = chances; times = times }
+
+-- how much of the record a call may write, as the definitions say it
+unfoldable pub asBudget : Budget → Request.Budget
+asBudget B.All = Request.all
+asBudget (B.UpTo k) = Request.upTo k
+
+-- the record of the arguments with these limits
+unfoldable pub recordFrom : ℕ → List ℕ → List ℕ → List ℕ → List ℕ → Record
+recordFrom day name chances times limits = record {
+  form = theForm;
+  day = day;
+  name = name;
+  chances = chances;
+  times = times;
+  limits = limits;
+}
+
+-- its bytes
+abbrev pub bytesFrom : ℕ → List ℕ → List ℕ → List ℕ → List ℕ → List ℕ
+bytesFrom day name chances times limits = recordBytes (recordFrom day name chances times limits)
+
+-- The limits of the times at the chances were judged: r is their refusal, and where there is none their bits stand first in `bits`.
+pub record LimitsChecked (times chances : List ℕ) (r : ℕ) (bits : List ℕ) : Type 0 where
+  pub refusal : r ≡ limitsRefusal times chances
+  pub limits : r ≡ 0 → take (length chances) bits ≡ limitsOf times chances
+
+-- the rows of append's refusals that need no room: 3, 4, 5, 6, 8
+unfoldable pub offerRefusals : Last → Offer → List ℕ
+offerRefusals last o =
+    judgeDay last (o .day)
+    ∷ sectionRefusal nameSection (o .name)
+    ∷ sectionRefusal chanceSection (o .chances)
+    ∷ sectionRefusal timeSection (o .times)
+    ∷ limitsRefusal (o .times) (o .chances)
+    ∷ []
+
+-- the offer was judged by these after the record `last`
+pub record OfferChecked (last : Last) (o : Offer) (r : ℕ) (bits : List ℕ) : Type 0 where
+  pub refusal : r ≡ firstOf (offerRefusals last o)
+  pub limits : r ≡ 0 → take (length (o .chances)) bits ≡ limitsOf (o .times) (o .chances)
