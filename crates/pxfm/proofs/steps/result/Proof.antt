@@ -8,6 +8,11 @@ use Rattle.pxfm.proofs.Calls.{ok}
 use Rattle.pxfm.proofs.steps.result.Statement.{statement}
 use Rattle.pxfm.proofs.steps.result.Tie as tie
 
+-- The quotient's arm has a name of its own, so that an error in it is seen where another arm's function is refused.
+quotient : tie.Need-returns-9
+unfolding results resultOf
+quotient c = rw (c .patterns9 .ensures, c .before .div .ensures, c .before .before .match .keys9)
+
 -- An arm with number k: the list has its function's result at k. A number that no arm has is past the list's end.
 pub result-spec : {M : Type 1} → statement M
 unfolding results resultOf
@@ -25,7 +30,7 @@ result-spec =
     (λ c. rw (c .patterns6 .ensures, c .before .fast-sqrt .ensures, c .before .before .match .keys6))
     (λ c. rw (c .patterns7 .ensures, c .before .mul-add-f64 .ensures, c .before .before .match .keys7))
     (λ c. rw (c .patterns8 .ensures, c .before .recip .ensures, c .before .before .match .keys8))
-    (λ c. rw (c .patterns9 .ensures, c .before .div .ensures, c .before .before .match .keys9))
+    quotient
     (λ c. rw (c .patterns10 .ensures, c .before .mul-f64-add .ensures, c .before .before .match .keys10))
     (λ c. rw (c .patterns11 .ensures, c .before .mul-add .ensures, c .before .before .match .keys11))
     (λ c. rw (c .patterns12 .ensures, c .before .quick-mult .ensures, c .before .before .match .keys12))
