@@ -1,6 +1,6 @@
 """What append-check and awaqlla-check share: counts of what was tried, what differed, files, and what document 01's book says.
 
-The expected bytes come from tools/leaf.py, which is written from document 01 with the Rust's quantiles, not from this library."""
+The expected bytes come from tools/leaf.py, which is written from documents 01 and 02 with the Rust's quantiles, not from this library."""
 
 import itertools
 import os
@@ -10,7 +10,7 @@ import sys
 TOP = os.path.dirname(os.path.dirname(os.path.abspath(__file__)))
 PROGRAMS = os.path.join(TOP, "target", "bin")
 sys.path.insert(0, os.path.join(TOP, "tools"))
-from leaf import EIGHT, Leaf  # noqa: E402, F401 (the path is set above; the checks import both from here)
+from leaf import EIGHT, OLD, Leaf  # noqa: E402, F401 (the path is set above; the checks import these from here)
 
 WAIT = 60  # seconds after which a program that should end by itself counts as hanging
 counts = {}

@@ -96,5 +96,11 @@ int main(void)
     scan();
     record(0);
     append("C", 2, 90, 110);
+    volume[33] = 1; /* form 1 after a record of form 2 */
+    list();
+    append("C", 2, 90, 110);
+    volume[0] = 1; /* both of form 1: at this chance each form has the same limit */
+    append("C", 2, 90, 110);
+    scan();
     return 0;
 }

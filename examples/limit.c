@@ -1,5 +1,5 @@
-/* limit CHANCE TICKS..: the limit of the times at a chance in a million, as its 16 hexadecimal digits and in decimal,
-   or the refusal's number. Shows how a C program calls the library. */
+/* limit [--form FORM] CHANCE TICKS..: the limit of the times at a chance in a million, as its 16 hexadecimal digits and in decimal,
+   or the refusal's number; under form 2, which every new record has, unless another is said. Shows how a C program calls the library. */
 #include <errno.h>
 #include <inttypes.h>
 #include <stdio.h>
@@ -23,20 +23,26 @@ static uint32_t number(const char *text)
 
 int main(int argc, char **argv)
 {
-    if (argc < 2 || strcmp(argv[1], "--help") == 0) {
-        fprintf(argc < 2 ? stderr : stdout, "usage: limit CHANCE TICKS..\n");
-        return argc < 2 ? 2 : 0;
+    uint32_t form = 2;
+    int at = 1; /* the chance */
+    if (argc > 2 && strcmp(argv[1], "--form") == 0) {
+        form = number(argv[2]);
+        at = 3;
     }
-    size_t n = (size_t)argc - 2;
+    if (argc <= at || strcmp(argv[at], "--help") == 0) {
+        fprintf(argc <= at ? stderr : stdout, "usage: limit [--form FORM] CHANCE TICKS..\n");
+        return argc <= at ? 2 : 0;
+    }
+    size_t n = (size_t)(argc - at) - 1;
     uint32_t *times = malloc((n + 1) * sizeof *times);
     if (times == NULL) {
         fprintf(stderr, "limit: no memory\n");
         return 2;
     }
     for (size_t i = 0; i < n; i++)
-        times[i] = number(argv[i + 2]);
+        times[i] = number(argv[(size_t)at + 1 + i]);
     uint64_t out[2];
-    limit_bits(times, n, number(argv[1]), out);
+    limit_bits(form, times, n, number(argv[at]), out);
     free(times);
     if (out[0] == LIMIT_REFUSED) {
         printf("refused %" PRIu64 "\n", out[1]);

@@ -59,6 +59,11 @@ int main()
     say("times", volume.append(5, "A", 500000, 129).word[1], AWAQLLA_REFUSAL_TIMES);
     say("room", Volume(32).append(5, "A", 500000, 2).word[1], AWAQLLA_REFUSAL_ROOM);
     say("absent", journal_mark(volume.bytes.data(), volume.bytes.size(), volume.length, 1), AWAQLLA_REFUSAL_ABSENT);
+    Volume forms;
+    forms.append(5, "A", 500000, 2);
+    forms.append(5, "A", 500000, 2);
+    forms.bytes[33] = 1;
+    say("old form", forms.scan(66).word[1], AWAQLLA_REFUSAL_OLD_FORM);
     volume.bytes[32] ^= 1;
     say("limit", volume.scan(33).word[1], AWAQLLA_REFUSAL_LIMIT);
     volume.bytes[0] = 7;
@@ -74,9 +79,9 @@ int main()
         chances.size(), times.data(), times.size(), a.word);
     say("the largest record", a.word[1], JOURNAL_MAX_RECORD);
     std::uint64_t limit[2];
-    limit_bits(times.data(), times.size(), 500000, limit);
+    limit_bits(2, times.data(), times.size(), 500000, limit);
     say("answered", limit[0], LIMIT_ANSWERED);
-    limit_bits(times.data(), times.size(), 0, limit);
+    limit_bits(2, times.data(), times.size(), 0, limit);
     say("refused", limit[0], LIMIT_REFUSED);
     return 0;
 }

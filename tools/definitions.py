@@ -1,11 +1,11 @@
 """The definitions over doubles in crates/*/specs/*.antt as functions, for tools/definition-check.
 
-Reads what those files use of the language: equations with `let`, application, projections, `cond`, lists, and whole numbers
-with + - *. The operations on doubles are those of tools/recompute, or the symbols put in their place.
+Reads what those files use of the language: equations with `let`, application, projections, `cond`, `&&`, `||`, lists, and whole
+numbers with + - *. The operations on doubles are those of tools/recompute, or the symbols put in their place.
 """
 import re
 
-TOKEN = re.compile(r"\s+(\.\w+)|\s*(0x[0-9a-f_]+|\d[\d_]*|\w+|\[\]|∷|\|\||[()={};*+-])")
+TOKEN = re.compile(r"\s+(\.\w+)|\s*(0x[0-9a-f_]+|\d[\d_]*|\w+|\[\]|∷|\|\||&&|[()={};*+-])")
 FIELDS = {"lo": 0, "hi": 1}
 
 
@@ -25,7 +25,7 @@ def tokens(text):
 class Parser:
     """Expressions as tuples: ("let", name, value, body), ("call", head, arguments), ("field", of, name), ("op", sign, left, right) .."""
 
-    RANKS = (("∷",), ("||",), ("+", "-"), ("*",))
+    RANKS = (("∷",), ("||",), ("&&",), ("+", "-"), ("*",))
 
     def __init__(self, text):
         self.left = tokens(text)[::-1]
@@ -120,6 +120,9 @@ class Definitions:
             "lt": lambda x, y: r.less(x, y),
             "le": lambda x, y: r.at_most(x, y),
             "eq": lambda x, y: r.equal(x, y),
+            "eqb": lambda m, n: m == n,
+            "leb": lambda m, n: m <= n,
+            "firstOf": lambda numbers: next((n for n in numbers if n), 0),
             "ofBits": lambda _, bits: bits,
             "toBits": lambda _, x: x,
             "ofInt": lambda _, n: r.double(n),
@@ -139,9 +142,14 @@ class Definitions:
         if isinstance(body, str):
             body = Parser(body).expression()
             self.equations[name] = (parameters, body)
+        scope = dict(zip(parameters, arguments))
+        if len(arguments) > len(parameters) and body[0] == "call":
+            # An equation between functions: the arguments beyond its own go to the right side.
+            beyond = {f"argument {i}": value for i, value in enumerate(arguments[len(parameters) :])}
+            return self.value(("call", body[1], body[2] + [("name", key) for key in beyond]), {**scope, **beyond})
         if len(arguments) != len(parameters):
             raise TypeError(f"{name} has {len(parameters)} arguments")
-        return self.value(body, dict(zip(parameters, arguments)))
+        return self.value(body, scope)
 
     def value(self, what, scope):
         kind = what[0]
@@ -179,4 +187,6 @@ class Definitions:
             return [left] + right
         if sign == "||":
             return left or right
+        if sign == "&&":
+            return left and right
         return {"+": left + right, "-": left - right, "*": left * right}[sign]

@@ -1,4 +1,5 @@
-"""Document 01's Limit, Leaf and mark, for the tools that make volumes: written from that paper alone, and not from our code.
+"""Document 01's Limit, Leaf and mark with document 02's two forms, for the tools that make volumes: written from the papers alone, and
+not from our code.
 
 The quantile is not worked out here. Its bits come from the Rust: tools/journal_quantiles has those of eight chances, and the
 list crates/quantile_vectors/stdin, which tools/quantile-vectors makes, those of some more. The rest of a limit is worked out in
@@ -11,6 +12,7 @@ import struct
 
 ROOT = pathlib.Path(__file__).resolve().parent.parent
 LONGEST = 65536  # bytes of a volume, at the most
+OLD, NEW = 1, 2  # the forms: document 01's, and document 02's (2026-04), which every new record has
 
 
 def bits_of(x):
@@ -55,12 +57,17 @@ STORED = sorted(quantiles_stored())  # those of the stored list of the quantile
 # ---- Limit, mark and Leaf.
 
 
-def limit_of(times, chance):
+def divisor_of(form, n):
+    """What D is divided by."""
+    return {OLD: n * n, NEW: n * (n - 1)}[form]
+
+
+def limit_of(times, chance, form):
     """mean + (spread * 1.4142135623730951) * e, one rounding an operation, products from the left."""
     n, total = len(times), sum(times)
     d = n * sum(time * time for time in times) - total * total
     mean = float(total) / float(n)
-    spread = math.sqrt(float(d) / float(n * n))
+    spread = math.sqrt(float(d) / float(divisor_of(form, n)))
     return mean + (spread * 1.4142135623730951) * QUANTILE[chance]
 
 
@@ -71,10 +78,10 @@ def mark_of(times):
 
 
 class Leaf:
-    """A record as its fields, in range or not. Limits that are not given are worked out, as bits, when they are asked for;
-    a count that is not given is the section's own."""
+    """A record as its fields, in range or not. Limits that are not given are worked out by its form, as bits, when they are asked
+    for; a count that is not given is the section's own."""
 
-    def __init__(self, day=1, name=b"A", chances=(500000,), times=(100, 100), form=1, limits=None, counts=None):
+    def __init__(self, day=1, name=b"A", chances=(500000,), times=(100, 100), form=NEW, limits=None, counts=None):
         self.form, self.day, self.name = form, day, bytes(name)
         self.chances, self.times = tuple(chances), tuple(times)
         self.counts = counts or {}
@@ -83,7 +90,7 @@ class Leaf:
 
     @functools.cached_property
     def limits(self):
-        return tuple(bits_of(limit_of(self.times, chance)) for chance in self.chances)
+        return tuple(bits_of(limit_of(self.times, chance, self.form)) for chance in self.chances)
 
     def fields(self):
         """Each field in byte order: what it is, its width, its value."""

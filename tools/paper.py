@@ -126,8 +126,11 @@ class Blocks:
         given = [what if isinstance(what, (bool, Index)) else wrapped(what) for what in arguments]
         return plain(self.scope[name](*given))
 
-    def limit(self, n, s, d, c):
-        return plain(self.scope["limitOf"](n, s, d, c))
+    def limit(self, f, n, s, d, c):
+        return plain(self.scope["limitOf"](f, n, s, d, c))
+
+    def divisor(self, f, n):
+        return self.scope["divisor"](f, n)
 
 
 class Index(int):

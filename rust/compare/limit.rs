@@ -1,11 +1,12 @@
-// The limit against document 01's formula, worked in rust/reference with the Rust's quantile and the hardware's root,
-// over random and edge sets of times and chances, those that are refused included.
+// The limit against the papers' formula under both forms, worked in rust/reference with the Rust's quantile and the hardware's root,
+// over random and edge sets of times, chances and forms, those that are refused included.
 
 use crate::options::Options;
 use crate::tally::{Tally, Totals};
 use inputs::random::Random;
 use reference::limit::{limit, LAST_TIME};
 
+const FORMS: [u32; 9] = [0, 1, 2, 3, 257, 258, 65_535, 65_537, u32::MAX];
 const CHANCES: [u32; 9] = [
     0,
     1,
@@ -25,37 +26,39 @@ pub fn compare(options: &Options, totals: &mut Totals) {
     compare_random(options, totals);
 }
 
-/// Every count, chance and two times of the edges: the two times in turn, then in random order.
+/// Every count, form, chance and two times of the edges: the two times in turn, then in random order.
 fn compare_edges(options: &Options, totals: &mut Totals) {
     let mut tally = Tally::new("limit, edges");
     let mut random = options.random("limit, edges");
     for count in COUNTS {
         for (first, second) in TIMES.iter().flat_map(|a| TIMES.map(|b| (*a, b))) {
-            for chance in CHANCES {
+            for (form, chance) in FORMS.iter().flat_map(|a| CHANCES.map(|b| (*a, b))) {
                 let turns = [first, second].into_iter().cycle();
                 let mut times: Vec<u32> = turns.take(count).collect();
-                compare_at(&times, chance, &mut tally);
+                compare_at(form, &times, chance, &mut tally);
                 times
                     .iter_mut()
                     .for_each(|time| *time = *random.pick(&[first, second]));
-                compare_at(&times, chance, &mut tally);
+                compare_at(form, &times, chance, &mut tally);
             }
         }
     }
     tally.close(totals);
 }
 
-/// Random times within a random spread, and at times one time or the chance out of range.
+/// Random times within a random spread under both forms, and at times one time, the chance or the form out of range.
 fn compare_random(options: &Options, totals: &mut Totals) {
     let mut tally = Tally::new("limit, random");
     let mut random = options.random("limit, random");
     for _ in 0..options.times(300_000) {
         let mut times = random_times(&mut random);
         let chance = random.whole(1, 999_999) as u32;
-        compare_at(&times, chance, &mut tally);
+        compare_at(1, &times, chance, &mut tally);
+        compare_at(2, &times, chance, &mut tally);
         let place = random.below(times.len() as u64) as usize;
         times[place] = *random.pick(&TIMES);
-        compare_at(&times, *random.pick(&CHANCES), &mut tally);
+        let form = *random.pick(&FORMS);
+        compare_at(form, &times, *random.pick(&CHANCES), &mut tally);
     }
     tally.close(totals);
 }
@@ -68,12 +71,14 @@ fn random_times(random: &mut Random) -> Vec<u32> {
     (0..count).map(|_| random.whole(low, high) as u32).collect()
 }
 
-fn compare_at(times: &[u32], chance: u32, tally: &mut Tally) {
+fn compare_at(form: u32, times: &[u32], chance: u32, tally: &mut Tally) {
     let sides = [
-        ours::limit_bits(times, chance),
-        answer(limit(times, chance)),
+        ours::limit_bits(form, times, chance),
+        answer(limit(form, times, chance)),
     ];
-    tally.take(sides, || format!("times {times:?} at {chance}"));
+    tally.take(sides, || {
+        format!("times {times:?} at {chance} under form {form}")
+    });
 }
 
 /// {0, bits of the limit} or {1, refusal}.

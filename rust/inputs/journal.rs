@@ -17,7 +17,7 @@ pub const SMALLEST: usize = 33;
 pub const LARGEST: usize = 652;
 
 /// Values at both sides of each range, and far beyond.
-pub const FORMS: [u16; 5] = [0, 2, 3, 0x100, u16::MAX];
+pub const FORMS: [u16; 9] = [0, 1, 2, 3, 0x100, 0x101, 0x102, 0x202, u16::MAX];
 pub const NAME_COUNTS: [u16; 6] = [0, 1, 32, 33, 0x100, u16::MAX];
 pub const NAME_BYTES: [u8; 6] = [0x00, 0x20, 0x21, 0x7e, 0x7f, 0xff];
 pub const CHANCE_COUNTS: [u16; 6] = [0, 1, 8, 9, 0x100, u16::MAX];

@@ -1,7 +1,7 @@
 // Document 01, Book of demand 3: what a list of calls should have made, fed the calls' arguments and the slice's length alone;
-// and append on any slice, which surveys it first.
+// and append on any slice, which surveys it first. New records are form 2 (document 02, 2026-04).
 
-use crate::limit::{chance_fits, count_fits, time_fits};
+use crate::limit::{chance_fits, count_fits, time_fits, Form};
 use crate::record::Record;
 use crate::scan::{scan_all, Entry, Status, MAX_LENGTH};
 
@@ -30,6 +30,28 @@ pub struct Model {
 }
 
 impl Model {
+    /// Of a journal that stands, with these records and this torn tail.
+    pub fn of(records: &[Record], tail: &[u8]) -> Model {
+        let mut model = Model::default();
+        records.iter().for_each(|record| model.push(record));
+        model.tail = tail.to_vec();
+        model
+    }
+
+    /// A record more, written to its last byte.
+    fn push(&mut self, record: &Record) {
+        let bytes = record.bytes();
+        self.entries.push(Entry {
+            start: self.committed(),
+            size: bytes.len(),
+            form: Form::of(record.form.into()).expect("form 1 or 2"),
+            day: record.day,
+            mark: record.mark(),
+        });
+        self.records.push(bytes);
+        self.tail.clear();
+    }
+
     /// The sum of the records' lengths.
     pub fn committed(&self) -> usize {
         self.records.iter().map(Vec::len).sum()
@@ -55,14 +77,7 @@ impl Model {
         if k < bytes.len() {
             self.tail = bytes[..k].to_vec();
         } else {
-            self.entries.push(Entry {
-                start: committed,
-                size: bytes.len(),
-                day: record.day,
-                mark: record.mark(),
-            });
-            self.records.push(bytes);
-            self.tail.clear();
+            self.push(&record);
         }
         Answer::Length(self.len())
     }
@@ -102,7 +117,13 @@ pub fn offered(
     if !count_fits(offer.times.len()) || !offer.times.iter().all(|time| time_fits(*time)) {
         return Err(6);
     }
-    let record = Record::new(offer.day, &offer.name, &offer.chances, &offer.times);
+    let record = Record::new(
+        Form::Sample,
+        offer.day,
+        &offer.name,
+        &offer.chances,
+        &offer.times,
+    );
     if !record
         .limits
         .iter()

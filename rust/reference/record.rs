@@ -1,7 +1,7 @@
-// Document 01, Leaf: a record's fields and their bytes.
+// Document 01, Leaf, with document 02's forms: a record's fields and their bytes.
 // A record here may break every rule: the encoding takes it as it is, so that wrong ones can be made too.
 
-use crate::limit::Sums;
+use crate::limit::{Form, Sums};
 
 #[derive(Clone, Debug, Default, PartialEq, Eq)]
 pub struct Record {
@@ -20,20 +20,26 @@ pub const NORMAL: u8 = b'N';
 pub const NOT_FEW: usize = 8;
 
 impl Record {
-    /// The record of these arguments in form 1, with its limits by the formula. Times and chances are in range.
-    pub fn new(day: u16, name: &[u8], chances: &[u32], times: &[u32]) -> Record {
+    /// The record of these arguments in a form, with its limits by that form's formula. Times and chances are in range.
+    pub fn new(form: Form, day: u16, name: &[u8], chances: &[u32], times: &[u32]) -> Record {
         let sums = Sums::of(times);
         Record {
-            form: 1,
+            form: form as u16,
             day,
             name: name.to_vec(),
             chances: chances.to_vec(),
             times: times.to_vec(),
             limits: chances
                 .iter()
-                .map(|c| sums.limit_at(*c).to_bits())
+                .map(|c| sums.limit_at(form, *c).to_bits())
                 .collect(),
         }
+    }
+
+    /// The record of the same arguments in the other form, where its own is one of the two.
+    pub fn in_other_form(&self) -> Record {
+        let form = Form::of(self.form.into()).expect("form 1 or 2").other();
+        Record::new(form, self.day, &self.name, &self.chances, &self.times)
     }
 
     /// Its bytes, with each section's count as it is.

@@ -1,21 +1,47 @@
-// Valid journals made of random records.
+// Valid journals made of random records: of form 1 up to a place, of form 2 from there on.
 // The records' fields are drawn in rust/inputs, their bytes made here.
 
+use crate::limit::Form;
 use crate::record::Record;
 use crate::scan::MAX_LENGTH;
 use inputs::journal::{record, record_of_size, Fields, LARGEST, SMALLEST};
 use inputs::random::Random;
 
-fn encoded(fields: &Fields) -> Record {
-    Record::new(fields.day, &fields.name, &fields.chances, &fields.times)
+fn encoded(form: Form, fields: &Fields) -> Record {
+    Record::new(
+        form,
+        fields.day,
+        &fields.name,
+        &fields.chances,
+        &fields.times,
+    )
 }
 
-/// So many records whose days never fall.
+/// Form 1 below the turn, form 2 from there on.
+fn form_at(place: usize, turn: usize) -> Form {
+    if place < turn {
+        Form::Plain
+    } else {
+        Form::Sample
+    }
+}
+
+/// So many records whose forms and days never fall.
 pub fn records(random: &mut Random, count: u64) -> Vec<Record> {
+    let old = random.below(count + 1) as usize;
+    records_with(random, count as usize, old)
+}
+
+/// So many records of form 1, whose days never fall.
+pub fn old_records(random: &mut Random, count: u64) -> Vec<Record> {
+    records_with(random, count as usize, count as usize)
+}
+
+fn records_with(random: &mut Random, count: usize, old: usize) -> Vec<Record> {
     let mut day = random.below(1 << 16) as u16 >> random.below(16);
     let mut records = Vec::new();
-    for _ in 0..count {
-        records.push(encoded(&record(random, day)));
+    for i in 0..count {
+        records.push(encoded(form_at(i, old), &record(random, day)));
         day = day.saturating_add(random.below(3) as u16);
     }
     records
@@ -23,6 +49,7 @@ pub fn records(random: &mut Random, count: u64) -> Vec<Record> {
 
 /// Records that take so many bytes, each of the size that `draw` gives where the rest allows.
 pub fn filling(random: &mut Random, total: usize, draw: impl Fn(&mut Random) -> usize) -> Vec<u8> {
+    let turn = random.below(total as u64 + 1) as usize;
     let mut bytes = Vec::new();
     while bytes.len() < total {
         let rest = total - bytes.len();
@@ -31,7 +58,8 @@ pub fn filling(random: &mut Random, total: usize, draw: impl Fn(&mut Random) -> 
             _ if rest <= LARGEST => rest,
             _ => rest - SMALLEST.max(rest - LARGEST),
         };
-        bytes.extend(encoded(&record_of_size(random, 7, size)).bytes());
+        let form = form_at(bytes.len(), turn);
+        bytes.extend(encoded(form, &record_of_size(random, 7, size)).bytes());
     }
     bytes
 }

@@ -1,7 +1,7 @@
-// Document 01's survey and reading, over any bytes: the fields in byte order, each judged when its last byte stands.
+// Document 01's survey and reading with document 02's forms, over any bytes: the fields in byte order, each judged when its last byte stands.
 // One pass keeps every record's part and mark; it allocates only where a caller asks for them.
 
-use crate::limit::{chance_fits, Sums, LAST_TIME};
+use crate::limit::{chance_fits, Form, Sums, LAST_TIME};
 use crate::record::mark;
 
 pub const MAX_LENGTH: usize = 65_536;
@@ -21,6 +21,7 @@ pub enum Status {
 pub struct Entry {
     pub start: usize,
     pub size: usize,
+    pub form: Form,
     pub day: u16,
     pub mark: u8,
 }
@@ -57,14 +58,14 @@ fn scan_each(slice: &[u8], len: usize, mut tell: impl FnMut(Entry)) -> Status {
         bytes: &slice[..len],
         at: 0,
     };
-    let (mut records, mut committed, mut day) = (0, 0, 0);
+    let (mut records, mut committed, mut before) = (0, 0, None);
     loop {
-        match cursor.record(day) {
+        match cursor.record(before) {
             Ok(entry) => {
                 tell(entry);
                 records += 1;
                 committed = cursor.at;
-                day = entry.day;
+                before = Some(entry);
             }
             Err(Stop::Fault { number, place }) => return Status::Damaged { number, place },
             Err(Stop::Short) if committed == len => return Status::Whole { records, committed },
@@ -102,23 +103,32 @@ impl Cursor<'_> {
         Ok(n)
     }
 
-    /// A record whose day is not below that of the one before it.
-    fn record(&mut self, day_before: u16) -> Result<Entry, Stop> {
+    /// A record after the one before it: neither its form nor its day falls.
+    fn record(&mut self, before: Option<Entry>) -> Result<Entry, Stop> {
         let start = self.at;
-        self.count(2, 1, 1)?;
+        let form = self.form(before.map(|entry| entry.form))?;
         let day = u16::from_le_bytes(self.bytes()?);
-        self.judge(2, 3, day >= day_before)?;
+        self.judge(2, 3, before.is_none_or(|entry| entry.day <= day))?;
         self.name()?;
         let mut room = [0; 8];
         let chances = self.chances(&mut room)?;
         let (sums, equal) = self.times()?;
-        self.limits(chances, &sums)?;
+        self.limits(form, chances, &sums)?;
         Ok(Entry {
             start,
             size: self.at - start,
+            form,
             day,
             mark: mark(equal, sums.n as usize),
         })
+    }
+
+    /// 2 is any number but 1 and 2, and then 13 is form 1 after form 2.
+    fn form(&mut self, before: Option<Form>) -> Result<Form, Stop> {
+        let number = u16::from_le_bytes(self.bytes()?);
+        self.judge(2, 2, number == 1 || number == 2)?;
+        self.judge(2, 13, number == 2 || before != Some(Form::Sample))?;
+        Ok(Form::of(number.into()).expect("form 1 or 2"))
     }
 
     fn name(&mut self) -> Result<(), Stop> {
@@ -156,12 +166,12 @@ impl Cursor<'_> {
         Ok((sums, least == most))
     }
 
-    fn limits(&mut self, chances: &[u32], sums: &Sums) -> Result<(), Stop> {
+    fn limits(&mut self, form: Form, chances: &[u32], sums: &Sums) -> Result<(), Stop> {
         let n = u16::from_le_bytes(self.bytes()?);
         self.judge(2, 7, usize::from(n) == chances.len())?;
         for chance in chances {
             let bits = u64::from_le_bytes(self.bytes()?);
-            let limit = sums.limit_at(*chance);
+            let limit = sums.limit_at(form, *chance);
             self.judge(8, 8, limit.is_finite())?;
             self.judge(8, 7, limit.to_bits() == bits)?;
         }

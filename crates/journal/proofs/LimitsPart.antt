@@ -61,24 +61,24 @@ refused-found short x h = let z : _≡_ {A = ℕ} 0 1 = cc in absurd (omega arit
 
 -- ---- the two sections
 
-module _ (b : List ℕ) (chances n : ℕ) (sums : Sums) (list times : List ℕ)
+module _ (b : List ℕ) (chances n form : ℕ) (sums : Sums) (list times : List ℕ)
     (stand : Stands b chances n list) (good : timesInRange times ≡ true) (total : sums ≡ sumsOf times) where
   -- limit i is judged by the limit of the times at chance i
-  item-agrees : (xs : List ℕ) → length xs < n → limitItem b chances sums xs ≡ judgeLimit (limitOf times (getD list (length xs) 0))
+  item-agrees : (xs : List ℕ) → length xs < n → limitItem b chances form sums xs ≡ judgeLimit (limitOf form times (getD list (length xs) 0))
   unfolding limitItem limitRefusalAt
   item-agrees xs h =
       ap judgeLimit
-      (ap₂ limitOfSums total (sym (stand .numbers (length xs) h)) ∙ sym (limit-of-sums-agrees times (getD list (length xs) 0) good))
+      (ap₂ (limitOfSums form) total (sym (stand .numbers (length xs) h)) ∙ sym (limit-of-sums-agrees form times (getD list (length xs) 0) good))
 
-  items-agree : items 8 (limitItem b chances sums) n [] ≡ items 8 (λ before. judgeLimit (limitOf times (getD list (length before) 0))) n []
+  items-agree : items 8 (limitItem b chances form sums) n [] ≡ items 8 (λ before. judgeLimit (limitOf form times (getD list (length before) 0))) n []
   items-agree =
-      same-items 8 (limitItem b chances sums) (λ before. judgeLimit (limitOf times (getD list (length before) 0))) n n [] item-agrees
+      same-items 8 (limitItem b chances form sums) (λ before. judgeLimit (limitOf form times (getD list (length before) 0))) n n [] item-agrees
       (omega arith)
 
   module _ (at : ℕ) where
     by-count : (f : FieldRead) → f ≡ fieldBy 2 (λ k. unless (eqb k n) limitRefusal) at b
-        → afterField (λ k. items 8 (limitItem b chances sums) k []) 2 at b f
-        ≡ afterField (λ k. items 8 (λ before. judgeLimit (limitOf times (getD list (length before) 0))) k []) 2 at b f
+        → afterField (λ k. items 8 (limitItem b chances form sums) k []) 2 at b f
+        ≡ afterField (λ k. items 8 (λ before. judgeLimit (limitOf form times (getD list (length before) 0))) k []) 2 at b f
     unfolding afterField
     by-count (F.Value k) e =
         let v = read-value 2 (λ j. unless (eqb j n) limitRefusal) at b k e in
@@ -87,19 +87,19 @@ module _ (b : List ℕ) (chances n : ℕ) (sums : Sums) (list times : List ℕ)
     by-count F.Short e = refl
     by-count (F.Refused x) e = refl
 
-    sections-agree : run (section (limitsBy b n chances sums)) at (drop at b) ≡ run (section (limitSection list times)) at (drop at b)
+    sections-agree : run (section (limitsBy b n chances form sums)) at (drop at b) ≡ run (section (limitSection form list times)) at (drop at b)
     unfolding section limitsBy limitSection
     sections-agree =
-        let next : ℕ → Reader (List ℕ) = λ k. items 8 (λ before. judgeLimit (limitOf times (getD list (length before) 0))) k [] in
-        by-field 2 (λ k. unless (eqb k n) limitRefusal) (λ k. items 8 (limitItem b chances sums) k []) at b
+        let next : ℕ → Reader (List ℕ) = λ k. items 8 (λ before. judgeLimit (limitOf form times (getD list (length before) 0))) k [] in
+        by-field 2 (λ k. unless (eqb k n) limitRefusal) (λ k. items 8 (limitItem b chances form sums) k []) at b
         ∙ by-count (fieldBy 2 (λ k. unless (eqb k n) limitRefusal) at b) refl
         ∙ sym (by-field 2 (λ k. unless (eqb k n) limitRefusal) next at b)
         ∙ ap (λ (m : ℕ). run (field 2 (λ k. unless (eqb k m) limitRefusal) next) at (drop at b)) (sym (stand .count))
 
     -- ---- the record, by the answer of the code's section
 
-    module _ (form day : ℕ) (name : List ℕ) (x : LimitsRead) (read : x ≡ limitSectionAt n chances sums at b) where
-      ran : x ≡ limitsRead (run (section (limitSection list times)) at (drop at b))
+    module _ (day : ℕ) (name : List ℕ) (x : LimitsRead) (read : x ≡ limitSectionAt n chances form sums at b) where
+      ran : x ≡ limitsRead (run (section (limitSection form list times)) at (drop at b))
       unfolding limitSectionAt
       ran = read ∙ ap limitsRead sections-agree
 
@@ -107,22 +107,22 @@ module _ (b : List ℕ) (chances n : ℕ) (sums : Sums) (list times : List ℕ)
       unfolding limitStage after recordRead
       limits-part-short told =
           ap recordRead
-          (sym (run-then (section (limitSection list times)) _ at (drop at b)
-          ∙ ap (after _) (short-found (run (section (limitSection list times)) at (drop at b)) (sym told ∙ ran))))
+          (sym (run-then (section (limitSection form list times)) _ at (drop at b)
+          ∙ ap (after _) (short-found (run (section (limitSection form list times)) at (drop at b)) (sym told ∙ ran))))
 
       pub limits-part-refused : (f : Fault) → x ≡ L.Refused f → R.Refused f ≡ recordRead (run (limitStage form day name list times) at (drop at b))
       unfolding limitStage after recordRead
       limits-part-refused f told =
           ap recordRead
-          (sym (run-then (section (limitSection list times)) _ at (drop at b)
-          ∙ ap (after _) (refused-found (run (section (limitSection list times)) at (drop at b)) f (sym told ∙ ran))))
+          (sym (run-then (section (limitSection form list times)) _ at (drop at b)
+          ∙ ap (after _) (refused-found (run (section (limitSection form list times)) at (drop at b)) f (sym told ∙ ran))))
 
       pub limits-part-read : (next : ℕ) → x ≡ L.Next next
           → R.Read (record { next = next; form = form; day = day; flat = eqb (sums .count * sums .squares) (sums .sum * sums .sum); times = sums .count })
           ≡ recordRead (run (limitStage form day name list times) at (drop at b))
       unfolding limitStage after recordRead entryOf run sumsOf
       limits-part-read next told =
-          let f = next-found (run (section (limitSection list times)) at (drop at b)) next (sym told ∙ ran) in
+          let f = next-found (run (section (limitSection form list times)) at (drop at b)) next (sym told ∙ ran) in
           rw (total, flat-exactly times)
           (ap recordRead
-          (sym (run-then (section (limitSection list times)) _ at (drop at b) ∙ ap (after _) (f .ran))))
+          (sym (run-then (section (limitSection form list times)) _ at (drop at b) ∙ ap (after _) (f .ran))))

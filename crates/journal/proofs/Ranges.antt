@@ -11,6 +11,7 @@ use Rattle.limit.specs.Times.{inRange}
 use Rattle.limit.specs.Limit.{maxChance, chanceInRange}
 use Rattle.limit.specs.Answer.{chanceRefusal}
 use Rattle.limit.proofs.InRange.{second-fails}
+use Rattle.limit.proofs.InRange as R
 use Rattle.journal_spec.specs.Refusals.{unless, outside}
 use Rattle.journal_spec.specs.Record.{lastChance, judgeChance}
 use Rattle.journal_spec.proofs.Judging.{unless-true, unless-false, inside, below}
@@ -18,8 +19,8 @@ use Rattle.journal_spec.proofs.Reading.{by-order}
 
 module _ (low high n x : ℕ) where
   pub above : high < x → outside low high n x ≡ n
-  unfolding outside inRange
-  above h = unless-false (leb low x && leb x high) n (second-fails (leb low x) (leb x high) (lt-leb x high h))
+  unfolding outside
+  above h = unless-false (inRange low high x) n (R.above low high x h)
 
   -- where the number is at most `high`, the least alone decides
   pub least-decides : x ≤ high → unless (leb low x) n ≡ outside low high n x

@@ -10,7 +10,8 @@ use lib.Seq.{getD-append-add}
 use lib.Pow.{pow-add}
 use Rattle.journal_spec.specs.Bytes.{bytesOf, joined}
 use Rattle.journal_spec.specs.Section.{numberBytes, sectionBytes}
-use Rattle.journal_spec.specs.Record.{theForm, recordBytes}
+use Rattle.limit.specs.Formula.{sampleForm}
+use Rattle.journal_spec.specs.Record.{recordBytes}
 use Rattle.journal_spec.proofs.Numbers.{length-bytes}
 use Rattle.journal_spec.proofs.Sections.{length-section}
 use Rattle.journal_spec.proofs.Records.{length-record}
@@ -114,16 +115,16 @@ place-next s (suc i) = rw suc-mul (omega arith)
 module _ (day : ℕ) (name chances times limits : List ℕ) where
   -- the sections end to end, form and day as the first
   abbrev head : List ℕ
-  head = headed 2 (theForm ∷ day ∷ [])
+  head = headed 2 (sampleForm ∷ day ∷ [])
 
   sections-joined : bytesFrom day name chances times limits
       ≡ head ++ (sectionBytes 1 name ++ (sectionBytes 4 chances ++ (sectionBytes 4 times ++ (sectionBytes 8 limits ++ []))))
   unfolding recordBytes recordFrom joined numberBytes headed
-  sections-joined = rw (append-nil (bytesOf 2 day)) (sym (append-assoc (bytesOf 2 theForm) (bytesOf 2 day) _))
+  sections-joined = rw (append-nil (bytesOf 2 day)) (sym (append-assoc (bytesOf 2 sampleForm) (bytesOf 2 day) _))
 
   length-head : length head ≡ 4
   unfolding numberBytes headed
-  length-head = rw (length-append (bytesOf 2 theForm), length-append (bytesOf 2 day), length-bytes 2 theForm, length-bytes 2 day) refl
+  length-head = rw (length-append (bytesOf 2 sampleForm), length-append (bytesOf 2 day), length-bytes 2 sampleForm, length-bytes 2 day) refl
 
   length-name : length (sectionBytes 1 name) ≡ 2 + length name
   length-name = length-section 1 name ∙ omega arith

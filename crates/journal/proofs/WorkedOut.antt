@@ -15,6 +15,7 @@ use Rattle.limit.specs.declared.Answer.the-variants as W
 use Rattle.limit.specs.Times.{timesInRange}
 use Rattle.limit.specs.Sums.{sumsOf}
 use Rattle.limit.specs.Answer.{limited, refused, finiteRefusal, meaning}
+use Rattle.limit.specs.Formula.{sampleForm}
 use Rattle.limit.specs.Limit.{limitOf, limitOfSums}
 use Rattle.limit.proofs.Agreement.{limit-of-sums-agrees}
 use Rattle.journal_spec.specs.Refusals.{firstOf}
@@ -33,32 +34,32 @@ unfolding limitsOf
 limits-start times chances bits = record { passed = refl; kept = refl }
 
 -- the answer of the function that works a limit out, in terms of the times
-worked : (times : List ℕ) (s : Sums) (c : ℕ) (a b : Answer) → timesInRange times ≡ true → s ≡ sumsOf times → meaning a ≡ limitOfSums s c → a ≡ b
-    → limitOf times c ≡ meaning b
+worked : (times : List ℕ) (s : Sums) (c : ℕ) (a b : Answer) → timesInRange times ≡ true → s ≡ sumsOf times → meaning a ≡ limitOfSums sampleForm s c → a ≡ b
+    → limitOf sampleForm times c ≡ meaning b
 worked times s c a b t e m h =
-    limit-of-sums-agrees times c t ∙ ap (λ (x : Sums). limitOfSums x c) (sym e) ∙ sym m ∙ ap meaning h
+    limit-of-sums-agrees sampleForm times c t ∙ ap (λ (x : Sums). limitOfSums sampleForm x c) (sym e) ∙ sym m ∙ ap meaning h
 
 module _ (times chances bits : List ℕ) (i : ℕ) (g : LimitsPassed times chances bits i) (h : i < length chances) where
   rest : limitsRefusal times (drop i chances)
-      ≡ firstOf (judgeWorked (limitOf times (getD chances i 0)) ∷ map (λ (c : ℕ). judgeWorked (limitOf times c)) (drop (suc i) chances))
+      ≡ firstOf (judgeWorked (limitOf sampleForm times (getD chances i 0)) ∷ map (λ (c : ℕ). judgeWorked (limitOf sampleForm times c)) (drop (suc i) chances))
   unfolding limitsRefusal
   rest = rw (drop-cons chances i 0 h) refl
 
-  pub limit-refused : (n : ℕ) → limitOf times (getD chances i 0) ≡ refused n → LimitsChecked times chances finiteRefusal bits
+  pub limit-refused : (n : ℕ) → limitOf sampleForm times (getD chances i 0) ≡ refused n → LimitsChecked times chances finiteRefusal bits
   unfolding judgeWorked
   limit-refused n e = record {
-    refusal = first-this finiteRefusal (judgeWorked (limitOf times (getD chances i 0))) _ (omega arith) (rw e refl) ∙ sym (g .passed ∙ rest);
+    refusal = first-this finiteRefusal (judgeWorked (limitOf sampleForm times (getD chances i 0))) _ (omega arith) (rw e refl) ∙ sym (g .passed ∙ rest);
     limits = λ z. absurd (omega arith);
   }
 
-  pub limit-kept : (x : Float) (b : ℕ) → i < length bits → limitOf times (getD chances i 0) ≡ limited x → b ≡ toBits binary64 x
+  pub limit-kept : (x : Float) (b : ℕ) → i < length bits → limitOf sampleForm times (getD chances i 0) ≡ limited x → b ≡ toBits binary64 x
       → LimitsPassed times chances (set bits i b) (i + 1)
   unfolding judgeWorked limitBits limitsOf limitsRefusal
   limit-kept x b l e n = record {
-    passed = g .passed ∙ rest ∙ first-later (judgeWorked (limitOf times (getD chances i 0))) _ (rw e refl) ∙ rw add-one refl;
+    passed = g .passed ∙ rest ∙ first-later (judgeWorked (limitOf sampleForm times (getD chances i 0))) _ (rw e refl) ∙ rw add-one refl;
     kept =
         let those : take (i + 1) (set bits i b) ≡ take i bits ++ b ∷ [] = rw add-one (take-suc-set bits i b l) in
-        let this : b ≡ limitBits (limitOf times (getD chances i 0)) = n ∙ rw e refl in
+        let this : b ≡ limitBits (limitOf sampleForm times (getD chances i 0)) = n ∙ rw e refl in
         those
         ∙ ap₂ (λ (y : List ℕ) (z : ℕ). y ++ z ∷ []) (g .kept) this
         ∙ sym (rw (add-one, take-suc chances i 0 h) (map-append _ (take i chances) (getD chances i 0 ∷ [])));
@@ -84,7 +85,7 @@ module _ (s : Sums) (chances bits : List ℕ) where
 
   module _ (i : ℕ) (g : LimitsWorked s chances bits i) where
     -- the limit at the i-th chance is worked out
-    module _ (l : i < length chances) (a : Answer) (m : meaning a ≡ limitOfSums s (getD chances i 0)) where
+    module _ (l : i < length chances) (a : Answer) (m : meaning a ≡ limitOfSums sampleForm s (getD chances i 0)) where
       pub worked-refused : (n : ℕ) → a ≡ W.Refused n → (times : List ℕ) → timesInRange times ≡ true → s ≡ sumsOf times
           → LimitsChecked times chances finiteRefusal bits
       unfolding meaning

@@ -4,8 +4,9 @@ use mathlib.Core.Path.{_≡_}
 use Prim.Native.Nat.{ℕ}
 use mathlib.Core.List.{List, [], _∷_}
 use lib.ListN.{length, take}
+use Rattle.limit.specs.Formula.{sampleForm}
 use Rattle.journal_spec.specs.Refusals.{firstOf}
-use Rattle.journal_spec.specs.Record.{Record, Last, theForm, judgeDay, nameSection, chanceSection, timeSection, recordBytes}
+use Rattle.journal_spec.specs.Record.{Record, Last, judgeDay, nameSection, chanceSection, timeSection, recordBytes}
 use Rattle.journal_spec.specs.Section.{sectionRefusal}
 use Rattle.journal_spec.specs.Request.{Offer}
 use Rattle.journal_spec.specs.Request as Request
@@ -22,10 +23,10 @@ unfoldable pub asBudget : Budget → Request.Budget
 asBudget B.All = Request.all
 asBudget (B.UpTo k) = Request.upTo k
 
--- the record of the arguments with these limits
+-- the record of the arguments with these limits, of form 2
 unfoldable pub recordFrom : ℕ → List ℕ → List ℕ → List ℕ → List ℕ → Record
 recordFrom day name chances times limits = record {
-  form = theForm;
+  form = sampleForm;
   day = day;
   name = name;
   chances = chances;

@@ -4,13 +4,13 @@ use Prim.Native.Nat.{ℕ, zero, suc, _+_, _*_, _≤_, _<_}
 use mathlib.Core.List.{List, [], _∷_}
 use lib.ListN.{length}
 use mathlib.Core.Path.{_≡_}
-use Rattle.journal_spec.specs.Record.{theForm}
+use Rattle.limit.specs.Formula.{sampleForm}
 use Rattle.journal.specs.declared.byte.Section.{Section}
 use Rattle.journal.specs.declared.byte.Section.the-variants as S
 
 -- the numbers of a section
 unfoldable pub numbersOf : Section → ℕ → List ℕ → List ℕ → List ℕ → List ℕ → List ℕ
-numbersOf S.Head day name chances times limits = theForm ∷ day ∷ []
+numbersOf S.Head day name chances times limits = sampleForm ∷ day ∷ []
 numbersOf S.Name day name chances times limits = length name ∷ name
 numbersOf S.Chances day name chances times limits = length chances ∷ chances
 numbersOf S.Times day name chances times limits = length times ∷ times

@@ -5,9 +5,9 @@ ghost use Prim.Native.Nat.{ℕ, suc, _<_};
 ghost use mathlib.Core.List.{[], _∷_};
 ghost use lib.ListN.{length, getD};
 ghost use Rattle.journal_spec.specs.Bytes.{bytesOf};
-ghost use Rattle.journal_spec.specs.Record.{theForm};
+ghost use Rattle.limit.specs.Formula.{sampleForm};
 ghost use Rattle.journal.specs.Layout.{numbersOf, widthAt};
-use crate::record::FORM;
+use limit::SAMPLE_FORM;
 
 // A record's sections in byte order, form and day before them.
 pub(crate) enum Section {
@@ -79,10 +79,10 @@ pub(crate) fn number_of(
 // The form, or the day.
 fn of_head(day: u16, i: usize) -> u64
     requires { ⌜ i < 2 ⌝ }
-    ensures { λ r. ⌜ r ≡ getD (theForm ∷ day ∷ []) i 0 ⌝ }
+    ensures { λ r. ⌜ r ≡ getD (sampleForm ∷ day ∷ []) i 0 ⌝ }
 {
     if i == 0 {
-        return FORM;
+        return SAMPLE_FORM;
     }
     day as u64
 }

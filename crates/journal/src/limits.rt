@@ -1,4 +1,4 @@
-// The limits of a record, as many as its chances: each is worked out once, from the sums of the times at its chance,
+// The limits of a record, as many as its chances: each is worked out once, under the record's form from the sums of the times at its chance,
 // and the bits that stand have to be its own.
 ghost use mathlib.Core.Path.{_≡_};
 ghost use Prim.Native.Nat.{_+_, _*_, _≤_};
@@ -22,35 +22,36 @@ pub(crate) enum LimitsRead {
     Refused(Fault),
 }
 
-// The limits' section at a place, for n chances that stand from another place on and times with these sums.
+// The limits' section at a place, for n chances that stand from another place on, a form and times with these sums.
 pub(crate) fn limit_section_at(
     b: &[u8],
     at: usize,
     n: u64,
     chances: usize,
+    form: u64,
     sums: Sums,
 ) -> LimitsRead
     requires { ⌜ (at ≤ length (now b)) × (chances + n * 4 ≤ length (now b)) ⌝ }
-    ensures { λ r. ⌜ r ≡ limitSectionAt n chances sums at (now (b .entry)) ⌝ }
+    ensures { λ r. ⌜ r ≡ limitSectionAt n chances form sums at (now (b .entry)) ⌝ }
 {
     let count = field_at(b, at, 2, n, n, LIMIT_REFUSAL);
     match count {
-        FieldRead::Value(_) => limits_at(b, at + 2, n, chances, sums),
+        FieldRead::Value(_) => limits_at(b, at + 2, n, chances, form, sums),
         FieldRead::Short => LimitsRead::Short,
         FieldRead::Refused(f) => LimitsRead::Refused(f),
     }
 }
 
 // The n limits at a place.
-fn limits_at(b: &[u8], at: usize, n: u64, chances: usize, sums: Sums) -> LimitsRead
+fn limits_at(b: &[u8], at: usize, n: u64, chances: usize, form: u64, sums: Sums) -> LimitsRead
     requires { ⌜ (at ≤ length (now b)) × (chances + n * 4 ≤ length (now b)) ⌝ }
-    ensures { λ r. ⌜ r ≡ limitsAt n chances sums at (now (b .entry)) ⌝ }
+    ensures { λ r. ⌜ r ≡ limitsAt n chances form sums at (now (b .entry)) ⌝ }
 {
     let mut p = at;
     let mut chance = chances;
     let mut left = n;
     while 0 < left {
-        let x = limit_at(b, p, chance, sums);
+        let x = limit_at(b, p, chance, form, sums);
         match x {
             FieldRead::Value(_) => {
                 p += 8;
@@ -66,12 +67,12 @@ fn limits_at(b: &[u8], at: usize, n: u64, chances: usize, sums: Sums) -> LimitsR
 
 // The limit at a place, against the one worked out for the chance that stands at another. Where that one is not finite,
 // no bits are right.
-fn limit_at(b: &[u8], at: usize, chance: usize, sums: Sums) -> FieldRead
+fn limit_at(b: &[u8], at: usize, chance: usize, form: u64, sums: Sums) -> FieldRead
     requires { ⌜ (at ≤ length (now b)) × (chance + 4 ≤ length (now b)) ⌝ }
-    ensures { λ r. ⌜ r ≡ fieldBy 8 (limitRefusalAt (now (b .entry)) sums chance) at (now (b .entry)) ⌝ }
+    ensures { λ r. ⌜ r ≡ fieldBy 8 (limitRefusalAt (now (b .entry)) form sums chance) at (now (b .entry)) ⌝ }
 {
     let c = number_at(b, chance, 4);
-    let worked = limit::limit_of_sums(sums, c as u32);
+    let worked = limit::limit_of_sums(form, sums, c as u32);
     match worked {
         Answer::Limit(x) => {
             let bits = sqrt::bits::bits_of(x);

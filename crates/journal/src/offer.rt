@@ -18,6 +18,7 @@ use crate::record::Head;
 use crate::record::NAME;
 use limit::Answer;
 use limit::FINITE_REFUSAL;
+use limit::SAMPLE_FORM;
 use limit::TIMES_REFUSAL;
 use limit::sums::Gathered;
 use limit::sums::Sums;
@@ -109,7 +110,7 @@ fn range_refusal(low: u64, high: u64, refusal: u32, x: u64) -> u32
     0
 }
 
-// The refusal of the limits that times with these sums have at the chances; each limit's bits are kept.
+// The refusal of the limits that times with these sums have at the chances, under form 2; each limit's bits are kept.
 fn limits_refusal(sums: Sums, chances: &[u32], bits: &mut [u64]) -> u32
     requires { ⌜ (length (now chances) ≤ maxChances) × (length (now bits) ≡ maxChances) ⌝ }
     ensures { λ r. ⌜ ((times : List ℕ) → timesInRange times ≡ true → sums ≡ sumsOf times
@@ -118,7 +119,7 @@ fn limits_refusal(sums: Sums, chances: &[u32], bits: &mut [u64]) -> u32
     let n = chances.len();
     let mut i: usize = 0;
     while i < n {
-        let worked = limit::limit_of_sums(sums, chances[i]);
+        let worked = limit::limit_of_sums(SAMPLE_FORM, sums, chances[i]);
         match worked {
             Answer::Limit(x) => {
                 bits[i] = sqrt::bits::bits_of(x);

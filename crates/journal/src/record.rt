@@ -20,8 +20,11 @@ use crate::section::Rule;
 use crate::section::SectionRead;
 use crate::section::section_at;
 use limit::CHANCE_REFUSAL;
+use limit::FORM_REFUSAL;
 use limit::MAX_CHANCE;
 use limit::MIN_CHANCE;
+use limit::PLAIN_FORM;
+use limit::SAMPLE_FORM;
 use limit::TIMES_REFUSAL;
 use limit::sums::MAX_COUNT;
 use limit::sums::MAX_TICKS;
@@ -29,13 +32,11 @@ use limit::sums::MIN_COUNT;
 use limit::sums::MIN_TICKS;
 use limit::sums::Sums;
 
-// The one form there is, and the greatest day.
-pub(crate) const FORM: u64 = 1;
-
+// The greatest day.
 const MAX_DAY: u64 = 65_535;
 
-// Document 01's numbers for a form that is not 1 and for a day below that of the record before.
-const FORM_REFUSAL: u32 = 2;
+// The papers' numbers for form 1 after a record of form 2, and for a day below that of the record before.
+const OLD_FORM_REFUSAL: u32 = 13;
 
 pub(crate) const DAY_REFUSAL: u32 = 3;
 
@@ -94,14 +95,23 @@ pub(crate) enum RecordRead {
     Refused(Fault),
 }
 
-// The record at a place, after the record `last`.
+// The record at a place, after the record `last`. Its form is judged whole before its day: that there is such a form, then that forms
+// do not fall.
 pub(crate) fn record_at(b: &[u8], at: usize, last: Head) -> RecordRead
     requires { ⌜ at ≤ length (now b) ⌝ }
     ensures { λ r. ⌜ r ≡ recordAt last at (now (b .entry)) ⌝ }
 {
-    let x = field_at(b, at, 2, FORM, FORM, FORM_REFUSAL);
+    let x = field_at(b, at, 2, PLAIN_FORM, SAMPLE_FORM, FORM_REFUSAL);
     match x {
-        FieldRead::Value(form) => day_part(b, at + 2, last, form),
+        FieldRead::Value(form) => {
+            if form < last.form {
+                return RecordRead::Refused(Fault {
+                    number: OLD_FORM_REFUSAL,
+                    place: at,
+                });
+            }
+            day_part(b, at + 2, last, form)
+        }
         FieldRead::Short => RecordRead::Short,
         FieldRead::Refused(f) => RecordRead::Refused(f),
     }
@@ -170,7 +180,7 @@ fn limits_part(b: &[u8], at: usize, head: Head, chances: usize, n: u64, sums: Su
     let day = head.day;
     let flat = flat_by(sums);
     let times = sums.count;
-    let x = limit_section_at(b, at, n, chances, sums);
+    let x = limit_section_at(b, at, n, chances, form, sums);
     match x {
         LimitsRead::Next(next) => RecordRead::Read(Entry {
             next,

@@ -22,10 +22,10 @@ use Rattle.journal_spec.specs.Model.{limitsGood, modelRefusal, modelAfte
 use Rattle.journal_spec.specs.Demand.{modelScan, bytesAt, recordMark, Agrees, Demand3From, Demand3}
 use Rattle.journal_spec.specs.Ranges.{RecordRanges, AllRanges}
 use Rattle.journal_spec.proofs.Reading.{by-order, reads-cut}
-use Rattle.journal_spec.proofs.Limits.{formulaBits}
+use Rattle.journal_spec.proofs.Limits.{formulaBits, sample-known}
 use Rattle.journal_spec.proofs.SameRefusals.{same-refusal, same-record, same-length}
 use Rattle.journal_spec.proofs.Ranged.{passed, accepted-exactly, good-record, good-exactly, reads-back}
-use Rattle.journal_spec.proofs.Scanning.{Torn, follow-snoc, torn-none, records-snoc, placedFrom, recordsOf-placed, length-placed}
+use Rattle.journal_spec.proofs.Scanning.{Torn, last-form, follow-snoc, torn-none, records-snoc, placedFrom, recordsOf-placed, length-placed}
 use Rattle.journal_spec.proofs.Scanning.{contents-of}
 use Rattle.journal_spec.proofs.Placing.{written-length, written-take, written-drop, lengths-are, part-bytes, no-bytes, mark-placed, no-mark}
 
@@ -137,12 +137,13 @@ module _ (room : ℕ) (j : Journal) (m : Model) (h : Holds room j m) (o : Offer)
   module _ (e : modelRefusal room m o ≡ 0) where
     -- the offer is the model's record, which nothing refuses, and there is room for it
     good : RecordRanges (lastOf (m .records)) (recordFor o)
-    unfolding recordFor formulaBits limitsGood
+    unfolding recordFor formulaBits limitsGood lastOf
     good =
         let p = passed room m o e in
         let a = accepted-exactly room m o .0 e in
         good-exactly (lastOf (m .records)) (recordFor o) .0
-        (good-record (lastOf (m .records)) (recordFor o) refl (a .day) fits (p .name) (p .chances) (p .times) (p .limits) refl)
+        (good-record (lastOf (m .records)) (recordFor o) sample-known (last-form [] (m .records) (h .follow) (omega arith)) (a .day) fits (p .name)
+        (p .chances) (p .times) (p .limits) refl)
 
     same : recordBytes (offered o) ≡ bytes
     same = let p = passed room m o e in ap recordBytes (same-record o (p .chances) (p .times) (p .limits))

@@ -9,10 +9,11 @@ use lib.ListN.{length, take, getD, set, replicate}
 use lib.Ieee.{binary64, ofBits, toBits}
 use lib.Ieee.Scale.{finite}
 use Rattle.limit.specs.Times.{inRange}
-use Rattle.limit.specs.Limit.{chanceInRange}
+use Rattle.limit.specs.Formula.{plainForm}
+use Rattle.limit.specs.Limit.{formKnown, chanceInRange}
 use Rattle.journal_spec.specs.Bytes.{bytesOf, valueOf, joined}
 use Rattle.journal_spec.specs.Refusals.{unless, outside, firstOf}
-use Rattle.journal_spec.specs.Reader.{run, then}
+use Rattle.journal_spec.specs.Reader.{fault, run, then}
 use Rattle.journal_spec.specs.Section.{items, section, numberBytes, sectionBytes, itemsRefusal, sectionRefusal}
 use Rattle.journal_spec.specs.Record.{Record, lastOf, judgeForm, judgeDay, nameSection, lastChance, judgeChance, chanceSection, timeSection}
 use Rattle.journal_spec.specs.Record.{limitSection, recordReader, recordBytes, recordsBytes}
@@ -23,7 +24,7 @@ use Rattle.journal_spec.specs.Request as R
 use Rattle.journal_spec.specs.Append.{appendRefusal, unchanged, settle, appendTo, appendOf}
 use Rattle.journal_spec.specs.Model.{workedOut}
 use Rattle.journal_spec.specs.Ranges.{RecordRanges}
-use Rattle.journal_spec.proofs.EvenChance.{worked-hundred, worked-finite}
+use Rattle.journal_spec.proofs.EvenChance.{worked-plain, plain-finite}
 use Rattle.journal_spec.proofs.Format.{whole-scan, torn-scan}
 
 -- ---- numbers
@@ -71,7 +72,8 @@ hundred-bits = refl
 keeps : RecordRanges (lastOf []) theRecord
 unfolding theRecord lastOf
 keeps = record {
-  form = refl;
+  form = (omega arith, omega arith);
+  forms = omega arith;
   day = omega arith;
   dayFits = omega arith;
   name = record { least = omega arith; most = omega arith; bytes = λ i k. letter i k };
@@ -95,13 +97,13 @@ keeps = record {
     time (suc zero) k = (omega arith, omega arith)
     time (suc (suc i)) k = absurd (omega arith)
 
-    worked : (i : ℕ) → i < 1 → finite (workedOut (100 ∷ 100 ∷ []) (getD (500_000 ∷ []) i 0)) ≡ true
-    worked zero k = worked-finite
+    worked : (i : ℕ) → i < 1 → finite (workedOut plainForm (100 ∷ 100 ∷ []) (getD (500_000 ∷ []) i 0)) ≡ true
+    worked zero k = plain-finite
     worked (suc i) k = absurd (omega arith)
 
     bits : (i : ℕ) → i < 1
-        → getD (0x4059_0000_0000_0000 ∷ []) i 0 ≡ toBits binary64 (workedOut (100 ∷ 100 ∷ []) (getD (500_000 ∷ []) i 0))
-    bits zero k = sym (ap (toBits binary64) worked-hundred ∙ hundred-bits)
+        → getD (0x4059_0000_0000_0000 ∷ []) i 0 ≡ toBits binary64 (workedOut plainForm (100 ∷ 100 ∷ []) (getD (500_000 ∷ []) i 0))
+    bits zero k = sym (ap (toBits binary64) worked-plain ∙ hundred-bits)
     bits (suc i) k = absurd (omega arith)
 
 -- the example is whole, with one record and 33 bytes
@@ -121,8 +123,8 @@ cut-example =
 -- the same, computed, where no limit stands
 pub cut-early : scanOf theBytes 25 ≡ torn 0 0
 unfolding theBytes scanOf statusOf contentsOf contentsFrom recordsOf lastOf recordReader run then section items valueOf
-    judgeForm judgeDay nameSection chanceSection judgeChance chanceInRange lastChance timeSection limitSection outside
-    unless inRange
+    judgeForm formKnown judgeDay nameSection chanceSection judgeChance chanceInRange lastChance timeSection limitSection outside
+    unless firstOf inRange
 cut-early = refl
 
 pub empty-whole : scanOf theBytes 0 ≡ whole 0 0
@@ -136,7 +138,7 @@ fault-at bytes number place = scanOf bytes (length bytes) ≡ damaged number pla
 
 pub record Faults : Type 0 where
   pub beyond : scanOf theBytes 34 ≡ damaged 1 0
-  pub form : fault-at (set theBytes 0 2) 2 0
+  pub form : fault-at (set theBytes 0 3) 2 0
   pub nameCount : fault-at (set theBytes 4 0) 4 4
   pub nameLong : fault-at (set theBytes 4 33) 4 4
   pub nameByte : fault-at (set theBytes 6 0x20) 4 6
@@ -150,8 +152,8 @@ pub record Faults : Type 0 where
 
 pub faults : Faults
 unfolding theBytes scanOf statusOf contentsOf contentsFrom recordsOf lastOf recordReader run then section items valueOf
-    judgeForm judgeDay nameSection chanceSection judgeChance chanceInRange lastChance timeSection limitSection outside
-    unless inRange
+    judgeForm formKnown judgeDay nameSection chanceSection judgeChance chanceInRange lastChance timeSection limitSection outside
+    unless firstOf inRange
 faults = record {
   beyond = refl;
   form = refl;
@@ -167,6 +169,11 @@ faults = record {
   limitCount = refl;
 }
 
+-- form 1 after a record of form 2, before its day is judged
+pub old-form : run (recordReader (record { form = 2; day = 9 })) 33 theBytes ≡ fault 13 33
+unfolding theBytes recordReader run then section items valueOf judgeForm formKnown unless firstOf inRange
+old-form = refl
+
 -- ---- declined offers
 
 -- an offer of which nothing is right, made better from the front
@@ -177,7 +184,7 @@ abbrev declined-by : Request → ℕ → Type 0
 declined-by q n = appendOf (record { slice = theBytes; len = 0 }) q .answer ≡ declined n
 
 pub record Declined : Type 0 where
-  pub damage : appendOf (record { slice = set theBytes 0 2; len = 33 }) (offer [] [] []) .answer ≡ R.damaged 2 0
+  pub damage : appendOf (record { slice = set theBytes 0 3; len = 33 }) (offer [] [] []) .answer ≡ R.damaged 2 0
   pub name : declined-by (offer [] [] []) 4
   pub chances : declined-by (offer (0x41 ∷ []) [] []) 5
   pub falling : declined-by (offer (0x41 ∷ []) (2 ∷ 2 ∷ []) []) 5
@@ -185,7 +192,7 @@ pub record Declined : Type 0 where
 
 pub declines : Declined
 unfolding theBytes appendOf appendTo settle unchanged appendRefusal firstOf sectionRefusal offerOf
-    itemsRefusal contentsOf contentsFrom recordsOf lastOf recordReader run then section items valueOf judgeForm judgeDay
+    itemsRefusal contentsOf contentsFrom recordsOf lastOf recordReader run then section items valueOf judgeForm formKnown judgeDay
     nameSection chanceSection judgeChance chanceInRange lastChance timeSection limitSection outside unless inRange
 declines = record {
   damage = refl;

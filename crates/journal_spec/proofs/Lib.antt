@@ -1,5 +1,6 @@
 -- The laws on the journal's definitions, one idea to a file, and the theorem of the whole list.
--- `Format` has the format's laws by name, `Demand` the theorem, `Shown`, `Answers`, `TornOrWhole` and `ShutOut` what follows from it.
+-- `Format` has the format's laws by name, `Demand` the theorem, `Continued` that it goes on from a journal that stands, `Shown`, `Answers`,
+-- `TornOrWhole` and `ShutOut` what follows from it, `Former` what the reader from before form 2 makes of a journal.
 
 -- numbers, refusals, readers, sections, records
 pub mod Numbers
@@ -19,8 +20,11 @@ pub mod Format
 pub mod Refused
 pub mod Table
 pub mod Placing
+-- the forms
+pub mod Former
 -- demand 3
 pub mod Demand
+pub mod Continued
 pub mod Shown
 pub mod Answers
 pub mod TornOrWhole

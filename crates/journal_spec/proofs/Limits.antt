@@ -14,9 +14,9 @@ use lib.Ieee.Fits.{add-fits}
 use lib.Ieee.Bits.{toBits-lt}
 use borrow.Author.Tests.{eqb-true, eq-eqb}
 use Rattle.limit.specs.Times.{inRange, timesInRange}
-use Rattle.limit.specs.Formula.{limitFrom, formulaOf}
+use Rattle.limit.specs.Formula.{sampleForm, limitFrom, formulaOf}
 use Rattle.limit.specs.Answer.{LimitResult, finiteRefusal}
-use Rattle.limit.specs.Limit.{minChance, maxChance, chanceInRange, finiteOrRefused, judge, limitOf}
+use Rattle.limit.specs.Limit.{minChance, maxChance, formKnown, chanceInRange, finiteOrRefused, judge, limitOf}
 use Rattle.limit.proofs.InRange as R
 use Rattle.journal_spec.specs.Refusals.{limitRefusal, unless, firstOf}
 use Rattle.journal_spec.specs.Section.{itemsRefusal}
@@ -27,23 +27,27 @@ use Rattle.journal_spec.proofs.Judging.{unless-none, unless-true, first
 use Rattle.journal_spec.proofs.Each.{each-time}
 
 -- the formula's bits, one for each chance
-unfoldable pub formulaBits : List ℕ → List ℕ → List ℕ
-formulaBits times chances = map (λ (c : ℕ). toBits binary64 (workedOut times c)) chances
+unfoldable pub formulaBits : ℕ → List ℕ → List ℕ → List ℕ
+formulaBits form times chances = map (λ (c : ℕ). toBits binary64 (workedOut form times c)) chances
 
 -- each of these limits is finite
-abbrev pub allFinite : List ℕ → List ℕ → Bool
-allFinite times chances = each (λ (c : ℕ). finite (workedOut times c)) chances
+abbrev pub allFinite : ℕ → List ℕ → List ℕ → Bool
+allFinite form times chances = each (λ (c : ℕ). finite (workedOut form times c)) chances
 
 pub times-good : (times : List ℕ) → timesGood times ≡ timesInRange times
 unfolding timesGood timesInRange
 times-good times = rw (each-time times) refl
 
+pub sample-known : formKnown sampleForm ≡ true
+unfolding formKnown inRange
+sample-known = refl
+
 -- ---- one limit
 
-pub limit-worked : (times : List ℕ) (c : ℕ) → timesInRange times ≡ true → inRange minChance maxChance c ≡ true
-    → limitOf times c ≡ finiteOrRefused (workedOut times c)
+pub limit-worked : (form : ℕ) (times : List ℕ) (c : ℕ) → formKnown form ≡ true → timesInRange times ≡ true → inRange minChance maxChance c ≡ true
+    → limitOf form times c ≡ finiteOrRefused (workedOut form times c)
 unfolding limitOf judge chanceInRange workedOut
-limit-worked times c t e = rw (e, t) refl
+limit-worked form times c f t e = rw (f, e, t) refl
 
 judge-worked : (x : Float) → judgeWorked (finiteOrRefused x) ≡ unless (finite x) finiteRefusal
 unfolding judgeWorked finiteOrRefused unless
@@ -78,86 +82,90 @@ judged-worked (fin s m e) bits = alone (eqb bits (toBits binary64 (fin s m e)))
     alone false = unfold unless firstOf in refl
 
 -- a limit's bits are judged as document 01 says: 8 where the limit worked out is not finite, and then 7 where the bits are not its own
-pub limit-judged : (times : List ℕ) (c bits : ℕ) → timesInRange times ≡ true → inRange minChance maxChance c ≡ true
-    → judgeLimit (limitOf times c) bits
-    ≡ firstOf (unless (finite (workedOut times c)) 8 ∷ unless (eqb bits (toBits binary64 (workedOut times c))) 7 ∷ [])
-limit-judged times c bits t e = ap (λ (r : LimitResult). judgeLimit r bits) (limit-worked times c t e) ∙ judged-worked (workedOut times c) bits
+pub limit-judged : (form : ℕ) (times : List ℕ) (c bits : ℕ) → formKnown form ≡ true → timesInRange times ≡ true
+    → inRange minChance maxChance c ≡ true → judgeLimit (limitOf form times c) bits
+    ≡ firstOf (unless (finite (workedOut form times c)) 8 ∷ unless (eqb bits (toBits binary64 (workedOut form times c))) 7 ∷ [])
+limit-judged form times c bits k t e =
+    ap (λ (r : LimitResult). judgeLimit r bits) (limit-worked form times c k t e) ∙ judged-worked (workedOut form times c) bits
 
 -- ---- what fits 8 bytes
 
-formula-fits : (times : List ℕ) (c : ℕ) → T (fits binary64 (workedOut times c))
+formula-fits : (form : ℕ) (times : List ℕ) (c : ℕ) → T (fits binary64 (workedOut form times c))
 unfolding workedOut formulaOf limitFrom
-formula-fits times c = add-fits binary64 _ _
+formula-fits form times c = add-fits binary64 _ _
 
-judged-fits : (a b : Bool) (x : Float) (bits : ℕ) → T (fits binary64 x) → judgeLimit (judge a b x) bits ≡ 0 → bits < 256 ^ 8
+judged-fits : (k a b : Bool) (x : Float) (bits : ℕ) → T (fits binary64 x) → judgeLimit (judge k a b x) bits ≡ 0 → bits < 256 ^ 8
 unfolding judge judgeLimit finiteOrRefused
-judged-fits false b x bits f h = absurd (omega arith)
-judged-fits true false x bits f h = absurd (omega arith)
-judged-fits true true nan bits f h = absurd (omega arith)
-judged-fits true true (inf s) bits f h = absurd (omega arith)
-judged-fits true true (fin s m e) bits f h =
+judged-fits false a b x bits f h = absurd (omega arith)
+judged-fits true false b x bits f h = absurd (omega arith)
+judged-fits true true false x bits f h = absurd (omega arith)
+judged-fits true true true nan bits f h = absurd (omega arith)
+judged-fits true true true (inf s) bits f h = absurd (omega arith)
+judged-fits true true true (fin s m e) bits f h =
     let same = eqb-true bits (toBits binary64 (fin s m e)) (unless-none _ 6 h) in
     let size : 2 * top binary64 ≡ 256 ^ 8 = refl in
     rw (same, ← size) (toBits-lt binary64 (fin s m e) f)
 
-pub limit-fits : (times : List ℕ) (c bits : ℕ) → judgeLimit (limitOf times c) bits ≡ 0 → bits < 256 ^ 8
+pub limit-fits : (form : ℕ) (times : List ℕ) (c bits : ℕ) → judgeLimit (limitOf form times c) bits ≡ 0 → bits < 256 ^ 8
 unfolding limitOf
-limit-fits times c bits h = judged-fits (chanceInRange c) (timesInRange times) (workedOut times c) bits (formula-fits times c) (unfold workedOut in h)
+limit-fits form times c bits h =
+    judged-fits (formKnown form) (chanceInRange c) (timesInRange times) (workedOut form times c) bits (formula-fits form times c) (unfold workedOut in h)
 
 -- ---- the limits of an offer
 
 module _ (times : List ℕ) (t : timesInRange times ≡ true) where
   pub limits-refused : (cs : List ℕ) → each (inRange minChance maxChance) cs ≡ true
-      → limitsRefusal times cs ≡ unless (allFinite times cs) finiteRefusal
+      → limitsRefusal times cs ≡ unless (allFinite sampleForm times cs) finiteRefusal
   unfolding limitsRefusal each firstOf unless
   limits-refused [] h = refl
   limits-refused (c ∷ cs) h =
-      let e = limit-worked times c t (R.first-of _ (each (inRange minChance maxChance) cs) h) in
+      let e = limit-worked sampleForm times c sample-known t (R.first-of _ (each (inRange minChance maxChance) cs) h) in
       let ih = limits-refused cs (R.second-of (inRange minChance maxChance c) _ h) in
-      let rest : List ℕ = map (λ (d : ℕ). judgeWorked (limitOf times d)) cs in
-      rw e (rw (judge-worked (workedOut times c)) (firsts (finite (workedOut times c)) (allFinite times cs) rest ih))
+      let rest : List ℕ = map (λ (d : ℕ). judgeWorked (limitOf sampleForm times d)) cs in
+      rw e (rw (judge-worked (workedOut sampleForm times c)) (firsts (finite (workedOut sampleForm times c)) (allFinite sampleForm times cs) rest ih))
     where
       firsts : (a b : Bool) (ns : List ℕ) → firstOf ns ≡ unless b finiteRefusal
           → firstOf (unless a finiteRefusal ∷ ns) ≡ unless (a && b) finiteRefusal
       firsts true b ns h = h
       firsts false b ns h = refl
 
-  pub limits-are : (cs : List ℕ) → each (inRange minChance maxChance) cs ≡ true → allFinite times cs ≡ true → limitsOf times cs ≡ formulaBits times cs
+  pub limits-are : (cs : List ℕ) → each (inRange minChance maxChance) cs ≡ true → allFinite sampleForm times cs ≡ true
+      → limitsOf times cs ≡ formulaBits sampleForm times cs
   unfolding limitsOf formulaBits each
   limits-are [] h k = refl
   limits-are (c ∷ cs) h k =
-      let e = limit-worked times c t (R.first-of _ (each (inRange minChance maxChance) cs) h) in
+      let e = limit-worked sampleForm times c sample-known t (R.first-of _ (each (inRange minChance maxChance) cs) h) in
       ap₂ (λ (x : ℕ) (xs : List ℕ). x ∷ xs)
-      (ap limitBits e ∙ bits-worked (workedOut times c) (R.first-of _ (allFinite times cs) k))
-      (limits-are cs (R.second-of (inRange minChance maxChance c) _ h) (R.second-of (finite (workedOut times c)) _ k))
+      (ap limitBits e ∙ bits-worked (workedOut sampleForm times c) (R.first-of _ (allFinite sampleForm times cs) k))
+      (limits-are cs (R.second-of (inRange minChance maxChance c) _ h) (R.second-of (finite (workedOut sampleForm times c)) _ k))
 
 -- ---- the limits of a record, by its reader's rules
 
-module _ (times : List ℕ) (t : timesInRange times ≡ true) where
+module _ (form : ℕ) (f : formKnown form ≡ true) (times : List ℕ) (t : timesInRange times ≡ true) where
   -- what the rule of limit i asks, after the limits `before`, of the chances `done ++ cs`
   abbrev pub rule : List ℕ → List ℕ → ℕ → ℕ
-  rule all before = judgeLimit (limitOf times (getD all (length before) 0))
+  rule all before = judgeLimit (limitOf form times (getD all (length before) 0))
 
   pub limits-good : (all done cs before : List ℕ) → all ≡ done ++ cs → length before ≡ length done
-      → each (inRange minChance maxChance) cs ≡ true → allFinite times cs ≡ true → itemsRefusal (rule all) before (formulaBits times cs) ≡ 0
+      → each (inRange minChance maxChance) cs ≡ true → allFinite form times cs ≡ true → itemsRefusal (rule all) before (formulaBits form times cs) ≡ 0
   unfolding itemsRefusal formulaBits each
   limits-good all done [] before e n h k = refl
   limits-good all done (c ∷ cs) before e n h k =
-      let x : ℕ = toBits binary64 (workedOut times c) in
+      let x : ℕ = toBits binary64 (workedOut form times c) in
       let this : getD all (length before) 0 ≡ c = ap (λ (l : List ℕ). getD l (length before) 0) e ∙ getD-at done c cs 0 (length before) (sym n) in
       let own : rule all before x ≡ 0 =
-      ap (λ (d : ℕ). judgeLimit (limitOf times d) x) this
-      ∙ ap (λ (r : LimitResult). judgeLimit r x) (limit-worked times c t (R.first-of _ (each (inRange minChance maxChance) cs) h))
-      ∙ judge-own (workedOut times c) (R.first-of _ (allFinite times cs) k) in
+      ap (λ (d : ℕ). judgeLimit (limitOf form times d) x) this
+      ∙ ap (λ (r : LimitResult). judgeLimit r x) (limit-worked form times c f t (R.first-of _ (each (inRange minChance maxChance) cs) h))
+      ∙ judge-own (workedOut form times c) (R.first-of _ (allFinite form times cs) k) in
       let more : length (before ++ x ∷ []) ≡ length (done ++ c ∷ []) = rw (length-append before, length-append done, n) refl in
       let rest = limits-good all (done ++ c ∷ []) cs (before ++ x ∷ []) (e ∙ sym (append-snoc done c cs)) more
-      (R.second-of (inRange minChance maxChance c) _ h) (R.second-of (finite (workedOut times c)) _ k) in
+      (R.second-of (inRange minChance maxChance c) _ h) (R.second-of (finite (workedOut form times c)) _ k) in
       none-first (rule all before x) _ own (none-first _ [] rest (unfold firstOf in refl))
 
   -- limits that nothing refuses, as many as the chances, are the formula's, and each is finite
   pub limits-exact : (all done cs before ls : List ℕ) → all ≡ done ++ cs → length before ≡ length done → length ls ≡ length cs
       → each (inRange minChance maxChance) cs ≡ true → itemsRefusal (rule all) before ls ≡ 0
-      → (allFinite times cs ≡ true) × (ls ≡ formulaBits times cs)
+      → (allFinite form times cs ≡ true) × (ls ≡ formulaBits form times cs)
   unfolding itemsRefusal formulaBits each
   limits-exact all done [] before [] e n l h k = (refl, refl)
   limits-exact all done [] before (x ∷ ls) e n l h k = absurd (omega arith)
@@ -165,9 +173,9 @@ module _ (times : List ℕ) (t : timesInRange times ≡ true) where
   limits-exact all done (c ∷ cs) before (x ∷ ls) e n l h k =
       let z = first-none (rule all before x) (itemsRefusal (rule all) (before ++ x ∷ []) ls ∷ []) k in
       let this : getD all (length before) 0 ≡ c = ap (λ (l : List ℕ). getD l (length before) 0) e ∙ getD-at done c cs 0 (length before) (sym n) in
-      let own = judge-none (workedOut times c) x
-      (sym (ap (λ (d : ℕ). judgeLimit (limitOf times d) x) this
-      ∙ ap (λ (r : LimitResult). judgeLimit r x) (limit-worked times c t (R.first-of _ (each (inRange minChance maxChance) cs) h)))
+      let own = judge-none (workedOut form times c) x
+      (sym (ap (λ (d : ℕ). judgeLimit (limitOf form times d) x) this
+      ∙ ap (λ (r : LimitResult). judgeLimit r x) (limit-worked form times c f t (R.first-of _ (each (inRange minChance maxChance) cs) h)))
       ∙ z .0) in
       let more : length (before ++ x ∷ []) ≡ length (done ++ c ∷ []) = rw (length-append before, length-append done, n) refl in
       let rest = limits-exact all (done ++ c ∷ []) cs (before ++ x ∷ []) ls (e ∙ sym (append-snoc done c cs)) more (omega arith)

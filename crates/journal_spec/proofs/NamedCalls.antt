@@ -10,6 +10,7 @@ use lib.ListN.{length, take, getD, replicate, length-replicate, getD-replicate}
 use lib.Seq.{append-snoc}
 use lib.Ieee.Scale.{finite}
 use borrow.Author.Tests.{le-leb, lt-leb, lt-ltb}
+use Rattle.limit.specs.Formula.{sampleForm}
 use Rattle.journal_spec.specs.Refusals.{roomRefusal, unless, firstOf}
 use Rattle.journal_spec.specs.Record.{Record, IsDay, lastOf, recordBytes}
 use Rattle.journal_spec.specs.Scan.{maxLength}
@@ -18,10 +19,11 @@ use Rattle.journal_spec.specs.Calls.{Call}
 use Rattle.journal_spec.specs.Model.{Model, emptyModel, lengthsOf, committedOf, workedOut, recordFor, byNumber, verdictOf, Entry}
 use Rattle.journal_spec.specs.Model.{enterRecord, enterBy, enter, noRoom, modelRefusals, modelRefusal, modelAfter}
 use Rattle.journal_spec.specs.Ranges.{Accepted}
-use Rattle.journal_spec.proofs.EvenChance.{worked-finite}
+use Rattle.journal_spec.proofs.EvenChance.{sample-finite}
 use Rattle.journal_spec.proofs.Records.{length-record}
 use Rattle.journal_spec.proofs.Ranged.{passed, accepted-exactly}
-use Rattle.journal_spec.proofs.Placing.{lengths-snoc, lastOf-snoc}
+use Rattle.journal_spec.proofs.Placing.{lengths-snoc}
+use Rattle.journal_spec.proofs.Scanning.{lastOf-snoc}
 
 -- day 1, times 100 and 100, an even chance
 unfoldable pub request : ℕ → Budget → Request
@@ -109,8 +111,8 @@ accepts room m n day least most fits fits′ = record {
     two-times (suc zero) k = (omega arith, omega arith)
     two-times (suc (suc i)) k = absurd (omega arith)
 
-    one-limit : (i : ℕ) → i < 1 → finite (workedOut (100 ∷ 100 ∷ []) (getD (500_000 ∷ []) i 0)) ≡ true
-    one-limit zero k = worked-finite
+    one-limit : (i : ℕ) → i < 1 → finite (workedOut sampleForm (100 ∷ 100 ∷ []) (getD (500_000 ∷ []) i 0)) ≡ true
+    one-limit zero k = sample-finite
     one-limit (suc i) k = absurd (omega arith)
 
 -- a model whose last day is not later than 1

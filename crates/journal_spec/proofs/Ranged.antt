@@ -13,11 +13,12 @@ use lib.Ieee.Scale.{finite}
 use borrow.Author.Tests.{le-leb, leb-true, le-ltb, ltb-false, eq-eqb}
 use Rattle.limit.specs.Times.{minTicks, maxTicks, minCount, maxCount, inRange}
 use Rattle.limit.specs.Answer.{chanceRefusal, timesRefusal}
-use Rattle.limit.specs.Limit.{minChance, maxChance}
+use Rattle.limit.specs.Limit.{minChance, maxChance, formKnown}
+use Rattle.limit.specs.Formula.{plainForm, sampleForm}
 use Rattle.limit.proofs.InRange as R
 use Rattle.journal_spec.specs.Refusals.{dayRefusal, nameRefusal, limitRefusal, unless, firstOf}
 use Rattle.journal_spec.specs.Section.{sectionRefusal}
-use Rattle.journal_spec.specs.Record.{Record, Last, IsDay, lastOf, theForm, judgeForm, judgeDay, limitSection, minName, maxName, minByte}
+use Rattle.journal_spec.specs.Record.{Record, Last, IsDay, lastOf, judgeForm, judgeDay, limitSection, minName, maxName, minByte}
 use Rattle.journal_spec.specs.Record.{maxByte, minChances, maxChances, recordReader, recordBytes}
 use Rattle.journal_spec.specs.Scan.{maxLength}
 use Rattle.journal_spec.specs.Request.{Offer}
@@ -28,7 +29,7 @@ use Rattle.journal_spec.proofs.Judging.{unless-none, unless-not, unless
 use Rattle.journal_spec.proofs.Each.{each-holds, holds-each, each-range, range-each, rising-holds, holds-rising}
 use Rattle.journal_spec.proofs.Limits.{formulaBits, allFinite, times-good, limits-good, limits-exact}
 use Rattle.journal_spec.proofs.Reading.{Reads}
-use Rattle.journal_spec.proofs.Records.{Good, limit-count, form-one, record-length, reads-record}
+use Rattle.journal_spec.proofs.Records.{Good, limit-count, form-known, form-range, form-later, record-length, reads-record}
 use Rattle.journal_spec.proofs.SameRefusals.{name-refused, chance-refused, time-refused, chances-each}
 
 -- ---- the sections
@@ -78,10 +79,10 @@ time-ranged xs = (
   λ g. R.both (R.inside minCount maxCount (length xs) (g .least) (g .most)) (range-each minTicks maxTicks xs (g .range)),
 )
 
-pub finite-ranged : (times chances : List ℕ) → (allFinite times chances ≡ true) ↔ FiniteLimits times chances
-finite-ranged times chances = (
-  each-holds (λ (c : ℕ). finite (workedOut times c)) chances,
-  holds-each (λ (c : ℕ). finite (workedOut times c)) chances,
+pub finite-ranged : (form : ℕ) (times chances : List ℕ) → (allFinite form times chances ≡ true) ↔ FiniteLimits form times chances
+finite-ranged form times chances = (
+  each-holds (λ (c : ℕ). finite (workedOut form times c)) chances,
+  holds-each (λ (c : ℕ). finite (workedOut form times c)) chances,
 )
 
 -- ---- an offer
@@ -129,7 +130,7 @@ accepted-exactly room m o = (
         name = name-ranged (o .name) .0 (p .name);
         chances = chance-ranged (o .chances) .0 (p .chances);
         times = time-ranged (o .times) .0 (p .times);
-        limits = finite-ranged (o .times) (o .chances) .0 (p .limits);
+        limits = finite-ranged sampleForm (o .times) (o .chances) .0 (p .limits);
         fitsSlice = ltb-false room size (fit .0);
         fitsJournal = ltb-false maxLength size (fit .1);
       },
@@ -140,7 +141,7 @@ accepted-exactly room m o = (
         name = name-ranged (o .name) .1 (a .name);
         chances = chance-ranged (o .chances) .1 (a .chances);
         times = time-ranged (o .times) .1 (a .times);
-        limits = finite-ranged (o .times) (o .chances) .1 (a .limits);
+        limits = finite-ranged sampleForm (o .times) (o .chances) .1 (a .limits);
         room′ = rw (le-ltb room size (a .fitsSlice), le-ltb maxLength size (a .fitsJournal)) refl;
       }),
 )
@@ -148,56 +149,58 @@ accepted-exactly room m o = (
 -- ---- a record
 
 -- the formula's limits are not refused
-own-limits : (cs ts : List ℕ) → chancesGood cs ≡ true → timesGood ts ≡ true → allFinite ts cs ≡ true
-    → sectionRefusal (limitSection cs ts) (formulaBits ts cs) ≡ 0
+own-limits : (form : ℕ) (cs ts : List ℕ) → formKnown form ≡ true → chancesGood cs ≡ true → timesGood ts ≡ true → allFinite form ts cs ≡ true
+    → sectionRefusal (limitSection form cs ts) (formulaBits form ts cs) ≡ 0
 unfolding sectionRefusal limitSection
-own-limits cs ts c t f =
-    let n : length (formulaBits ts cs) ≡ length cs = unfold formulaBits in length-map cs _ in
+own-limits form cs ts k c t f =
+    let n : length (formulaBits form ts cs) ≡ length cs = unfold formulaBits in length-map cs _ in
     none-first _ _
-    (unless-true (eqb (length (formulaBits ts cs)) (length cs)) limitRefusal (eq-eqb (length (formulaBits ts cs)) (length cs) n))
-    (none-first _ [] (limits-good ts (sym (times-good ts) ∙ t) cs [] cs [] refl refl (chances-each cs c) f) (unfold firstOf in refl))
+    (unless-true (eqb (length (formulaBits form ts cs)) (length cs)) limitRefusal (eq-eqb (length (formulaBits form ts cs)) (length cs) n))
+    (none-first _ [] (limits-good form k ts (sym (times-good ts) ∙ t) cs [] cs [] refl refl (chances-each cs c) f) (unfold firstOf in refl))
 
 -- limits that are not refused are the formula's
-exact-limits : (cs ts ls : List ℕ) → chancesGood cs ≡ true → timesGood ts ≡ true → length ls ≡ length cs
-    → sectionRefusal (limitSection cs ts) ls ≡ 0 → (allFinite ts cs ≡ true) × (ls ≡ formulaBits ts cs)
+exact-limits : (form : ℕ) (cs ts ls : List ℕ) → formKnown form ≡ true → chancesGood cs ≡ true → timesGood ts ≡ true → length ls ≡ length cs
+    → sectionRefusal (limitSection form cs ts) ls ≡ 0 → (allFinite form ts cs ≡ true) × (ls ≡ formulaBits form ts cs)
 unfolding sectionRefusal limitSection
-exact-limits cs ts ls c t n h =
-    limits-exact ts (sym (times-good ts) ∙ t) cs [] cs [] ls refl refl n (chances-each cs c)
+exact-limits form cs ts ls k c t n h =
+    limits-exact form k ts (sym (times-good ts) ∙ t) cs [] cs [] ls refl refl n (chances-each cs c)
     (first-none _ [] (first-none _ _ h .1) .0)
 
 -- a record whose parts pass the tests and whose limits are the formula's
-pub good-record : (last : Last) (r : Record) → r .form ≡ theForm → last .day ≤ r .day → IsDay (r .day)
+pub good-record : (last : Last) (r : Record) → formKnown (r .form) ≡ true → last .form ≤ r .form → last .day ≤ r .day → IsDay (r .day)
     → nameGood (r .name) ≡ true → chancesGood (r .chances) ≡ true → timesGood (r .times) ≡ true
-    → allFinite (r .times) (r .chances) ≡ true → r .limits ≡ formulaBits (r .times) (r .chances) → Good last r
+    → allFinite (r .form) (r .times) (r .chances) ≡ true → r .limits ≡ formulaBits (r .form) (r .times) (r .chances) → Good last r
 unfolding judgeForm judgeDay
-good-record last r form day fits name chances times finite′ limits = record {
-  form = unless-true (eqb (r .form) theForm) 2 (eq-eqb (r .form) theForm form);
+good-record last r known forms day fits name chances times finite′ limits = record {
+  form = none-first _ _ (unless-true (formKnown (r .form)) 2 known)
+      (none-first _ [] (unless-true (leb (last .form) (r .form)) 13 (le-leb (last .form) (r .form) forms)) (unfold firstOf in refl));
   day = unless-true (leb (last .day) (r .day)) dayRefusal (le-leb (last .day) (r .day) day);
   dayFits = fits;
   name = name-refused (r .name) ∙ unless-true (nameGood (r .name)) nameRefusal name;
   chances = chance-refused (r .chances) ∙ unless-true (chancesGood (r .chances)) chanceRefusal chances;
   times = time-refused (r .times) ∙ unless-true (timesGood (r .times)) timesRefusal times;
-  limits = ap (sectionRefusal (limitSection (r .chances) (r .times))) limits ∙ own-limits (r .chances) (r .times) chances times finite′;
+  limits = ap (sectionRefusal (limitSection (r .form) (r .chances) (r .times))) limits
+      ∙ own-limits (r .form) (r .chances) (r .times) known chances times finite′;
 }
 
 -- limits that are the formula's at each place are the formula's list
-formula-list : (times chances limits : List ℕ) → length limits ≡ length chances
-    → ((i : ℕ) → i < length chances → getD limits i 0 ≡ toBits binary64 (workedOut times (getD chances i 0)))
-    → limits ≡ formulaBits times chances
+formula-list : (form : ℕ) (times chances limits : List ℕ) → length limits ≡ length chances
+    → ((i : ℕ) → i < length chances → getD limits i 0 ≡ toBits binary64 (workedOut form times (getD chances i 0)))
+    → limits ≡ formulaBits form times chances
 unfolding formulaBits
-formula-list times [] [] n h = refl
-formula-list times [] (l ∷ ls) n h = absurd (omega arith)
-formula-list times (c ∷ cs) [] n h = absurd (omega arith)
-formula-list times (c ∷ cs) (l ∷ ls) n h =
-    ap₂ (λ (x : ℕ) (xs : List ℕ). x ∷ xs) (h 0 (omega arith)) (formula-list times cs ls (omega arith) (λ i k. h (suc i) (omega arith)))
+formula-list form times [] [] n h = refl
+formula-list form times [] (l ∷ ls) n h = absurd (omega arith)
+formula-list form times (c ∷ cs) [] n h = absurd (omega arith)
+formula-list form times (c ∷ cs) (l ∷ ls) n h =
+    ap₂ (λ (x : ℕ) (xs : List ℕ). x ∷ xs) (h 0 (omega arith)) (formula-list form times cs ls (omega arith) (λ i k. h (suc i) (omega arith)))
 
-list-formula : (times chances limits : List ℕ) → limits ≡ formulaBits times chances
-    → (i : ℕ) → i < length chances → getD limits i 0 ≡ toBits binary64 (workedOut times (getD chances i 0))
+list-formula : (form : ℕ) (times chances limits : List ℕ) → limits ≡ formulaBits form times chances
+    → (i : ℕ) → i < length chances → getD limits i 0 ≡ toBits binary64 (workedOut form times (getD chances i 0))
 unfolding formulaBits
-list-formula times chances limits e i k = ap (λ (l : List ℕ). getD l i 0) e ∙ at-index chances i k
+list-formula form times chances limits e i k = ap (λ (l : List ℕ). getD l i 0) e ∙ at-index chances i k
   where
     at-index : (cs : List ℕ) (i : ℕ) → i < length cs
-        → getD (map (λ (c : ℕ). toBits binary64 (workedOut times c)) cs) i 0 ≡ toBits binary64 (workedOut times (getD cs i 0))
+        → getD (map (λ (c : ℕ). toBits binary64 (workedOut form times c)) cs) i 0 ≡ toBits binary64 (workedOut form times (getD cs i 0))
     at-index [] i k = absurd (omega arith)
     at-index (c ∷ cs) zero k = refl
     at-index (c ∷ cs) (suc i) k = at-index cs i (omega arith)
@@ -211,22 +214,24 @@ good-exactly last r = (
       let chances = unless-none (chancesGood (r .chances)) 4 (sym (chance-refused (r .chances)) ∙ g .chances) in
       let times = unless-none (timesGood (r .times)) 5 (sym (time-refused (r .times)) ∙ g .times) in
       let count = limit-count last r g in
-      let l = exact-limits (r .chances) (r .times) (r .limits) chances times count (g .limits) in
+      let l = exact-limits (r .form) (r .chances) (r .times) (r .limits) (form-known last r g) chances times count (g .limits) in
       record {
-        form = form-one last r g;
+        form = form-range last r g;
+        forms = form-later last r g;
         day = day;
         dayFits = g .dayFits;
         name = name-ranged (r .name) .0 name;
         chances = chance-ranged (r .chances) .0 chances;
         times = time-ranged (r .times) .0 times;
         limitCount = count;
-        finite = finite-ranged (r .times) (r .chances) .0 (l .0);
-        limits = list-formula (r .times) (r .chances) (r .limits) (l .1);
+        finite = finite-ranged (r .form) (r .times) (r .chances) .0 (l .0);
+        limits = list-formula (r .form) (r .times) (r .chances) (r .limits) (l .1);
       },
   λ k.
-      good-record last r (k .form) (k .day) (k .dayFits) (name-ranged (r .name) .1 (k .name)) (chance-ranged (r .chances) .1 (k .chances))
-      (time-ranged (r .times) .1 (k .times)) (finite-ranged (r .times) (r .chances) .1 (k .finite))
-      (formula-list (r .times) (r .chances) (r .limits) (k .limitCount) (k .limits)),
+      good-record last r (unfold formKnown in R.inside plainForm sampleForm (r .form) (k .form .0) (k .form .1)) (k .forms) (k .day) (k .dayFits)
+      (name-ranged (r .name) .1 (k .name)) (chance-ranged (r .chances) .1 (k .chances))
+      (time-ranged (r .times) .1 (k .times)) (finite-ranged (r .form) (r .times) (r .chances) .1 (k .finite))
+      (formula-list (r .form) (r .times) (r .chances) (r .limits) (k .limitCount) (k .limits)),
 )
 
 -- such a record is read back from its bytes, 33 to 652 of them

@@ -12,15 +12,14 @@ use Rattle.journal_spec.specs.Record.{Record, Last, lastOf, judgeForm, r
 use Rattle.journal_spec.specs.Scan.{maxLength, Placed, recordsOf, standing, faulty, contentsFrom, contentsOf}
 use Rattle.journal_spec.specs.Read.{noPart, partAt, unmarked, markAt}
 use Rattle.journal_spec.proofs.Reading.{field-short, field-found, run-left}
-use Rattle.journal_spec.proofs.Scanning.{recordsOf-snoc, turn-short, turn-fault, turn-found, contents-fits}
-use Rattle.journal_spec.proofs.Placing.{lastOf-snoc}
+use Rattle.journal_spec.proofs.Scanning.{lastOf-snoc, recordsOf-snoc, turn-short, turn-fault, turn-found, contents-fits}
 
 -- a record takes at least its first field
 pub record-takes : (last : Last) (at : ℕ) (bs : List ℕ) (r : Record) (e : ℕ) (rest : List ℕ)
     → run (recordReader last) at bs ≡ found r e rest → at + 2 ≤ e
 unfolding recordReader
 record-takes last at bs r e rest h =
-    let f = field-found 2 judgeForm _ at bs r e rest h in
+    let f = field-found 2 (judgeForm last) _ at bs r e rest h in
     run-left _ (at + 2) (drop 2 bs) r e rest (f .goes) .later
 
 none-short : (last : Last) (at : ℕ) (b : List ℕ) → length b ≤ at → run (recordReader last) at (drop at b) ≡ short

@@ -9,6 +9,7 @@ use lib.ListN.{length, length-map}
 use lib.Dec.{leb, ltb}
 use borrow.Author.Tests.{le-leb, lt-leb, lt-ltb, le-ltb}
 use Rattle.limit.specs.Times.{minTicks, maxTicks, minCount, maxCount, inRange}
+use Rattle.limit.specs.Formula.{sampleForm}
 use Rattle.limit.specs.Answer.{chanceRefusal, timesRefusal}
 use Rattle.limit.specs.Limit.{minChance, maxChance, chanceInRange}
 use Rattle.limit.proofs.InRange as R
@@ -177,6 +178,6 @@ same-refusal room m o =
 pub same-record : (o : Offer) → chancesGood (o .chances) ≡ true → timesGood (o .times) ≡ true → limitsGood o ≡ true → offered o ≡ recordFor o
 unfolding offered recordFor limitsGood formulaBits
 same-record o c t l =
-    let e : limitsOf (o .times) (o .chances) ≡ formulaBits (o .times) (o .chances) =
+    let e : limitsOf (o .times) (o .chances) ≡ formulaBits sampleForm (o .times) (o .chances) =
     limits-are (o .times) (sym (times-good (o .times)) ∙ t) (o .chances) (chances-each (o .chances) c) l in
     rw e refl

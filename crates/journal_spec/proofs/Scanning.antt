@@ -8,6 +8,7 @@ use native.Mathlib.Nat.{add-zero, add-assoc, zero-add, add-sub-cancel-left}
 use lib.ListN.{length, take, length-append}
 use lib.Seq.{append-snoc}
 use borrow.Author.Tests.{le-leb, lt-leb}
+use Rattle.limit.specs.Formula.{sampleForm}
 use Rattle.journal_spec.specs.Bytes.{joined}
 use Rattle.journal_spec.specs.Refusals.{lengthRefusal}
 use Rattle.journal_spec.specs.Reader.{found, fault, short, run}
@@ -23,9 +24,22 @@ use Rattle.journal_spec.proofs.Ranged.{reads-back, encoding-length}
 pub record Torn (before : List Record) (tail : List ℕ) : Type 0 where
   pub runsOut : (at : ℕ) → run (recordReader (lastOf before)) at tail ≡ short
 
+pub lastOf-snoc : (rs : List Record) (r : Record) → lastOf (rs ++ r ∷ []) ≡ record { form = r .form; day = r .day }
+unfolding lastOf
+lastOf-snoc [] r = refl
+lastOf-snoc (s ∷ []) r = refl
+lastOf-snoc (s ∷ t ∷ rs) r = lastOf-snoc (t ∷ rs) r
+
 pub follow-snoc : (before rs : List Record) (r : Record) → AllRanges before rs → RecordRanges (lastOf (before ++ rs)) r → AllRanges before (rs ++ r ∷ [])
 follow-snoc before [] r f g = (rw append-nil at g, tt)
 follow-snoc before (s ∷ rs) r f g = (f .0, follow-snoc (before ++ s ∷ []) rs r (f .1) (rw append-snoc g))
+
+-- what may stand before a new record is of form 1 or 2
+pub last-form : (before rs : List Record) → AllRanges before rs → lastOf before .form ≤ sampleForm → lastOf (before ++ rs) .form ≤ sampleForm
+last-form before [] f h = rw append-nil h
+last-form before (r ∷ rs) f h =
+    rw (← append-snoc before r rs)
+    (last-form (before ++ r ∷ []) rs (f .1) (rw (lastOf-snoc before r) (f .0 .form .1)))
 
 pub torn-none : (before : List Record) → Torn before []
 torn-none before = record { runsOut = λ at. unfold recordReader in field-short 2 _ _ at [] (omega arith) }

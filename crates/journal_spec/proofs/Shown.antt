@@ -61,7 +61,7 @@ shown-bytes slice cs i below =
 -- each has what the call offered, and the formula's bits for its limits
 pub shown-fields : (c : Call) → Given (offerBy c) (recordOf c)
 unfolding recordOf recordFor workedOut
-shown-fields c = record { day = refl; name = refl; chances = refl; times = refl; limits = refl }
+shown-fields c = record { form = refl; day = refl; name = refl; chances = refl; times = refl; limits = refl }
 
 -- ---- a record shown, whole
 

@@ -101,7 +101,7 @@ module _ (ops : Operations) (holds : Demand3 ops) where
   writes-nothing never =
       let a = appended 33 (1 ∷ []) (omega arith, omega arith, tt) (omega arith) (omega arith) in
       let e : take 33 (zeros 33) ≡ recordsBytes (namedRecords (1 ∷ [])) = ap (take 33) (sym (never (emptyIn (zeros 33)) (request 1 all))) ∙ a .bytes in
-      let z : _≡_ {A = ℕ} 0 1 = ap (λ (l : List ℕ). getD l 0 0) e ∙ unfold recordsBytes namedRecords recordBytes joined bytesOf recordFor in refl in
+      let z : _≡_ {A = ℕ} 0 2 = ap (λ (l : List ℕ). getD l 0 0) e ∙ unfold recordsBytes namedRecords recordBytes joined bytesOf recordFor in refl in
       omega arith
 
   -- two journals of 132 bytes that begin with the same record: one has three records, the other four

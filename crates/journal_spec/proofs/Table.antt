@@ -1,4 +1,4 @@
--- Every refusal is a number of document 01's table: scan's and append's, whatever the bytes and the offer.
+-- Every refusal is a number of the papers' tables: scan's and append's, whatever the bytes and the offer.
 -- Assumes nothing.
 use mathlib.Core.Path.{_≡_, refl, sym, ap, _∙_}
 use mathlib.Core.Logic.{_⊎_, inl, inr, ⊎-elim, _↔_}
@@ -9,6 +9,7 @@ use native.Mathlib.Omega.{arith}
 use lib.ListN.{length, take, drop, getD, length-drop}
 use lib.Dec.{leb, eqb}
 use borrow.Author.Tests.{eqb-true}
+use Rattle.limit.specs.Formula.{sampleForm}
 use Rattle.limit.specs.Answer.{LimitResult, limited, refused}
 use Rattle.limit.specs.Limit.{limitOf}
 use Rattle.limit.proofs.InRange as R
@@ -69,7 +70,7 @@ Among table n = among table n ≡ true
 
 -- the numbers of a record that is read, in the order in which they are judged
 abbrev pub recordNumbers : List ℕ
-recordNumbers = 2 ∷ 3 ∷ 4 ∷ 5 ∷ 6 ∷ 7 ∷ 8 ∷ []
+recordNumbers = 2 ∷ 13 ∷ 3 ∷ 4 ∷ 5 ∷ 6 ∷ 7 ∷ 8 ∷ []
 
 abbrev pub OfRecord : ℕ → Type 0
 OfRecord = Among recordNumbers
@@ -104,10 +105,14 @@ unfolding judgeLimit among
 limit-number (limited x) bits n h = only recordNumbers _ 7 n refl h
 limit-number (refused m) bits n h = rw (← h) refl
 
+form-number : (last : Last) (form n : ℕ) → judgeForm last form ≡ suc n → OfRecord (suc n)
+unfolding judgeForm among
+form-number last form = one-of OfRecord _ (λ n h. only recordNumbers _ 2 n refl h, (λ n h. only recordNumbers _ 13 n refl h, tt))
+
 pub record-faults : (last : Last) → Faults OfRecord (recordReader last)
-unfolding recordReader judgeForm judgeDay nameSection chanceSection judgeChance timeSection limitSection outside among
+unfolding recordReader judgeDay nameSection chanceSection judgeChance timeSection limitSection outside among
 record-faults last = (
-  λ v n h. only recordNumbers _ 2 n refl h,
+  λ v n h. form-number last v n h,
   λ form. (
     λ v n h. only recordNumbers _ 3 n refl h,
     λ day.
@@ -120,9 +125,9 @@ record-faults last = (
         faults-then OfRecord (section timeSection) _
         (faults-section OfRecord timeSection (λ v n h. only recordNumbers _ 6 n refl h) (λ before v n h. only recordNumbers _ 6 n refl h))
         (λ times.
-        faults-then OfRecord (section (limitSection chances times)) _
-        (faults-section OfRecord (limitSection chances times) (λ v n h. only recordNumbers _ 7 n refl h)
-        (λ before v n h. limit-number (limitOf times (getD chances (length before) 0)) v n h))
+        faults-then OfRecord (section (limitSection form chances times)) _
+        (faults-section OfRecord (limitSection form chances times) (λ v n h. only recordNumbers _ 7 n refl h)
+        (λ before v n h. limit-number (limitOf form times (getD chances (length before) 0)) v n h))
         (λ limits. tt)))),
   ),
 )
@@ -249,7 +254,7 @@ worked-number (refused m) n h = rw (← h) refl
 limits-number : (times chances : List ℕ) (n : ℕ) → limitsRefusal times chances ≡ suc n → OfOffer (suc n)
 unfolding limitsRefusal
 limits-number times [] n h = unfold firstOf in absurd (omega arith)
-limits-number times (c ∷ cs) n h = first-number OfOffer _ _ n (λ m e. worked-number (limitOf times c) m e) (λ m e. limits-number times cs m e) h
+limits-number times (c ∷ cs) n h = first-number OfOffer _ _ n (λ m e. worked-number (limitOf sampleForm times c) m e) (λ m e. limits-number times cs m e) h
 
 append-number : (room : ℕ) (last : Last) (committed : ℕ) (o : Offer) (n : ℕ) → appendRefusal room last committed o ≡ suc n → OfOffer (suc n)
 unfolding appendRefusal judgeDay judgeRoom among

@@ -5,11 +5,12 @@ use mathlib.Core.List.{List, [], _∷_, _++_, map}
 use lib.ListN.{length, take, drop}
 use lib.Dec.{leb}
 use lib.Ieee.{binary64, toBits}
+use Rattle.limit.specs.Formula.{sampleForm}
 use Rattle.limit.specs.Answer.{LimitResult, limited, refused, finiteRefusal}
 use Rattle.limit.specs.Limit.{limitOf}
 use Rattle.journal_spec.specs.Refusals.{roomRefusal, unless, firstOf}
 use Rattle.journal_spec.specs.Section.{sectionRefusal}
-use Rattle.journal_spec.specs.Record.{Record, Last, lastOf, theForm, judgeDay, nameSection, chanceSection, timeSection, recordBytes}
+use Rattle.journal_spec.specs.Record.{Record, Last, lastOf, judgeDay, nameSection, chanceSection, timeSection, recordBytes}
 use Rattle.journal_spec.specs.Scan.{maxLength, recordsOf, Contents, standing, faulty, contentsOf}
 use Rattle.journal_spec.specs.Request.{Journal, Budget, Request, Offer, offerOf, allowed, AppendResult, extended, declined, damaged, Outcome}
 
@@ -22,12 +23,12 @@ limitBits (refused n) = 0
 
 -- the limits of the times, one for each chance in its order
 unfoldable pub limitsOf : List ℕ → List ℕ → List ℕ
-limitsOf times chances = map (λ (c : ℕ). limitBits (limitOf times c)) chances
+limitsOf times chances = map (λ (c : ℕ). limitBits (limitOf sampleForm times c)) chances
 
--- the record that is offered
+-- the record that is offered: new records are of form 2
 unfoldable pub offered : Offer → Record
 offered o = record {
-  form = theForm;
+  form = sampleForm;
   day = o .day;
   name = o .name;
   chances = o .chances;
@@ -44,7 +45,7 @@ judgeWorked (refused n) = finiteRefusal
 
 -- the first refusal of an offer's limits: 8
 unfoldable pub limitsRefusal : List ℕ → List ℕ → ℕ
-limitsRefusal times chances = firstOf (map (λ (c : ℕ). judgeWorked (limitOf times c)) chances)
+limitsRefusal times chances = firstOf (map (λ (c : ℕ). judgeWorked (limitOf sampleForm times c)) chances)
 
 -- 9 exactly if the record ends beyond the slice, which has `room` bytes, or beyond the longest journal
 unfoldable pub judgeRoom : ℕ → ℕ → ℕ → ℕ

@@ -9,7 +9,7 @@ use lib.Dec.{leb, ltb}
 use lib.Ieee.{Float, binary64, toBits}
 use lib.Ieee.Scale.{finite}
 use Rattle.limit.specs.Times.{minTicks, maxTicks, minCount, maxCount, inRange, sumOf, squaresOf}
-use Rattle.limit.specs.Formula.{formulaOf}
+use Rattle.limit.specs.Formula.{sampleForm, formulaOf}
 use Rattle.limit.specs.Answer.{chanceRefusal, timesRefusal, finiteRefusal}
 use Rattle.limit.specs.Limit.{minChance, maxChance}
 use Rattle.journal_spec.specs.Refusals.{dayRefusal, nameRefusal, roomRefusal, unless, firstOf}
@@ -38,19 +38,19 @@ committedOf m = lengthsOf (m .records)
 
 -- ---- the record of the arguments
 
--- the formula's value for the times at a chance
-unfoldable pub workedOut : List ℕ → ℕ → Float
-workedOut times c = formulaOf (length times) (sumOf times) (squaresOf times) c
+-- the formula's value for the times at a chance, under a form
+unfoldable pub workedOut : ℕ → List ℕ → ℕ → Float
+workedOut form times c = formulaOf form (length times) (sumOf times) (squaresOf times) c
 
--- what the layout holds for the arguments, its limits by the formula
+-- what the layout holds for the arguments, as a record of form 2, its limits by that form's formula
 unfoldable pub recordFor : Offer → Record
 recordFor o = record {
-  form = 1;
+  form = sampleForm;
   day = o .day;
   name = o .name;
   chances = o .chances;
   times = o .times;
-  limits = map (λ (c : ℕ). toBits binary64 (workedOut (o .times) c)) (o .chances);
+  limits = map (λ (c : ℕ). toBits binary64 (workedOut sampleForm (o .times) c)) (o .chances);
 }
 
 -- ---- what is declined
@@ -88,7 +88,7 @@ timesGood times = inRange minCount maxCount (length times) && each (inRange minT
 
 -- 8: a limit worked out not finite
 unfoldable pub limitsGood : Offer → Bool
-limitsGood o = each (λ (c : ℕ). finite (workedOut (o .times) c)) (o .chances)
+limitsGood o = each (λ (c : ℕ). finite (workedOut sampleForm (o .times) c)) (o .chances)
 
 -- 9: the committed length and the record's length together beyond the slice or the longest journal
 unfoldable pub noRoom : ℕ → Model → Offer → Bool

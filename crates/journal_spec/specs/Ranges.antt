@@ -8,8 +8,9 @@ use lib.ListN.{length, getD}
 use lib.Ieee.{binary64, toBits}
 use lib.Ieee.Scale.{finite}
 use Rattle.limit.specs.Times.{minTicks, maxTicks, minCount, maxCount}
+use Rattle.limit.specs.Formula.{plainForm, sampleForm}
 use Rattle.limit.specs.Limit.{minChance, maxChance}
-use Rattle.journal_spec.specs.Record.{Record, Last, IsDay, lastOf, theForm, minName, maxName, minByte, maxByte, minChances, maxChances}
+use Rattle.journal_spec.specs.Record.{Record, Last, IsDay, lastOf, minName, maxName, minByte, maxByte, minChances, maxChances}
 use Rattle.journal_spec.specs.Record.{recordBytes}
 use Rattle.journal_spec.specs.Scan.{maxLength}
 use Rattle.journal_spec.specs.Request.{Offer}
@@ -39,8 +40,8 @@ pub record TimeRanges (times : List ℕ) : Type 0 where
   pub range : Each minTicks maxTicks times
 
 -- each limit worked out is finite
-abbrev pub FiniteLimits : List ℕ → List ℕ → Type 0
-FiniteLimits times chances = (i : ℕ) → i < length chances → finite (workedOut times (getD chances i 0)) ≡ true
+abbrev pub FiniteLimits : ℕ → List ℕ → List ℕ → Type 0
+FiniteLimits form times chances = (i : ℕ) → i < length chances → finite (workedOut form times (getD chances i 0)) ≡ true
 
 -- an offer that a journal with these records and this room takes
 pub record Accepted (room : ℕ) (m : Model) (o : Offer) : Type 0 where
@@ -48,21 +49,22 @@ pub record Accepted (room : ℕ) (m : Model) (o : Offer) : Type 0 where
   pub name : NameRanges (o .name)
   pub chances : ChanceRanges (o .chances)
   pub times : TimeRanges (o .times)
-  pub limits : FiniteLimits (o .times) (o .chances)
+  pub limits : FiniteLimits sampleForm (o .times) (o .chances)
   pub fitsSlice : committedOf m + length (recordBytes (recordFor o)) ≤ room
   pub fitsJournal : committedOf m + length (recordBytes (recordFor o)) ≤ maxLength
 
 -- a record that may stand after the record `last`
 pub record RecordRanges (last : Last) (r : Record) : Type 0 where
-  pub form : r .form ≡ theForm
+  pub form : (plainForm ≤ r .form) × (r .form ≤ sampleForm)
+  pub forms : last .form ≤ r .form
   pub day : last .day ≤ r .day
   pub dayFits : IsDay (r .day)
   pub name : NameRanges (r .name)
   pub chances : ChanceRanges (r .chances)
   pub times : TimeRanges (r .times)
   pub limitCount : length (r .limits) ≡ length (r .chances)
-  pub finite : FiniteLimits (r .times) (r .chances)
-  pub limits : (i : ℕ) → i < length (r .chances) → getD (r .limits) i 0 ≡ toBits binary64 (workedOut (r .times) (getD (r .chances) i 0))
+  pub finite : FiniteLimits (r .form) (r .times) (r .chances)
+  pub limits : (i : ℕ) → i < length (r .chances) → getD (r .limits) i 0 ≡ toBits binary64 (workedOut (r .form) (r .times) (getD (r .chances) i 0))
 
 -- each record may stand after those before it
 abbrev pub AllRanges : List Record → List Record → Type 0

@@ -7,10 +7,10 @@ use lib.ListN.{length, getD}
 use lib.Dec.{leb, ltb, eqb}
 use lib.Ieee.{binary64, toBits}
 use Rattle.limit.specs.Times.{minTicks, maxTicks, minCount, maxCount}
-use Rattle.limit.specs.Answer.{LimitResult, limited, refused, chanceRefusal, timesRefusal, finiteRefusal}
-use Rattle.limit.specs.Limit.{chanceInRange, limitOf}
+use Rattle.limit.specs.Answer.{LimitResult, limited, refused, formRefusal, chanceRefusal, timesRefusal, finiteRefusal}
+use Rattle.limit.specs.Limit.{formKnown, chanceInRange, limitOf}
 use Rattle.journal_spec.specs.Bytes.{bytesOf, joined}
-use Rattle.journal_spec.specs.Refusals.{formRefusal, dayRefusal, nameRefusal, limitRefusal, unless, outside}
+use Rattle.journal_spec.specs.Refusals.{dayRefusal, nameRefusal, limitRefusal, oldFormRefusal, unless, outside, firstOf}
 use Rattle.journal_spec.specs.Reader.{Reader, done, field, then}
 use Rattle.journal_spec.specs.Section.{Section, section, sectionBytes}
 
@@ -40,13 +40,9 @@ lastOf (r ∷ s ∷ rs) = lastOf (s ∷ rs)
 
 -- ---- what is refused
 
--- document 01's form, always 1
-abbrev pub theForm : ℕ
-theForm = 1
-
--- the refusal of a form: 2
-unfoldable pub judgeForm : ℕ → ℕ
-judgeForm form = unless (eqb form theForm) formRefusal
+-- the refusal of a form: 2 if it is neither 1 nor 2, then 13, since forms never fall
+unfoldable pub judgeForm : Last → ℕ → ℕ
+judgeForm last form = firstOf (unless (formKnown form) formRefusal ∷ unless (leb (last .form) form) oldFormRefusal ∷ [])
 
 -- the refusal of a day: 3, since days never fall
 unfoldable pub judgeDay : Last → ℕ → ℕ
@@ -108,12 +104,12 @@ unfoldable pub judgeLimit : LimitResult → ℕ → ℕ
 judgeLimit (limited x) bits = unless (eqb bits (toBits binary64 x)) limitRefusal
 judgeLimit (refused n) bits = finiteRefusal
 
--- the limits' section: 7 for its count, as many limits as chances in their order, then 8 and 7 for each
-unfoldable pub limitSection : List ℕ → List ℕ → Section
-limitSection chances times = record {
+-- the limits' section, under the record's own form: 7 for its count, as many limits as chances in their order, then 8 and 7 for each
+unfoldable pub limitSection : ℕ → List ℕ → List ℕ → Section
+limitSection form chances times = record {
   width = 8;
   count = λ n. unless (eqb n (length chances)) limitRefusal;
-  item = λ before. judgeLimit (limitOf times (getD chances (length before) 0));
+  item = λ before. judgeLimit (limitOf form times (getD chances (length before) 0));
 }
 
 -- ---- the record's fields in byte order
@@ -121,12 +117,12 @@ limitSection chances times = record {
 -- after the record `last`
 unfoldable pub recordReader : Last → Reader Record
 recordReader last =
-    field 2 judgeForm λ form.
+    field 2 (judgeForm last) λ form.
     field 2 (judgeDay last) λ day.
     then (section nameSection) λ name.
     then (section chanceSection) λ chances.
     then (section timeSection) λ times.
-    then (section (limitSection chances times)) λ limits.
+    then (section (limitSection form chances times)) λ limits.
     done (record { form = form; day = day; name = name; chances = chances; times = times; limits = limits })
 
 -- the record's bytes

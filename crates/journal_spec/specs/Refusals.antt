@@ -1,5 +1,6 @@
 -- Document 01's table of refusals: the numbers that crate `limit` does not define, and how a refusal is found.
--- A refusal is its number, from 1 up; 0 stands for none. 5, 6 and 8 are `chanceRefusal`, `timesRefusal` and `finiteRefusal` of `limit`.
+-- A refusal is its number, from 1 up; 0 stands for none. 2, 5, 6 and 8 are `formRefusal`, `chanceRefusal`, `timesRefusal` and
+-- `finiteRefusal` of `limit`.
 use Prim.Native.Nat.{ℕ, zero, suc}
 use mathlib.Core.List.{List, [], _∷_}
 use mathlib.Core.Bool.{Bool, false, cond, _||_}
@@ -9,10 +10,6 @@ use Rattle.limit.specs.Times.{inRange}
 -- 1: length beyond the slice or the longest journal
 abbrev pub lengthRefusal : ℕ
 lengthRefusal = 1
-
--- 2: form
-abbrev pub formRefusal : ℕ
-formRefusal = 2
 
 -- 3: day below that of the record before
 abbrev pub dayRefusal : ℕ
@@ -33,6 +30,10 @@ roomRefusal = 9
 -- 10: no such record
 abbrev pub absentRefusal : ℕ
 absentRefusal = 10
+
+-- 13: form 1 after a record of form 2
+abbrev pub oldFormRefusal : ℕ
+oldFormRefusal = 13
 
 -- none where the test holds, else n
 unfoldable pub unless : Bool → ℕ → ℕ

@@ -1,5 +1,5 @@
 -- The thirteen cases that document 01 marks with a star (Numbers to try), proved together by computing the definitions:
--- six of the quantile, three of the root, two of the index and two of the limit. Assumes nothing.
+-- six of the quantile, three of the root, two of the index and two of the limit, of form 1; and four cases of the two forms. Assumes nothing.
 use mathlib.Core.Path.{_≡_, refl}
 use mathlib.Core.List.{[], _∷_}
 use Prim.Native.Nat.{ℕ}
@@ -15,9 +15,9 @@ use Rattle.pxfm.specs.FastLogDd.{scaledOf, indexOf, factorOf, carryOf, reducedO
 use Rattle.pxfm.specs.Rationals.{paired14, pAsymptLong, qAsymptLong, inverfAsymptLong}
 use Rattle.pxfm.specs.Inverfc.{zetaSqrt, asymptotic, inverfcExtraSmall, fErfcinv, fErfcinvBits}
 use Rattle.limit.specs.Times.{inRange, timeInRange, allInRange, timesInRange, sumOf, squaresOf}
-use Rattle.limit.specs.Formula.{meanOf, spreadBy, spreadOf, quantileOf, limitFrom, formulaOf}
+use Rattle.limit.specs.Formula.{plainForm, sampleForm, meanOf, spreadBy, divisorOf, spreadOf, quantileOf, limitFrom, formulaOf}
 use Rattle.limit.specs.Answer.{LimitResult, limited}
-use Rattle.limit.specs.Limit.{chanceInRange, finiteOrRefused, judge, limitOf}
+use Rattle.limit.specs.Limit.{formKnown, chanceInRange, finiteOrRefused, judge, limitOf}
 
 -- The root over bit patterns.
 abbrev sqrtBits : ℕ → ℕ
@@ -39,30 +39,46 @@ pub record Cases : Type 0 where
   pub root-of-minus-zero : sqrtBits 0x8000_0000_0000_0000 ≡ 0x8000_0000_0000_0000
   pub index-last : indexOf 0x16a0_9e66_7f3b_cc ≡ 181
   pub index-first : indexOf 0x16a0_9e66_7f3b_cd ≡ 0
-  pub limit-of-equal-times : limitOf (100 ∷ 100 ∷ []) 1 ≡ limitIs 0x4059_0000_0000_0000
-  pub limit-at-even-chance : limitOf (90 ∷ 110 ∷ []) 500_000 ≡ limitIs 0x4059_0000_0000_0000
+  pub limit-of-equal-times : limitOf plainForm (100 ∷ 100 ∷ []) 1 ≡ limitIs 0x4059_0000_0000_0000
+  pub limit-at-even-chance : limitOf plainForm (90 ∷ 110 ∷ []) 500_000 ≡ limitIs 0x4059_0000_0000_0000
 
-pub starred-cases : Cases
+-- The divisor by the form (document 02, 2026-04), at one chance in a million: 90 and 110 have D = 400, over 4 or over 2, and 90, 100 and 110
+-- have D = 600, over 6, which is the spread of 90 and 110 under form 1. The bits are worked out by tools/recompute's quantile and the processor.
+pub record FormCases : Type 0 where
+  pub plain-two : limitOf plainForm (90 ∷ 110 ∷ []) 1 ≡ limitIs 0x4062_7118_84f6_01d8
+  pub sample-two : limitOf sampleForm (90 ∷ 110 ∷ []) 1 ≡ limitIs 0x4064_e727_7ee6_3bd0
+  pub sample-three : limitOf sampleForm (90 ∷ 100 ∷ 110 ∷ []) 1 ≡ limitIs 0x4062_7118_84f6_01d8
+  pub sample-equal : limitOf sampleForm (100 ∷ 100 ∷ []) 1 ≡ limitIs 0x4059_0000_0000_0000
+
+computed : Cases × FormCases
 unfolding leadingZeros ofBits toBits ofInt isNan eq lt le add sub mul div neg round isqrt roundRoot roundSqrt sqrtIn
     fromBitPair negOf splitOf fromExactMult fromExactAdd fromFullExactAdd fullAddF64 f64Add quickMult
     quickMultF64 mulAdd mulF64Add divOf recipOf fastSqrt toF64 ddF64MulAdd log2Dd
     powInverse p1 logPoly1 fastLogDdInvLo fastLogDdInvHi scaledOf indexOf factorOf carryOf reducedOf exponentOf partsOf fastLogDToDd
     paired14 pAsymptLong qAsymptLong inverfAsymptLong zetaSqrt asymptotic inverfcExtraSmall fErfcinv
-    inRange timeInRange allInRange timesInRange sumOf squaresOf meanOf spreadBy spreadOf quantileOf limitFrom formulaOf
-    chanceInRange finiteOrRefused judge limitOf
-starred-cases =
-    record {
-      quantile-at-zero = refl;
-      quantile-at-minus-zero = refl;
-      quantile-at-two = refl;
-      quantile-at-one = refl;
-      quantile-at-minus-one = refl;
-      quantile-above-two = refl;
-      root-of-four = refl;
-      root-of-least = refl;
-      root-of-minus-zero = refl;
-      index-last = refl;
-      index-first = refl;
-      limit-of-equal-times = refl;
-      limit-at-even-chance = refl;
-    }
+    inRange timeInRange allInRange timesInRange sumOf squaresOf meanOf spreadBy divisorOf spreadOf quantileOf limitFrom formulaOf
+    formKnown chanceInRange finiteOrRefused judge limitOf
+computed = (
+  record {
+    quantile-at-zero = refl;
+    quantile-at-minus-zero = refl;
+    quantile-at-two = refl;
+    quantile-at-one = refl;
+    quantile-at-minus-one = refl;
+    quantile-above-two = refl;
+    root-of-four = refl;
+    root-of-least = refl;
+    root-of-minus-zero = refl;
+    index-last = refl;
+    index-first = refl;
+    limit-of-equal-times = refl;
+    limit-at-even-chance = refl;
+  },
+  record { plain-two = refl; sample-two = refl; sample-three = refl; sample-equal = refl },
+)
+
+pub starred-cases : Cases
+starred-cases = computed .0
+
+pub form-cases : FormCases
+form-cases = computed .1

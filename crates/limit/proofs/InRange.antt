@@ -31,6 +31,10 @@ module _ (low high x : ℕ) where
   unfolding inRange
   below h = rw (lt-leb low x h)
 
+  pub above : high < x → inRange low high x ≡ false
+  unfolding inRange
+  above h = second-fails (leb low x) (leb x high) (lt-leb x high h)
+
   -- at or above the least, the greatest alone decides
   pub from-low : low ≤ x → inRange low high x ≡ leb x high
   unfolding inRange

@@ -5,6 +5,7 @@ pub mod Cauchy
 pub mod Bounds
 pub mod Plausible
 pub mod Scatter
+pub mod Divisor
 pub mod Adding
 mod Gathering
 pub mod Gathered

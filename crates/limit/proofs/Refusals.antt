@@ -5,13 +5,24 @@ use mathlib.Core.List.{List, [], _∷_}
 use Prim.Native.Nat.{ℕ}
 use lib.ListN.{replicate}
 use Rattle.limit.specs.Times.{inRange, timeInRange, allInRange, timesInRange}
-use Rattle.limit.specs.Answer.{refused, chanceRefusal, timesRefusal}
-use Rattle.limit.specs.Limit.{chanceInRange, judge, limitOf}
+use Rattle.limit.specs.Formula.{plainForm, sampleForm}
+use Rattle.limit.specs.Answer.{refused, formRefusal, chanceRefusal, timesRefusal}
+use Rattle.limit.specs.Limit.{formKnown, chanceInRange, judge, limitOf}
 
+-- under both forms
 abbrev refuses : List ℕ → ℕ → ℕ → Type 0
-refuses ts c n = limitOf ts c ≡ refused n
+refuses ts c n = (limitOf plainForm ts c ≡ refused n) × (limitOf sampleForm ts c ≡ refused n)
+
+-- a form that there is not, where nothing else is wrong
+abbrev noForm : ℕ → Type 0
+noForm form = limitOf form (100 ∷ 100 ∷ []) 1 ≡ refused formRefusal
 
 pub record EndsOfRanges : Type 0 where
+  pub formZero : noForm 0
+  pub formThree : noForm 3
+  pub formTwoBytes : noForm 258
+  pub formLast : noForm 65_535
+  pub formFirst : limitOf 3 [] 0 ≡ refused formRefusal
   pub chanceZero : refuses (100 ∷ 100 ∷ []) 0 chanceRefusal
   pub chanceMillion : refuses (100 ∷ 100 ∷ []) 1_000_000 chanceRefusal
   pub noTimes : refuses [] 1 timesRefusal
@@ -22,15 +33,20 @@ pub record EndsOfRanges : Type 0 where
   pub chanceFirst : refuses [] 0 chanceRefusal
 
 pub ends-of-ranges : EndsOfRanges
-unfolding limitOf judge chanceInRange timesInRange allInRange timeInRange inRange
+unfolding limitOf judge formKnown chanceInRange timesInRange allInRange timeInRange inRange
 ends-of-ranges =
     record {
-      chanceZero = refl;
-      chanceMillion = refl;
-      noTimes = refl;
-      oneTime = refl;
-      manyTimes = refl;
-      timeZero = refl;
-      timeBeyond = refl;
-      chanceFirst = refl;
+      formZero = refl;
+      formThree = refl;
+      formTwoBytes = refl;
+      formLast = refl;
+      formFirst = refl;
+      chanceZero = (refl, refl);
+      chanceMillion = (refl, refl);
+      noTimes = (refl, refl);
+      oneTime = (refl, refl);
+      manyTimes = (refl, refl);
+      timeZero = (refl, refl);
+      timeBeyond = (refl, refl);
+      chanceFirst = (refl, refl);
     }

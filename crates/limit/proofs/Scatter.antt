@@ -20,9 +20,6 @@ module _ (n s q : ℕ) (counted : n ≤ maxCount) (summed : s ≤ n * maxTicks) 
   pub squares-product-small : n * q < 2 ^ 64
   squares-product-small = omega (arith, mul-le-mul counted squares-small)
 
-  pub count-square-small : n * n ≤ maxCount * maxCount
-  count-square-small = mul-le-mul counted counted
-
   greatest-sum : n * maxTicks ≤ maxCount * maxTicks
   greatest-sum = omega arith
 

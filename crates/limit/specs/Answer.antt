@@ -10,6 +10,10 @@ pub data LimitResult : Type 0 where
   limited : Float → LimitResult
   refused : ℕ → LimitResult
 
+-- refusal 2: any form but 1 and 2 (document 02, 2026-04)
+abbrev pub formRefusal : ℕ
+formRefusal = 2
+
 -- document 01's refusal 5: chance out of range
 abbrev pub chanceRefusal : ℕ
 chanceRefusal = 5

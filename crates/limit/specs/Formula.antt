@@ -1,6 +1,9 @@
--- Document 01's formula over doubles, one rounding an operation: mean, spread, quantile, and the limit from them.
+-- Document 01's formula over doubles, one rounding an operation: mean, spread, quantile, and the limit from them; the spread's divisor is
+-- that of the form (document 02, 2026-04).
 -- The whole numbers that enter it are at most 2 ^ 53, so that `double` loses nothing.
 use Prim.Native.Nat.{ℕ, _-_, _*_}
+use mathlib.Core.Bool.{cond}
+use lib.Dec.{eqb}
 use lib.IntN.{pos}
 use lib.Ieee.{Float, binary64, ofInt, ofBits, add, mul, div}
 use Rattle.sqrt.specs.Sqrt.{sqrtOf}
@@ -30,9 +33,20 @@ scatterOf n s q = n * q - s * s
 unfoldable pub spreadBy : ℕ → ℕ → Float
 spreadBy divisor d = sqrtOf (div binary64 (double d) (double divisor))
 
--- document 01's spread, root(D / (n × n))
-unfoldable pub spreadOf : ℕ → ℕ → ℕ → Float
-spreadOf n s q = spreadBy (n * n) (scatterOf n s q)
+-- the forms: 1, document 01's, and 2, the sample spread of document 02 (2026-04)
+abbrev pub plainForm : ℕ
+plainForm = 1
+
+abbrev pub sampleForm : ℕ
+sampleForm = 2
+
+-- what D is divided by: n × n under form 1, n × (n - 1) under form 2. Any other form is refused before this is asked.
+unfoldable pub divisorOf : ℕ → ℕ → ℕ
+divisorOf form n = cond (eqb form sampleForm) (n * (n - 1)) (n * n)
+
+-- the spread under a form, root(D / divisor)
+unfoldable pub spreadOf : ℕ → ℕ → ℕ → ℕ → Float
+spreadOf form n s q = spreadBy (divisorOf form n) (scatterOf n s q)
 
 -- document 01's e, the quantile of the chance c
 unfoldable pub quantileOf : ℕ → Float
@@ -42,6 +56,6 @@ quantileOf c = fErfcinv (div binary64 (double c) (double halfMillion))
 unfoldable pub limitFrom : Float → Float → Float → Float
 limitFrom mean spread e = add binary64 mean (mul binary64 (mul binary64 spread rootTwo) e)
 
--- the formula's value for n times with sum s and sum of squares q, at the chance c
-unfoldable pub formulaOf : ℕ → ℕ → ℕ → ℕ → Float
-formulaOf n s q c = limitFrom (meanOf n s) (spreadOf n s q) (quantileOf c)
+-- the formula's value under a form for n times with sum s and sum of squares q, at the chance c
+unfoldable pub formulaOf : ℕ → ℕ → ℕ → ℕ → ℕ → Float
+formulaOf form n s q c = limitFrom (meanOf n s) (spreadOf form n s q) (quantileOf c)

@@ -1,5 +1,5 @@
--- Document 01's limit operation: the limit of a list of times at a chance, or the first refusal that holds, in the order 5, 6, 8.
--- The same is said over the sums of the times, for a caller that has summed them already.
+-- The limit operation of documents 01 and 02: the limit of a list of times at a chance under a form, or the first refusal that holds, in
+-- the order 2, 5, 6, 8. The same is said over the sums of the times, for a caller that has summed them already.
 use Prim.Native.Nat.{ℕ}
 use mathlib.Core.Bool.{Bool, cond}
 use mathlib.Core.List.{List}
@@ -9,8 +9,12 @@ use lib.Ieee.Scale.{finite}
 use Rattle.limit.specs.declared.sums.Sums.{Sums}
 use Rattle.limit.specs.Times.{inRange, timesInRange, sumOf, squaresOf}
 use Rattle.limit.specs.Sums.{isPlausible}
-use Rattle.limit.specs.Formula.{formulaOf}
-use Rattle.limit.specs.Answer.{LimitResult, limited, refused, chanceRefusal, timesRefusal, finiteRefusal}
+use Rattle.limit.specs.Formula.{plainForm, sampleForm, formulaOf}
+use Rattle.limit.specs.Answer.{LimitResult, limited, refused, formRefusal, chanceRefusal, timesRefusal, finiteRefusal}
+
+-- the form is 1 or 2: what refusal 2 asks
+unfoldable pub formKnown : ℕ → Bool
+formKnown = inRange plainForm sampleForm
 
 -- document 01's chance c: 1 to 999,999 in a million
 abbrev pub minChance : ℕ
@@ -27,17 +31,19 @@ chanceInRange = inRange minChance maxChance
 unfoldable pub finiteOrRefused : Float → LimitResult
 finiteOrRefused x = cond (finite x) (limited x) (refused finiteRefusal)
 
--- the order of the refusals: the chance, then the times, then the value
-unfoldable pub judge : Bool → Bool → Float → LimitResult
-judge chanceGood timesGood x =
-    cond chanceGood
+-- the order of the refusals: the form, then the chance, then the times, then the value
+unfoldable pub judge : Bool → Bool → Bool → Float → LimitResult
+judge formGood chanceGood timesGood x =
+    cond formGood
+    (cond chanceGood
     (cond timesGood (finiteOrRefused x) (refused timesRefusal))
-    (refused chanceRefusal)
+    (refused chanceRefusal))
+    (refused formRefusal)
 
--- the limit of the times at the chance c
-unfoldable pub limitOf : List ℕ → ℕ → LimitResult
-limitOf ts c = judge (chanceInRange c) (timesInRange ts) (formulaOf (length ts) (sumOf ts) (squaresOf ts) c)
+-- the limit of the times at the chance c, under a form
+unfoldable pub limitOf : ℕ → List ℕ → ℕ → LimitResult
+limitOf form ts c = judge (formKnown form) (chanceInRange c) (timesInRange ts) (formulaOf form (length ts) (sumOf ts) (squaresOf ts) c)
 
--- the limit of the times that have these sums, at the chance c
-unfoldable pub limitOfSums : Sums → ℕ → LimitResult
-limitOfSums s c = judge (chanceInRange c) (isPlausible s) (formulaOf (s .count) (s .sum) (s .squares) c)
+-- the limit of the times that have these sums, at the chance c, under a form
+unfoldable pub limitOfSums : ℕ → Sums → ℕ → LimitResult
+limitOfSums form s c = judge (formKnown form) (chanceInRange c) (isPlausible s) (formulaOf form (s .count) (s .sum) (s .squares) c)

@@ -3,8 +3,10 @@
 ghost use mathlib.Core.Bool.{true};
 ghost use mathlib.Core.Path.{_≡_};
 ghost use Prim.Native.Nat.{_^_, _≤_};
-ghost use Rattle.limit.specs.Formula.{formulaOf, limitFrom, meanOf, quantileOf, spreadBy};
+ghost use Rattle.limit.specs.Times.{minCount, maxCount};
+ghost use Rattle.limit.specs.Formula.{divisorOf, formulaOf, limitFrom, meanOf, quantileOf, spreadBy};
 ghost use Rattle.limit.specs.Sums.{isPlausible};
+use crate::SAMPLE_FORM;
 use crate::sums::Sums;
 
 // A chance of c in a million beyond the limit is c / 500000 in the two tails together, which is what f_erfcinv takes.
@@ -13,16 +15,32 @@ const HALF_MILLION: f64 = 500000.0;
 // The double nearest to the root of 2.
 const ROOT_TWO: f64 = 1.4142135623730951;
 
-// The limit of times with these sums, at a chance in a million.
-pub(crate) fn formula_of(s: Sums, chance: u32) -> f64
+// The limit under a form of times with these sums, at a chance in a million.
+pub(crate) fn formula_of(form: u64, s: Sums, chance: u32) -> f64
     requires { ⌜ isPlausible s ≡ true ⌝ }
-    ensures { λ r. ⌜ r ≡ formulaOf (s .count) (s .sum) (s .squares) chance ⌝ }
+    ensures { λ r. ⌜ r ≡ formulaOf form (s .count) (s .sum) (s .squares) chance ⌝ }
 {
     let n = s.count;
     let sum = s.sum;
     let squares = s.squares;
     let d = n * squares - sum * sum;
-    limit_from(mean(n, sum), spread_by(n * n, d), quantile(chance))
+    limit_from(
+        mean(n, sum),
+        spread_by(divisor_of(form, n), d),
+        quantile(chance),
+    )
+}
+
+// What D is divided by under a form.
+fn divisor_of(form: u64, n: u64) -> u64
+    requires { ⌜ (minCount ≤ n) × (n ≤ maxCount) ⌝ }
+    ensures { λ r. ⌜ r ≡ divisorOf form n ⌝ }
+{
+    if form == SAMPLE_FORM {
+        n * (n - 1)
+    } else {
+        n * n
+    }
 }
 
 fn mean(n: u64, sum: u64) -> f64

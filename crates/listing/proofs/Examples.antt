@@ -1,5 +1,5 @@
--- Document 01's example listed, whole and cut to 32 bytes, a journal with a fault, and the empty one: computed from the definitions.
--- Assumes nothing.
+-- Document 01's example listed, whole and cut to 32 bytes, a journal with a fault, the two forms in one journal, and the empty one: computed
+-- from the definitions. Assumes nothing.
 use mathlib.Core.Path.{_≡_, refl}
 use mathlib.Core.List.{List, [], _∷_, _++_}
 use Prim.Native.Nat.{ℕ}
@@ -8,11 +8,11 @@ use lib.Ieee.{ofInt, ofBits, toBits, isNan, eq, lt, add, mul, div}
 use Rattle.sqrt.specs.Sqrt.{sqrtIn}
 use Rattle.pxfm.specs.Inverfc.{fErfcinv}
 use Rattle.limit.specs.Times.{inRange, timeInRange, allInRange, timesInRange, sumOf, squaresOf}
-use Rattle.limit.specs.Formula.{meanOf, spreadBy, spreadOf, quantileOf, limitFrom, formulaOf}
-use Rattle.limit.specs.Limit.{chanceInRange, finiteOrRefused, judge, limitOf}
+use Rattle.limit.specs.Formula.{meanOf, spreadBy, divisorOf, spreadOf, quantileOf, limitFrom, formulaOf}
+use Rattle.limit.specs.Limit.{formKnown, chanceInRange, finiteOrRefused, judge, limitOf}
 use Rattle.hex.specs.Hex.{glyphOf, digits, orMore, placesIn, placesOf, decimalDigits}
 use Rattle.journal_spec.specs.Bytes.{valueOf, joined}
-use Rattle.journal_spec.specs.Refusals.{unless, outside}
+use Rattle.journal_spec.specs.Refusals.{unless, outside, firstOf}
 use Rattle.journal_spec.specs.Reader.{run, then}
 use Rattle.journal_spec.specs.Section.{items, section}
 use Rattle.journal_spec.specs.Record.{lastOf, judgeForm, judgeDay, nameSection, lastChance, judgeChance, chanceSection, timeSection}
@@ -42,15 +42,28 @@ pub record Examples : Type 0 where
   -- `damaged 7 25`: the limit's lowest bit is set
   pub fault-listed :
       listingOf (set example 25 1) ≡ 0x64 ∷ 0x61 ∷ 0x6d ∷ 0x61 ∷ 0x67 ∷ 0x65 ∷ 0x64 ∷ 0x20 ∷ 0x37 ∷ 0x20 ∷ 0x32 ∷ 0x35 ∷ 0x0a ∷ []
+  -- the example as a record of form 2 after itself: both lines and `whole 2 66`
+  pub forms-listed : listingOf (example ++ set example 0 2)
+      ≡ exampleLine ++ (exampleLine ++ (0x77 ∷ 0x68 ∷ 0x6f ∷ 0x6c ∷ 0x65 ∷ 0x20 ∷ 0x32 ∷ 0x20 ∷ 0x36 ∷ 0x36 ∷ 0x0a ∷ []))
+  -- and before itself: `damaged 13 33`
+  pub old-form-listed : listingOf (set example 0 2 ++ example)
+      ≡ 0x64 ∷ 0x61 ∷ 0x6d ∷ 0x61 ∷ 0x67 ∷ 0x65 ∷ 0x64 ∷ 0x20 ∷ 0x31 ∷ 0x33 ∷ 0x20 ∷ 0x33 ∷ 0x33 ∷ 0x0a ∷ []
   -- `whole 0 0`
   pub empty-listed : listingOf [] ≡ 0x77 ∷ 0x68 ∷ 0x6f ∷ 0x6c ∷ 0x65 ∷ 0x20 ∷ 0x30 ∷ 0x20 ∷ 0x30 ∷ 0x0a ∷ []
 
 pub listed-examples : Examples
 unfolding ofInt ofBits toBits isNan eq lt add mul div sqrtIn fErfcinv
-    inRange timeInRange allInRange timesInRange sumOf squaresOf meanOf spreadBy spreadOf quantileOf limitFrom formulaOf
-    chanceInRange finiteOrRefused judge limitOf glyphOf digits orMore placesIn placesOf decimalDigits
-    valueOf joined unless outside run then items section
+    inRange timeInRange allInRange timesInRange sumOf squaresOf meanOf spreadBy divisorOf spreadOf quantileOf limitFrom formulaOf
+    formKnown chanceInRange finiteOrRefused judge limitOf glyphOf digits orMore placesIn placesOf decimalDigits
+    valueOf joined unless outside firstOf run then items section
     lastOf judgeForm judgeDay nameSection lastChance judgeChance chanceSection timeSection judgeLimit limitSection recordReader
     recordsOf contentsFrom contentsOf statusOf letterOf allEqual areEqual markFrom markOf
     spaced lineOf quotedLimit quotedLimits recordLine wordWhole wordTorn wordDamaged stateLine recordLines listingOf
-listed-examples = record { whole-listed = refl; cut-listed = refl; fault-listed = refl; empty-listed = refl }
+listed-examples = record {
+  whole-listed = refl;
+  cut-listed = refl;
+  fault-listed = refl;
+  forms-listed = refl;
+  old-form-listed = refl;
+  empty-listed = refl;
+}

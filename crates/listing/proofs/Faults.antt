@@ -1,4 +1,4 @@
--- The numbers that an end state may show: a fault's number is one of document 01's table and its place is inside the journal, records and bytes
+-- The numbers that an end state may show: a fault's number is one of the papers' tables and its place is inside the journal, records and bytes
 -- are at most 65,536.
 -- Assumes nothing.
 use mathlib.Core.Path.{_≡_, refl, sym, ap, _∙_}
@@ -32,6 +32,11 @@ fault-place (field w refusal next) at bs n p e =
     (λ enough good x.
     omega (arith, fault-place (next (valueOf (take w bs))) (at + w) (drop w bs) n p x, length-drop w bs))
     e
+
+-- the greatest number of the table
+numbers-few : each (λ m. leb m 13) (1 ∷ recordNumbers) ≡ true
+unfolding each
+numbers-few = refl
 
 -- the end state's numbers have few digits
 pub scan-numbered : (b : List ℕ) → AreBytes b → Numbered (scanOf b (length b))

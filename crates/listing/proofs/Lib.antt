@@ -19,6 +19,7 @@ pub mod LinesJoined
 pub mod Longest
 pub mod Faults
 pub mod LinesFit
+pub mod FormerListing
 -- examples
 pub mod Examples
 -- nothing is left free

@@ -55,7 +55,7 @@ reached-head : (at : ℕ) (b : List ℕ) → Reached at b (headAt at b) (nameSta
 unfolding plainRecordAt noSpan plain dayStage
 reached-head at b =
     by-order (at + 4) (length b)
-    (λ h. let start : plainRecordAt at b ≡ run (plain (field 2 judgeForm (dayStage (lastOf [])))) at (drop at b) =
+    (λ h. let start : plainRecordAt at b ≡ run (plain (field 2 (judgeForm (lastOf [])) (dayStage (lastOf [])))) at (drop at b) =
     ap (λ (r : Reader Record). run (plain r) at (drop at b)) (by-stages (lastOf [])) in
     let goes = at-good 2 (λ v. 0) (λ v. plain (dayStage (lastOf []) v)) at b (omega arith) refl in
     let further = at-good 2 (λ v. 0) (λ v. plain (nameStage (numberAt 2 at b) v)) (at + 2) b (omega arith) refl in
@@ -65,7 +65,7 @@ reached-head at b =
       inside = λ t. h;
       none = λ t. absurd (differ t);
     }))
-    (λ h. let start : plainRecordAt at b ≡ run (plain (field 2 judgeForm (dayStage (lastOf [])))) at (drop at b) =
+    (λ h. let start : plainRecordAt at b ≡ run (plain (field 2 (judgeForm (lastOf [])) (dayStage (lastOf [])))) at (drop at b) =
     ap (λ (r : Reader Record). run (plain r) at (drop at b)) (by-stages (lastOf [])) in
     rw (head-beyond at b h) (record {
       goes = λ t. absurd (differ (sym t));
@@ -125,7 +125,7 @@ reached-all at b =
     let chances : List ℕ = numbersOf 4 c b in
     let t : Span = spanAfter 4 c b in
     let times : List ℕ = numbersOf 4 t b in
-    reached-on at b (limitSection chances times)
+    reached-on at b (limitSection form chances times)
     (λ limits. done (record { form = form; day = day; name = name; chances = chances; times = times; limits = limits })) t
     (reached-on at b timeSection (λ xs. limitStage form day name chances xs) c
     (reached-on at b chanceSection (λ xs. timeStage form day name xs) n

@@ -61,8 +61,10 @@ unfoldable pub recordLines : Contents → List ℕ
 recordLines (standing ps committed) = joined (map recordLine (recordsOf ps))
 recordLines (faulty n p) = []
 
+-- The listing by what a journal of a length holds.
+abbrev pub listingBy : ℕ → Contents → List ℕ
+listingBy len c = recordLines c ++ stateLine (statusOf len c)
+
 -- The listing of some bytes, all of them the journal.
 unfoldable pub listingOf : List ℕ → List ℕ
-listingOf bytes =
-    let c = contentsOf bytes (length bytes) in
-    recordLines c ++ stateLine (statusOf (length bytes) c)
+listingOf bytes = listingBy (length bytes) (contentsOf bytes (length bytes))

@@ -1,5 +1,6 @@
 // Journals with a byte or a field altered.
-// A field is set to a value at the edge of its range or beyond it; a count may lie about its section.
+// A field is set to a value at the edge of its range or beyond it; a count may lie about its section; a record, or its limits alone, may be of
+// the other form.
 
 use inputs::journal::{CHANCES, CHANCE_COUNTS, FORMS, NAME_BYTES, NAME_COUNTS, TIMES, TIME_COUNTS};
 use inputs::random::Random;
@@ -25,7 +26,7 @@ pub fn field_altered(random: &mut Random, mut records: Vec<Record>) -> Vec<u8> {
 
 fn one_field(random: &mut Random, record: &mut Record, day_before: u16) -> Vec<u8> {
     let mut counts = record.counts();
-    match random.below(12) {
+    match random.below(14) {
         0 => record.form = *random.pick(&FORMS),
         1 => record.day = day_before.wrapping_sub(1),
         2 => counts[0] = *random.pick(&NAME_COUNTS),
@@ -44,6 +45,8 @@ fn one_field(random: &mut Random, record: &mut Record, day_before: u16) -> Vec<u
             let bits = any(random, &mut record.limits);
             *bits = bits.wrapping_add(change);
         }
+        11 => *record = record.in_other_form(),
+        12 => record.limits = record.in_other_form().limits,
         _ => {
             let bits = any(random, &mut record.limits);
             *bits = *random.pick(&[bits.swap_bytes(), 0, 0x7ff0000000000000, 0x7ff8000000000000]);

@@ -1,5 +1,5 @@
-// Lists of appends with budgets from length 0 against the model of document 01's book: after each call the answer, every byte of the
-// slice, scan and both reading calls. Then single appends on any bytes, damaged journals among them.
+// Lists of appends with budgets, from length 0 or from records of form 1, against the model of document 01's book: after each call the answer,
+// every byte of the slice, scan and both reading calls. Then single appends on any bytes, damaged journals among them.
 
 use super::alter::{byte_altered, field_altered};
 use super::run::{compare_groups, Group, Run};
@@ -9,13 +9,19 @@ use inputs::journal::{record, record_of_size, Fields, LARGEST, SMALLEST};
 use inputs::journal::{CHANCES, NAME_BYTES, TIMES};
 use inputs::random::Random;
 use reference::model::{append_upto, Answer, Model, Offer};
-use reference::samples::{filling, joined, records};
+use reference::samples::{filling, joined, old_records, records};
 use reference::scan::MAX_LENGTH;
 
-const GROUPS: [Group; 5] = [
+const GROUPS: [Group; 7] = [
     ("append, histories in small slices", 60_000, small_history),
+    ("append, histories on form 1", 30_000, old_history),
     ("append, histories in full slices", 4, full_history),
     ("append, cut at every budget", 200, every_budget),
+    (
+        "append, cut at every budget on form 1",
+        200,
+        every_budget_on_old,
+    ),
     ("append, any journal", 150_000, any_journal),
     ("append, almost full journals", 300, almost_full),
 ];
@@ -54,8 +60,8 @@ impl Run<'_> {
         self.kinds.add(match words[1] {
             [0, ..] if tail => "append, cut".into(),
             [0, ..] => "append, finished".into(),
-            [1, number, _] => format!("append, declined {number}"),
-            [_, number, _] => format!("append, damaged {number}"),
+            [1, number, _] => format!("append, declined {number:>2}"),
+            [_, number, _] => format!("append, damaged {number:>2}"),
         });
         self.tally.take(words, &input);
         // The place of the first byte that differs, counted from 1.
@@ -113,6 +119,23 @@ impl History {
         }
     }
 
+    /// Records of form 1 with some bytes of one more, none or almost all, and so many bytes behind them.
+    fn on_old(random: &mut Random, room: usize) -> History {
+        let count = random.whole(2, 5);
+        let mut standing = old_records(random, count);
+        let torn = standing.pop().map_or(vec![], |record| record.bytes());
+        let k = random.below(torn.len() as u64) as usize;
+        let model = Model::of(&standing, &torn[..k]);
+        let mut v = model.bytes();
+        v.extend((0..room).map(|_| random.bits() as u8));
+        History {
+            expected: v.clone(),
+            v,
+            len: model.len(),
+            model,
+        }
+    }
+
     fn call(&mut self, random: &mut Random, run: &mut Run, offer: &Offer, budget: usize) {
         let before = self.len;
         let ours = call_ours(&mut self.v, self.len, offer, budget);
@@ -149,7 +172,17 @@ fn small_history(random: &mut Random, run: &mut Run) {
         1 => random.below(800),
         _ => random.below(3_000),
     };
-    let mut history = History::new(random, size as usize);
+    let history = History::new(random, size as usize);
+    any_calls(random, run, history);
+}
+
+fn old_history(random: &mut Random, run: &mut Run) {
+    let room = random.below(1_500) as usize;
+    let history = History::on_old(random, room);
+    any_calls(random, run, history);
+}
+
+fn any_calls(random: &mut Random, run: &mut Run, mut history: History) {
     for _ in 0..random.whole(1, 12) {
         let offer = any_offer(random, history.last_day(), history.room());
         let budget = any_budget(random, &offer);
@@ -177,6 +210,16 @@ fn every_budget(random: &mut Random, run: &mut Run) {
     let mut history = History::new(random, 2_000);
     let first = right_offer(random, 0);
     history.call(random, run, &first, usize::MAX);
+    each_budget(random, run, history);
+}
+
+/// The same after records of form 1, the first over a tail of that form.
+fn every_budget_on_old(random: &mut Random, run: &mut Run) {
+    let history = History::on_old(random, 2_000);
+    each_budget(random, run, history);
+}
+
+fn each_budget(random: &mut Random, run: &mut Run, mut history: History) {
     let offer = right_offer(random, history.last_day());
     let length = length_of(&offer);
     for budget in (0..length).chain([length + 1, length]) {

@@ -45,7 +45,15 @@ fn hex(v: &[u8]) -> String {
 fn random_bytes(random: &mut Random, run: &mut Run) {
     let size = random.below(200) as usize;
     let mut v: Vec<u8> = (0..size).map(|_| random.bits() as u8).collect();
-    let start = [1, 0, random.bits() as u8, 0, random.whole(0, 33) as u8, 0];
+    let form = random.whole(1, 2) as u8;
+    let start = [
+        form,
+        0,
+        random.bits() as u8,
+        0,
+        random.whole(0, 33) as u8,
+        0,
+    ];
     let right = (random.below(7) as usize).min(size);
     v[..right].copy_from_slice(&start[..right]);
     let len = random.below(size as u64 + 1) as usize;

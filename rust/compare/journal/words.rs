@@ -46,7 +46,7 @@ impl Kinds {
     }
 
     pub fn add_mark(&mut self, word: u64) {
-        self.add(if word <= ABSENT {
+        self.add(if word < u64::from(b'A') {
             format!("mark, refused {word:>2}")
         } else {
             format!("mark, {}", char::from(word as u8))

@@ -1,4 +1,4 @@
--- `limit` judges the chance, then the times in one pass, then the value, as its definition does.
+-- `limit` judges the form, then the chance, then the times in one pass, then the value, as its definition does.
 -- The sums that the pass answers are plausible, since they are those of times in range. Assumes nothing.
 use mathlib.Core.Path.{_≡_, _∙_, sym}
 use mathlib.Core.Bool.{true}
@@ -7,31 +7,41 @@ use denote.Ref.{now}
 use borrow.Author.Tests.{not-true, not-false}
 use Rattle.limit.specs.Answer.{meaning}
 use Rattle.limit.specs.Sums.{sumsOf}
-use Rattle.limit.specs.Limit.{chanceInRange, judge, limitOf}
+use Rattle.limit.specs.Limit.{formKnown, chanceInRange, judge, limitOf}
 use Rattle.limit.proofs.Gathered.{GatheredWithin, gathered-within, gathered-outside}
 use Rattle.limit.proofs.Plausible.{times-plausible}
 use Rattle.limit.proofs.limit.Statement.{statement}
 use Rattle.limit.proofs.limit.Tie as tie
 
-good-chance : (c : tie.Else1) → chanceInRange (c .before .before .before .args .chance) ≡ true
-good-chance c = sym (c .before .chance-in-range .ensures) ∙ not-false _ (c .if1 .left)
+good-form : (c : tie.Else1) → formKnown (c .before .before .before .args .form) ≡ true
+good-form c = sym (c .before .form-known .ensures) ∙ not-false _ (c .if1 .left)
+
+good-chance : (c : tie.Else2) → chanceInRange (c .before .before .before .before .before .args .chance) ≡ true
+good-chance c = sym (c .before .chance-in-range .ensures) ∙ not-false _ (c .if2 .left)
 
 returns : tie.Need-returns
 unfolding meaning limitOf judge
-returns c = rw (sym (c .before .chance-in-range .ensures) ∙ not-true _ (c .if1 .taken))
+returns c = rw (sym (c .before .form-known .ensures) ∙ not-true _ (c .if1 .taken))
 
-gathered : (c : tie.After-g) → GatheredWithin (now (c .before .before .before .before .before .before .args .times)) (c .g .given .0 .0)
+returns-2 : tie.Need-returns-2
+unfolding meaning limitOf judge
+returns-2 c = rw (good-form (c .before .before), sym (c .before .chance-in-range .ensures) ∙ not-true _ (c .if2 .taken))
+
+gathered :
+    (c : tie.After-g)
+    → GatheredWithin (now (c .before .before .before .before .before .before .before .before .args .times)) (c .g .given .0 .0)
 gathered c = gathered-within _ _ (c .before .before .gather .ensures) _ (c .g .given .1)
 
 formula-of-requires : tie.Need-formula-of-requires
 formula-of-requires c κs = let g = gathered (c .before) in rw (g .sums) (times-plausible _ (g .inside))
 
-returns-2 : tie.Need-returns-2
+returns-3 : tie.Need-returns-3
 unfolding limitOf judge sumsOf
-returns-2 c =
+returns-3 c =
     let known = c .before .before .before in
     let g = gathered known in
     rw (
+      good-form (known .before .before .before .before .before),
       good-chance (known .before .before .before),
       g .inside,
       c .finite-or-refused .ensures,
@@ -39,11 +49,15 @@ returns-2 c =
       g .sums,
     )
 
-returns-3 : tie.Need-returns-3
+returns-4 : tie.Need-returns-4
 unfolding meaning limitOf judge
-returns-3 c =
+returns-4 c =
     let called = c .before .before in
-    rw (good-chance (called .before), gathered-outside _ _ (called .gather .ensures) (c .enum-told .given .1))
+    rw (
+      good-form (called .before .before .before),
+      good-chance (called .before),
+      gathered-outside _ _ (called .gather .ensures) (c .enum-told .given .1),
+    )
 
 pub limit-spec : {M : Type 1} → statement M
 limit-spec =
@@ -52,9 +66,11 @@ limit-spec =
     (λ c κs. search needs)
     returns
     (λ c κs. search needs)
+    returns-2
+    (λ c κs. search needs)
     (λ c. search needs)
     formula-of-requires
     (λ c κs. search needs)
     (λ c. search needs)
-    returns-2
-    returns-3)
+    returns-3
+    returns-4)

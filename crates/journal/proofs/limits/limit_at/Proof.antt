@@ -14,7 +14,7 @@ returns c =
     let number = worked .before .number-at in
     let a = worked .before .before .before .args in
     c .field-at .ensures
-    ∙ limit-finite (now (a .b)) (a .sums) (a .chance) (a .at) (number .result) (worked .limit-of-sums .result)
+    ∙ limit-finite (now (a .b)) (a .form) (a .sums) (a .chance) (a .at) (number .result) (worked .limit-of-sums .result)
     (worked .limit-of-sums .ensures) (number .ensures .0) (found .given .0 .0) (c .before .bits-of .result) (found .given .1)
     (c .before .bits-of .ensures)
 
@@ -25,7 +25,7 @@ returns-2 c =
     let number = worked .before .number-at in
     let a = worked .before .before .before .args in
     c .field-at2 .ensures
-    ∙ limit-refused (now (a .b)) (a .sums) (a .chance) (a .at) (number .result) (worked .limit-of-sums .result)
+    ∙ limit-refused (now (a .b)) (a .form) (a .sums) (a .chance) (a .at) (number .result) (worked .limit-of-sums .result)
     (worked .limit-of-sums .ensures) (number .ensures .0) (told .given .0 .0) (told .given .1)
 
 pub limit-at-spec : {M : Type 1} → statement M

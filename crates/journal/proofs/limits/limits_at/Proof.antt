@@ -9,15 +9,15 @@ use Rattle.journal.proofs.limits.limits_at.Statement.{statement}
 use Rattle.journal.proofs.limits.limits_at.Tie as tie
 
 abbrev Inv-loop : tie.InvT-loop
-Inv-loop b at n chances sums p₀ chance₀ left₀ p chance left = Limiting b at n chances sums p chance left
+Inv-loop b at n chances form sums p₀ chance₀ left₀ p chance left = Limiting b at n chances form sums p chance left
 
 abbrev μ-loop : tie.MeasureT-loop
-μ-loop b at n chances sums p₀ chance₀ left₀ p chance left = left
+μ-loop b at n chances form sums p₀ chance₀ left₀ p chance left = left
 
 loop-holds : tie.Need-loop-holds Inv-loop μ-loop
 loop-holds c =
     let a = c .before .args in
-    limiting-start (now (a .b)) (a .at) (a .n) (a .chances) (a .sums) (c .before .pre .0)
+    limiting-start (now (a .b)) (a .at) (a .n) (a .chances) (a .form) (a .sums) (c .before .pre .0)
 
 limit-at-requires : tie.Need-limit-at-requires Inv-loop μ-loop
 limit-at-requires c κs =
@@ -25,7 +25,7 @@ limit-at-requires c κs =
     let a = start .args in
     let l = c .before .loop in (
       l .inv .passed .inside,
-      chance-there (now (a .b)) (a .at) (a .n) (a .chances) (a .sums) (l .p) (l .chance) (l .left) (l .inv) (start .pre .1) (omega arith),
+      chance-there (now (a .b)) (a .at) (a .n) (a .chances) (a .form) (a .sums) (l .p) (l .chance) (l .left) (l .inv) (start .pre .1) (omega arith),
     )
 
 add-p : tie.Need-add-p Inv-loop μ-loop
@@ -35,7 +35,7 @@ add-p c =
     let a = read .before .before .before .before .args in
     omega (
       arith,
-      limit-there (now (a .b)) (a .at) (a .n) (a .chances) (a .sums) (l .p) (l .chance) (l .left) (l .inv)
+      limit-there (now (a .b)) (a .at) (a .n) (a .chances) (a .form) (a .sums) (l .p) (l .chance) (l .left) (l .inv)
           (read .limit-at .result) (omega arith) (read .limit-at .ensures) (c .enum-told .given .0 .0) (c .enum-told .given .1),
     )
 
@@ -45,14 +45,14 @@ add-chance c =
     let a = start .args in
     let l = c .before .before .before .before .loop in
     omega
-    (arith, chance-there (now (a .b)) (a .at) (a .n) (a .chances) (a .sums) (l .p) (l .chance) (l .left) (l .inv) (start .pre .1) (omega arith))
+    (arith, chance-there (now (a .b)) (a .at) (a .n) (a .chances) (a .form) (a .sums) (l .p) (l .chance) (l .left) (l .inv) (start .pre .1) (omega arith))
 
 loop-again : tie.Need-loop-again Inv-loop μ-loop
 loop-again c =
     let read = c .before .before in
     let l = read .before .before .loop in
     let a = read .before .before .before .before .args in
-    limiting-more (now (a .b)) (a .at) (a .n) (a .chances) (a .sums) (l .p) (l .chance) (l .left) (l .inv)
+    limiting-more (now (a .b)) (a .at) (a .n) (a .chances) (a .form) (a .sums) (l .p) (l .chance) (l .left) (l .inv)
     (read .limit-at .result) (omega arith) (read .limit-at .ensures) (c .enum-told .given .0 .0) (c .enum-told .given .1)
 
 returns : tie.Need-returns Inv-loop μ-loop
@@ -60,7 +60,7 @@ returns c =
     let read = c .before .before in
     let l = read .before .before .loop in
     let a = read .before .before .before .before .args in
-    limiting-short (now (a .b)) (a .at) (a .n) (a .chances) (a .sums) (l .p) (l .chance) (l .left) (l .inv)
+    limiting-short (now (a .b)) (a .at) (a .n) (a .chances) (a .form) (a .sums) (l .p) (l .chance) (l .left) (l .inv)
     (read .limit-at .result) (omega arith) (read .limit-at .ensures) (c .enum-told2 .given .1)
 
 returns-2 : tie.Need-returns-2 Inv-loop μ-loop
@@ -68,14 +68,14 @@ returns-2 c =
     let read = c .before .before .before in
     let l = read .before .before .loop in
     let a = read .before .before .before .before .args in
-    limiting-refused (now (a .b)) (a .at) (a .n) (a .chances) (a .sums) (l .p) (l .chance) (l .left) (l .inv)
+    limiting-refused (now (a .b)) (a .at) (a .n) (a .chances) (a .form) (a .sums) (l .p) (l .chance) (l .left) (l .inv)
     (read .limit-at .result) (omega arith) (read .limit-at .ensures) (c .before .x .given .0 .0) (c .before .x .given .1)
 
 returns-3 : tie.Need-returns-3 Inv-loop μ-loop
 returns-3 c =
     let l = c .before .loop in
     let a = c .before .before .before .args in
-    limiting-end (now (a .b)) (a .at) (a .n) (a .chances) (a .sums) (l .p) (l .chance) (l .left) (l .inv) (omega arith)
+    limiting-end (now (a .b)) (a .at) (a .n) (a .chances) (a .form) (a .sums) (l .p) (l .chance) (l .left) (l .inv) (omega arith)
 
 pub limits-at-spec : {M : Type 1} → statement M
 limits-at-spec =

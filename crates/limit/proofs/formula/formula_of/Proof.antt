@@ -4,16 +4,23 @@ use native.Mathlib.Omega.{arith}
 use borrow.Author.Needs.{needs}
 use Rattle.limit.specs.Formula.{formulaOf, spreadOf}
 use Rattle.limit.proofs.Plausible.{Plausible, plausible-facts}
-use Rattle.limit.proofs.Scatter.{sum-square-small, squares-product-small, count-square-small, scatter-at-most}
+use Rattle.limit.proofs.Scatter.{sum-square-small, squares-product-small, scatter-at-most}
+use Rattle.limit.proofs.Divisor.{divisor-small}
 use Rattle.limit.proofs.formula.formula_of.Statement.{statement}
 use Rattle.limit.proofs.formula.formula_of.Tie as tie
 
--- The value is the formula's, by the four calls.
+-- The value is the formula's, by the five calls.
 returns : tie.Need-returns
 unfolding formulaOf spreadOf
 returns c =
     let p = c .before .before in
-    rw (c .limit-from .ensures, c .before .quantile .ensures, p .spread-by .ensures, p .before .mean .ensures)
+    rw (
+      c .limit-from .ensures,
+      c .before .quantile .ensures,
+      p .spread-by .ensures,
+      p .before .divisor-of .ensures,
+      p .before .before .mean .ensures,
+    )
 
 -- What the products, the difference and the calls ask, from the sums' bounds.
 known : (c : tie.Start) → Plausible (c .args .s)
@@ -35,17 +42,16 @@ sub-d c = known c .squaresLow
 mean-requires : tie.Need-mean-requires
 mean-requires c κs = let p = known c in omega arith
 
-mul-spread-by : tie.Need-mul-spread-by
-mul-spread-by c =
-    let p = known (c .before) in
-    omega (arith, count-square-small _ _ _ (p .countHigh) (p .sumHigh) (p .squaresHigh))
+divisor-of-requires : tie.Need-divisor-of-requires
+divisor-of-requires c κs = let p = known (c .before) in (p .countLow, p .countHigh)
 
 spread-by-requires : tie.Need-spread-by-requires
 spread-by-requires c κs =
-    let p = known (c .before) in
+    let p = known (c .before .before) in
     omega (
       arith,
-      count-square-small _ _ _ (p .countHigh) (p .sumHigh) (p .squaresHigh),
+      c .divisor-of .ensures,
+      divisor-small _ (c .before .before .args .form) (p .countHigh),
       scatter-at-most _ _ _ (p .countHigh) (p .sumHigh) (p .squaresHigh),
     )
 
@@ -57,7 +63,7 @@ formula-of-spec =
     mul-d-2
     sub-d
     mean-requires
-    mul-spread-by
+    divisor-of-requires
     spread-by-requires
     (λ c κs. search needs)
     (λ c κs. search needs)
