@@ -58,7 +58,7 @@ void journal_scan(const uint8_t *v, size_t size, size_t len, uint64_t out[3]);
 /* Where record i stands: {place of its first byte, number of its bytes}; both are 0 where it cannot be read. out points to two places. */
 void journal_part(const uint8_t *v, size_t size, size_t len, size_t i, uint64_t out[2]);
 
-/* The mark of record i: 'F' all times equal, 'S' fewer than 8, 'N' others; or the refusal: scan's, or ABSENT, i not below
+/* The mark of record i: 'S' fewer than 8 times, 'F' 8 or more and all equal, 'N' others; or the refusal: scan's, or ABSENT, i not below
    the number of records. Every refusal is below 'A'. */
 uint64_t journal_mark(const uint8_t *v, size_t size, size_t len, size_t i);
 

@@ -122,6 +122,7 @@ class Definitions:
             "eq": lambda x, y: r.equal(x, y),
             "eqb": lambda m, n: m == n,
             "leb": lambda m, n: m <= n,
+            "ltb": lambda m, n: m < n,
             "firstOf": lambda numbers: next((n for n in numbers if n), 0),
             "ofBits": lambda _, bits: bits,
             "toBits": lambda _, x: x,

@@ -1,5 +1,5 @@
-"""Document 01's Limit, Leaf and mark with document 02's two forms, for the tools that make volumes: written from the papers alone, and
-not from our code.
+"""Document 01's Limit, Leaf and mark, with document 02's two forms and its order of the marks, for the tools that make volumes: written from
+the papers alone, and not from our code.
 
 The quantile is not worked out here. Its bits come from the Rust: tools/journal_quantiles has those of eight chances, and the
 list crates/quantile_vectors/stdin, which tools/quantile-vectors makes, those of some more. The rest of a limit is worked out in
@@ -72,9 +72,10 @@ def limit_of(times, chance, form):
 
 
 def mark_of(times):
-    if len(set(times)) == 1:
-        return "F"
-    return "S" if len(times) < 8 else "N"
+    """S is tested first, then F, then N (document 02, 2026-07)."""
+    if len(times) < 8:
+        return "S"
+    return "F" if len(set(times)) == 1 else "N"
 
 
 class Leaf:

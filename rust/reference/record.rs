@@ -79,12 +79,12 @@ impl Record {
     }
 }
 
-/// The letter of the mark of so many times, by whether they are all equal.
+/// The letter of the mark of so many times, by whether they are all equal: S first, then F, then N (document 02, 2026-07).
 pub fn mark(equal: bool, times: usize) -> u8 {
-    if equal {
-        FLAT
-    } else if times < NOT_FEW {
+    if times < NOT_FEW {
         FEW
+    } else if equal {
+        FLAT
     } else {
         NORMAL
     }

@@ -1,5 +1,5 @@
-// The mark of a record (document 01, Marks and listing): F if all times are equal, else S if there are fewer than 8, else N.
-// The rule and the letters are here alone; reading and the listing ask here.
+// The mark of a record (document 01, Marks and listing; document 02, 2026-07): S if there are fewer than 8 times, else F if all are equal,
+// else N. The rule and the letters are here alone; reading and the listing ask here.
 ghost use mathlib.Core.Path.{_≡_};
 ghost use Prim.Native.Nat.{_*_, _≤_};
 ghost use lib.ListN.{length};
@@ -9,7 +9,7 @@ ghost use Rattle.journal.specs.Answers.{asMark};
 use crate::number::number_at;
 use crate::number::number_in;
 
-// Below so many times, not all equal, the mark is S.
+// Below so many times the mark is S.
 const FEW_TIMES: u64 = 8;
 
 // Document 01's marks F, S and N.
@@ -43,11 +43,11 @@ pub fn mark_of(times: &[u8]) -> Mark
 pub(crate) fn mark_from(flat: bool, times: u64) -> Mark
     ensures { λ r. ⌜ asMark r ≡ markFrom flat times ⌝ }
 {
-    if flat {
-        return Mark::Flat;
-    }
     if times < FEW_TIMES {
         return Mark::Few;
+    }
+    if flat {
+        return Mark::Flat;
     }
     Mark::Normal
 }

@@ -205,7 +205,9 @@ declines = record {
 -- ---- marks
 
 pub record Marks : Type 0 where
-  pub equal : markOf (100 ∷ 100 ∷ []) ≡ flat
+  pub equal : markOf (100 ∷ 100 ∷ []) ≡ few
+  pub equalSeven : markOf (replicate 7 100) ≡ few
+  pub equalEight : markOf (replicate 8 100) ≡ flat
   pub equalMany : markOf (replicate 9 100) ≡ flat
   pub fewTimes : markOf (100 ∷ 100 ∷ 100 ∷ 100 ∷ 100 ∷ 100 ∷ 101 ∷ []) ≡ few
   pub manyTimes : markOf (100 ∷ 100 ∷ 100 ∷ 100 ∷ 100 ∷ 100 ∷ 100 ∷ 101 ∷ []) ≡ normal
@@ -217,6 +219,8 @@ pub marks : Marks
 unfolding markFrom markOf areEqual allEqual letterOf
 marks = record {
   equal = refl;
+  equalSeven = refl;
+  equalEight = refl;
   equalMany = refl;
   fewTimes = refl;
   manyTimes = refl;

@@ -1,6 +1,6 @@
 -- The laws on the journal's definitions, one idea to a file, and the theorem of the whole list.
 -- `Format` has the format's laws by name, `Demand` the theorem, `Continued` that it goes on from a journal that stands, `Shown`, `Answers`,
--- `TornOrWhole` and `ShutOut` what follows from it, `Former` what the reader from before form 2 makes of a journal.
+-- `TornOrWhole` and `ShutOut` what follows from it, `Former` and `Marks` what document 02's requests changed of reading.
 
 -- numbers, refusals, readers, sections, records
 pub mod Numbers
@@ -20,8 +20,9 @@ pub mod Format
 pub mod Refused
 pub mod Table
 pub mod Placing
--- the forms
+-- what came before document 02's requests
 pub mod Former
+pub mod Marks
 -- demand 3
 pub mod Demand
 pub mod Continued

@@ -1,11 +1,11 @@
--- The reader from before form 2 (document 02, 2026-04): it knows form 1 alone, and is the journal's own reader otherwise.
--- The laws of proofs/Former.antt compare what the two make of a journal.
+-- What came before document 02's requests: the reader that knows form 1 alone, and is the journal's own otherwise (2026-04), and the mark that
+-- tests F first (2026-07). The laws of proofs/Former.antt and proofs/Marks.antt compare them with today's.
 use mathlib.Core.Path.{_≡_}
 use Prim.Native.Nat.{ℕ, zero, suc, _-_, min}
 use mathlib.Core.List.{List, [], _∷_, _++_}
 use mathlib.Core.Bool.{cond}
 use lib.ListN.{length, take}
-use lib.Dec.{leb, eqb}
+use lib.Dec.{leb, ltb, eqb}
 use Rattle.limit.specs.Formula.{plainForm, sampleForm}
 use Rattle.limit.specs.Answer.{formRefusal}
 use Rattle.journal_spec.specs.Bytes.{numberAt}
@@ -14,6 +14,9 @@ use Rattle.journal_spec.specs.Reader.{Reader, field, found, fault, short
 use Rattle.journal_spec.specs.Record.{Record, Last, lastOf}
 use Rattle.journal_spec.specs.Stages.{dayStage}
 use Rattle.journal_spec.specs.Scan.{maxLength, Placed, recordsOf, Contents, standing, faulty}
+use Rattle.journal_spec.specs.Read.{Mark, flat, few, normal, fewTimes, areEqual}
+
+-- ---- before form 2
 
 -- its refusal of a form: 2 if it is not 1
 unfoldable pub formerForm : ℕ → ℕ
@@ -41,3 +44,9 @@ pub record StopsAtSample (slice : List ℕ) (len : ℕ) : Type 0 where
   pub place : ℕ
   pub stands : numberAt 2 place (take len slice) ≡ sampleForm
   pub refused : formerContents slice len ≡ faulty formRefusal place
+
+-- ---- before S was tested first
+
+-- the mark of a set of times: F if they are all equal, else S if there are fewer than 8, else N
+unfoldable pub formerMark : List ℕ → Mark
+formerMark times = cond (areEqual times) flat (cond (ltb (length times) fewTimes) few normal)

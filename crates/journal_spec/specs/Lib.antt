@@ -18,7 +18,7 @@ pub mod Model
 pub mod Ranges
 pub mod Demand
 pub mod Shown
--- the reader from before form 2, for the laws about old journals
+-- what came before document 02's requests, for the laws about old journals
 pub mod Former
 -- for private contracts: the record's reader from each of its parts on
 pub mod Stages

@@ -71,9 +71,9 @@ unfoldable pub areEqual : List ℕ → Bool
 areEqual [] = true
 areEqual (x ∷ xs) = allEqual x xs
 
--- the mark of so many times, by whether they are all equal: F if they are, else S if there are fewer than 8, else N
+-- the mark of so many times, by whether they are all equal: S if there are fewer than 8, else F if they are, else N (document 02, 2026-07)
 unfoldable pub markFrom : Bool → ℕ → Mark
-markFrom equal times = cond equal flat (cond (ltb times fewTimes) few normal)
+markFrom equal times = cond (ltb times fewTimes) few (cond equal flat normal)
 
 -- the mark of a set of times
 unfoldable pub markOf : List ℕ → Mark

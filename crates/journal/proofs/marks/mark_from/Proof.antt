@@ -8,15 +8,15 @@ use Rattle.journal.proofs.marks.mark_from.Tie as tie
 
 returns : tie.Need-returns
 unfolding asMark markFrom
-returns c = rw (c .if1 .taken)
+returns c = rw (lt-ltb (c .before .args .times) fewTimes (c .if1 .taken))
 
 returns-2 : tie.Need-returns-2
 unfolding asMark markFrom
-returns-2 c = rw (c .before .if1 .left, lt-ltb (c .before .before .args .times) fewTimes (c .if2 .taken))
+returns-2 c = rw (le-ltb (c .before .before .args .times) fewTimes (c .before .if1 .left), c .if2 .taken)
 
 returns-3 : tie.Need-returns-3
 unfolding asMark markFrom
-returns-3 c = rw (c .before .if1 .left, le-ltb (c .before .before .args .times) fewTimes (c .if2 .left))
+returns-3 c = rw (le-ltb (c .before .before .args .times) fewTimes (c .before .if1 .left), c .if2 .left)
 
 pub mark-from-spec : {M : Type 1} → statement M
 mark-from-spec = tie.close (tie.spec returns returns-2 returns-3)
