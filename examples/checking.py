@@ -10,7 +10,7 @@ import sys
 TOP = os.path.dirname(os.path.dirname(os.path.abspath(__file__)))
 PROGRAMS = os.path.join(TOP, "target", "bin")
 sys.path.insert(0, os.path.join(TOP, "tools"))
-from leaf import EIGHT, OLD, Leaf  # noqa: E402, F401 (the path is set above; the checks import these from here)
+from leaf import EIGHT, OFFERED, OLD, Leaf  # noqa: E402, F401 (the path is set above; the checks import these from here)
 
 WAIT = 60  # seconds after which a program that should end by itself counts as hanging
 counts = {}

@@ -56,6 +56,7 @@ int main()
     say("day", volume.append(4, "A", 500000, 2).word[1], AWAQLLA_REFUSAL_DAY);
     say("name", volume.append(5, "", 500000, 2).word[1], AWAQLLA_REFUSAL_NAME);
     say("chances", volume.append(5, "A", 1000000, 2).word[1], AWAQLLA_REFUSAL_CHANCES);
+    say("even", volume.append(5, "A", 500001, 2).word[1], AWAQLLA_REFUSAL_EVEN);
     say("times", volume.append(5, "A", 500000, 129).word[1], AWAQLLA_REFUSAL_TIMES);
     say("room", Volume(32).append(5, "A", 500000, 2).word[1], AWAQLLA_REFUSAL_ROOM);
     say("absent", journal_mark(volume.bytes.data(), volume.bytes.size(), volume.length, 1), AWAQLLA_REFUSAL_ABSENT);

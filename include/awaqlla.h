@@ -24,17 +24,18 @@ enum { JOURNAL_EXTENDED = 0, JOURNAL_DECLINED = 1 };
 
 /* The refusals' numbers (docs/DEFINITION.md, section 10). */
 enum {
-    AWAQLLA_REFUSAL_LENGTH = 1,   /* the length is beyond the slice or JOURNAL_MAX_LENGTH */
-    AWAQLLA_REFUSAL_FORM = 2,     /* a form other than 1 and 2 */
-    AWAQLLA_REFUSAL_DAY = 3,      /* a day before that of the record before */
-    AWAQLLA_REFUSAL_NAME = 4,     /* a name has 1 to 32 bytes, each 0x21 to 0x7e */
-    AWAQLLA_REFUSAL_CHANCES = 5,  /* 1 to 8 chances, rising, each 1 to 999,999 in a million */
-    AWAQLLA_REFUSAL_TIMES = 6,    /* 2 to 128 times, each 1 to 1,048,575 ticks */
-    AWAQLLA_REFUSAL_LIMIT = 7,    /* the limits' count, or the bits of one that does not come out again */
-    AWAQLLA_REFUSAL_FINITE = 8,   /* a limit worked out is not finite */
-    AWAQLLA_REFUSAL_ROOM = 9,     /* the record ends beyond the slice or JOURNAL_MAX_LENGTH */
-    AWAQLLA_REFUSAL_ABSENT = 10,  /* there are not so many records */
-    AWAQLLA_REFUSAL_OLD_FORM = 13 /* form 1 after a record of form 2 */
+    AWAQLLA_REFUSAL_LENGTH = 1,    /* the length is beyond the slice or JOURNAL_MAX_LENGTH */
+    AWAQLLA_REFUSAL_FORM = 2,      /* a form other than 1 and 2 */
+    AWAQLLA_REFUSAL_DAY = 3,       /* a day before that of the record before */
+    AWAQLLA_REFUSAL_NAME = 4,      /* a name has 1 to 32 bytes, each 0x21 to 0x7e */
+    AWAQLLA_REFUSAL_CHANCES = 5,   /* 1 to 8 chances, rising, each 1 to 999,999 in a million */
+    AWAQLLA_REFUSAL_TIMES = 6,     /* 2 to 128 times, each 1 to 1,048,575 ticks */
+    AWAQLLA_REFUSAL_LIMIT = 7,     /* the limits' count, or the bits of one that does not come out again */
+    AWAQLLA_REFUSAL_FINITE = 8,    /* a limit worked out is not finite */
+    AWAQLLA_REFUSAL_ROOM = 9,      /* the record ends beyond the slice or JOURNAL_MAX_LENGTH */
+    AWAQLLA_REFUSAL_ABSENT = 10,   /* there are not so many records */
+    AWAQLLA_REFUSAL_OLD_FORM = 13, /* form 1 after a record of form 2 */
+    AWAQLLA_REFUSAL_EVEN = 17      /* an offered chance above 500,000 in a million */
 };
 
 /* The square root, correctly rounded. */
@@ -64,7 +65,7 @@ uint64_t journal_mark(const uint8_t *v, size_t size, size_t len, size_t i);
 
 /* Append on the journal that fills the first len bytes of the size bytes at v: the record of what is offered, of form 2, is written from the
    committed length on, over a torn tail. Its limits are worked out from the times. {JOURNAL_EXTENDED, length after the call, 0}; {JOURNAL_DECLINED,
-   refusal, 0}: DAY, NAME, CHANCES, TIMES, FINITE or ROOM, the first that holds; or {JOURNAL_DAMAGED, refusal, place} as scan's. Only an
+   refusal, 0}: DAY, NAME, CHANCES, EVEN, TIMES, FINITE or ROOM, the first that holds; or {JOURNAL_DAMAGED, refusal, place} as scan's. Only an
    append that extends changes a byte of v. Each pointer points to as many items as the length behind it says; out to three places. */
 void journal_append(uint8_t *v, size_t size, size_t len, uint16_t day, const uint8_t *name, size_t name_len,
     const uint32_t *chances, size_t chances_len, const uint32_t *times, size_t times_len, uint64_t out[3]);

@@ -1,7 +1,7 @@
 """Document 01's Limit, Leaf and mark, with document 02's two forms and its order of the marks, for the tools that make volumes: written from
 the papers alone, and not from our code.
 
-The quantile is not worked out here. Its bits come from the Rust: tools/journal_quantiles has those of eight chances, and the
+The quantile is not worked out here. Its bits come from the Rust: tools/journal_quantiles has those of ten chances, and the
 list crates/quantile_vectors/stdin, which tools/quantile-vectors makes, those of some more. The rest of a limit is worked out in
 this machine's doubles, whose +, *, / and sqrt round correctly.
 """
@@ -32,7 +32,7 @@ def pairs_of(path):
         return [line.split() for line in lines if not line.startswith("#")]
 
 
-def quantiles_of_eight():
+def quantiles_of_ten():
     return {int(chance): int(bits, 16) for chance, bits in pairs_of("tools/journal_quantiles")}
 
 
@@ -47,10 +47,11 @@ def quantiles_stored():
     return found
 
 
-BITS = {**quantiles_stored(), **quantiles_of_eight()}
+BITS = {**quantiles_stored(), **quantiles_of_ten()}
 assert quantiles_stored().items() <= BITS.items(), "the two lists of quantiles differ"
 QUANTILE = {chance: double_of(bits) for chance, bits in BITS.items()}
-EIGHT = sorted(quantiles_of_eight())  # the chances of tools/journal_quantiles
+EIGHT = [1, 2, 1000, 250000, 500000, 750000, 999998, 999999]  # over the whole range that a reader takes
+OFFERED = [1, 10, 100, 1000, 10000, 100000, 250000, 500000]  # eight that append takes (document 02, 2026-10)
 STORED = sorted(quantiles_stored())  # those of the stored list of the quantile
 
 

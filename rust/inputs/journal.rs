@@ -12,6 +12,10 @@ pub struct Fields {
     pub times: Vec<u32>,
 }
 
+/// The last chance that a reader takes, and the last that append takes.
+pub const READ: u64 = 999_999;
+pub const OFFERED: u64 = 500_000;
+
 /// The sizes of the smallest and of the largest record.
 pub const SMALLEST: usize = 33;
 pub const LARGEST: usize = 652;
@@ -21,12 +25,22 @@ pub const FORMS: [u16; 9] = [0, 1, 2, 3, 0x100, 0x101, 0x102, 0x202, u16::MAX];
 pub const NAME_COUNTS: [u16; 6] = [0, 1, 32, 33, 0x100, u16::MAX];
 pub const NAME_BYTES: [u8; 6] = [0x00, 0x20, 0x21, 0x7e, 0x7f, 0xff];
 pub const CHANCE_COUNTS: [u16; 6] = [0, 1, 8, 9, 0x100, u16::MAX];
-pub const CHANCES: [u32; 6] = [0, 1, 999_999, 1_000_000, 0x1_000_000, u32::MAX];
+pub const CHANCES: [u32; 9] = [
+    0,
+    1,
+    500_000,
+    500_001,
+    900_000,
+    999_999,
+    1_000_000,
+    0x1_000_000,
+    u32::MAX,
+];
 pub const TIME_COUNTS: [u16; 7] = [0, 1, 2, 128, 129, 0x200, u16::MAX];
 pub const TIMES: [u32; 6] = [0, 1, 1_048_575, 1_048_576, 0x1_000_000, u32::MAX];
 
-/// A record in range, mostly a small one.
-pub fn record(random: &mut Random, day: u16) -> Fields {
+/// A record in range with chances up to `last`, mostly a small one.
+pub fn record(random: &mut Random, day: u16, last: u64) -> Fields {
     let (name, chances, times) = match random.below(8) {
         0 => (
             random.whole(1, 32),
@@ -40,11 +54,16 @@ pub fn record(random: &mut Random, day: u16) -> Fields {
         ),
         _ => (random.whole(1, 4), random.whole(1, 3), random.whole(2, 10)),
     };
-    sized(random, day, [name, chances, times].map(|n| n as usize))
+    sized(
+        random,
+        day,
+        [name, chances, times].map(|n| n as usize),
+        last,
+    )
 }
 
-/// A record in range of a given size, SMALLEST to LARGEST.
-pub fn record_of_size(random: &mut Random, day: u16, size: usize) -> Fields {
+/// A record in range of a given size, SMALLEST to LARGEST, with chances up to `last`.
+pub fn record_of_size(random: &mut Random, day: u16, size: usize, last: u64) -> Fields {
     let chances = random
         .whole(1, 8)
         .min((size as u64 - SMALLEST as u64) / 12 + 1) as usize;
@@ -54,24 +73,24 @@ pub fn record_of_size(random: &mut Random, day: u16, size: usize) -> Fields {
     let most = ((rest - 1) / 4).min(128);
     let least = rest.saturating_sub(32).div_ceil(4).max(2);
     let times = random.whole(least as u64, most as u64) as usize;
-    sized(random, day, [rest - 4 * times, chances, times])
+    sized(random, day, [rest - 4 * times, chances, times], last)
 }
 
-fn sized(random: &mut Random, day: u16, [name, chances, times]: [usize; 3]) -> Fields {
+fn sized(random: &mut Random, day: u16, [name, chances, times]: [usize; 3], last: u64) -> Fields {
     Fields {
         day,
         name: (0..name).map(|_| random.whole(0x21, 0x7e) as u8).collect(),
-        chances: rising_chances(random, chances),
+        chances: rising_chances(random, chances, last),
         times: drawn_times(random, times),
     }
 }
 
-fn rising_chances(random: &mut Random, n: usize) -> Vec<u32> {
+fn rising_chances(random: &mut Random, n: usize, last: u64) -> Vec<u32> {
     let mut chances: Vec<u32> = Vec::new();
     while chances.len() < n {
         let drawn = match random.below(4) {
-            0 => *random.pick(&[1, 2, 500_000, 999_998, 999_999]),
-            _ => random.whole(1, 999_999),
+            0 => *random.pick(&[1, 2, OFFERED, last - 1, last]),
+            _ => random.whole(1, last),
         };
         chances.push(drawn as u32);
         chances.sort_unstable();

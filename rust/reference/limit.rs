@@ -5,6 +5,8 @@ use inputs::quantile::chance as quantile_argument;
 
 pub const LAST_TIME: u64 = 1_048_575;
 pub const LAST_CHANCE: u32 = 999_999;
+/// The last that append takes (document 02, 2026-10); volumes that stand are read up to LAST_CHANCE.
+pub const LAST_OFFERED: u32 = 500_000;
 
 /// How the spread is worked out: document 01's form, and document 02's, which every new record has.
 #[derive(Clone, Copy, Debug, PartialEq, Eq)]

@@ -1,7 +1,7 @@
 // Document 01, Book of demand 3: what a list of calls should have made, fed the calls' arguments and the slice's length alone;
-// and append on any slice, which surveys it first. New records are form 2 (document 02, 2026-04).
+// and append on any slice, which surveys it first. New records are form 2 and have chances up to 500,000 (document 02, 2026-04, 2026-10).
 
-use crate::limit::{chance_fits, count_fits, time_fits, Form};
+use crate::limit::{chance_fits, count_fits, time_fits, Form, LAST_OFFERED};
 use crate::record::Record;
 use crate::scan::{scan_all, Entry, Status, MAX_LENGTH};
 
@@ -113,6 +113,9 @@ pub fn offered(
     }
     if !chances_fit(&offer.chances) {
         return Err(5);
+    }
+    if offer.chances.iter().any(|chance| *chance > LAST_OFFERED) {
+        return Err(17);
     }
     if !count_fits(offer.times.len()) || !offer.times.iter().all(|time| time_fits(*time)) {
         return Err(6);

@@ -4,7 +4,7 @@
 use crate::limit::Form;
 use crate::record::Record;
 use crate::scan::MAX_LENGTH;
-use inputs::journal::{record, record_of_size, Fields, LARGEST, SMALLEST};
+use inputs::journal::{record, record_of_size, Fields, LARGEST, READ, SMALLEST};
 use inputs::random::Random;
 
 fn encoded(form: Form, fields: &Fields) -> Record {
@@ -41,7 +41,7 @@ fn records_with(random: &mut Random, count: usize, old: usize) -> Vec<Record> {
     let mut day = random.below(1 << 16) as u16 >> random.below(16);
     let mut records = Vec::new();
     for i in 0..count {
-        records.push(encoded(form_at(i, old), &record(random, day)));
+        records.push(encoded(form_at(i, old), &record(random, day, READ)));
         day = day.saturating_add(random.below(3) as u16);
     }
     records
@@ -59,7 +59,7 @@ pub fn filling(random: &mut Random, total: usize, draw: impl Fn(&mut Random) -> 
             _ => rest - SMALLEST.max(rest - LARGEST),
         };
         let form = form_at(bytes.len(), turn);
-        bytes.extend(encoded(form, &record_of_size(random, 7, size)).bytes());
+        bytes.extend(encoded(form, &record_of_size(random, 7, size, READ)).bytes());
     }
     bytes
 }

@@ -19,6 +19,7 @@ use Rattle.journal_spec.specs.Refusals.{dayRefusal, firstOf}
 use Rattle.journal_spec.specs.Section.{sectionRefusal}
 use Rattle.journal_spec.specs.Record.{Last, judgeDay, nameSection, chanceSection, timeSection, minName, maxName, minChances, maxChances}
 use Rattle.journal_spec.specs.Request.{Offer}
+use Rattle.journal_spec.specs.Append.{judgeEven}
 use Rattle.journal_spec.proofs.Judging.{unless-true, unless-false, first-none, outside-none}
 use Rattle.journal_spec.proofs.SameRefusals.{time-refused}
 use Rattle.journal_spec.proofs.Limits.{times-good}
@@ -51,7 +52,8 @@ offer-few last o e =
     let day = first-none (judgeDay last (o .day)) _ e in
     let name = first-none (sectionRefusal nameSection (o .name)) _ (day .1) in
     let chances = first-none (sectionRefusal chanceSection (o .chances)) _ (name .1) in
-    let times = first-none (sectionRefusal timeSection (o .times)) _ (chances .1) in
+    let even = first-none (judgeEven (o .chances)) _ (chances .1) in
+    let times = first-none (sectionRefusal timeSection (o .times)) _ (even .1) in
     record { name = name-few (o .name) (name .0); chances = chances-few (o .chances) (chances .0); times = times-few (o .times) (times .0) }
 
 -- ---- one refusal after another
@@ -89,10 +91,20 @@ module _ (last : Last) (o : Offer) (bits : List ℕ) where
       unfolding offerRefusals
       chances-refused r h e = refused-by r h (first-this r _ _ h e ∙ sym after-name)
 
-      module _ (c : sectionRefusal chanceSection (o .chances) ≡ 0) (g : Gathered) (read : gatheredMeaning g ≡ gatherOf (o .times)) where
+      module _ (c : sectionRefusal chanceSection (o .chances) ≡ 0) where
         after-chances : Reached last o 3
         unfolding offerRefusals
         after-chances = after-name ∙ first-later _ _ c
+
+        pub even-refused : (r : ℕ) → 0 < r → r ≡ judgeEven (o .chances) → OfferChecked last o r bits
+        unfolding offerRefusals
+        even-refused r h e = refused-by r h (first-this r _ _ h e ∙ sym after-chances)
+
+      module _ (c : sectionRefusal chanceSection (o .chances) ≡ 0) (v : judgeEven (o .chances) ≡ 0)
+          (g : Gathered) (read : gatheredMeaning g ≡ gatherOf (o .times)) where
+        after-even : Reached last o 4
+        unfolding offerRefusals
+        after-even = after-chances c ∙ first-later _ _ v
 
         pub times-refused : g ≡ G.Outside → OfferChecked last o timesRefusal bits
         unfolding offerRefusals
@@ -100,7 +112,7 @@ module _ (last : Last) (o : Offer) (bits : List ℕ) where
             let bad = gathered-outside (o .times) g read told in
             let e : timesRefusal ≡ sectionRefusal timeSection (o .times) =
             sym (time-refused (o .times) ∙ unless-false _ timesRefusal (times-good (o .times) ∙ bad)) in
-            refused-by timesRefusal (omega arith) (first-this timesRefusal _ _ (omega arith) e ∙ sym after-chances)
+            refused-by timesRefusal (omega arith) (first-this timesRefusal _ _ (omega arith) e ∙ sym after-even)
 
         pub limits-judged : (s : Sums) → g ≡ G.Within s → (r : ℕ)
             → ((times : List ℕ) → timesInRange times ≡ true → s ≡ sumsOf times → LimitsChecked times (o .chances) r bits)
@@ -112,6 +124,6 @@ module _ (last : Last) (o : Offer) (bits : List ℕ) where
             time-refused (o .times) ∙ unless-true _ timesRefusal (times-good (o .times) ∙ within .inside) in
             let j = judged (o .times) (within .inside) (within .sums) in
             record {
-              refusal = j .refusal ∙ sym (after-chances ∙ first-later _ _ t ∙ first-alone _);
+              refusal = j .refusal ∙ sym (after-even ∙ first-later _ _ t ∙ first-alone _);
               limits = j .limits;
             }

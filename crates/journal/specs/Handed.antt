@@ -10,7 +10,7 @@ use Rattle.journal_spec.specs.Record.{Record, Last, judgeDay, nameSection, chan
 use Rattle.journal_spec.specs.Section.{sectionRefusal}
 use Rattle.journal_spec.specs.Request.{Offer}
 use Rattle.journal_spec.specs.Request as Request
-use Rattle.journal_spec.specs.Append.{limitsOf, limitsRefusal}
+use Rattle.journal_spec.specs.Append.{limitsOf, judgeEven, limitsRefusal}
 use Rattle.journal.specs.declared.extend.Budget.{Budget}
 use Rattle.journal.specs.declared.extend.Budget.the-variants as B
 
@@ -43,12 +43,13 @@ pub record LimitsChecked (times chances : List ℕ) (r : ℕ) (bits : List ℕ) 
   pub refusal : r ≡ limitsRefusal times chances
   pub limits : r ≡ 0 → take (length chances) bits ≡ limitsOf times chances
 
--- the rows of append's refusals that need no room: 3, 4, 5, 6, 8
+-- the rows of append's refusals that need no room: 3, 4, 5, 17, 6, 8
 unfoldable pub offerRefusals : Last → Offer → List ℕ
 offerRefusals last o =
     judgeDay last (o .day)
     ∷ sectionRefusal nameSection (o .name)
     ∷ sectionRefusal chanceSection (o .chances)
+    ∷ judgeEven (o .chances)
     ∷ sectionRefusal timeSection (o .times)
     ∷ limitsRefusal (o .times) (o .chances)
     ∷ []

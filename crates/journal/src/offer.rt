@@ -1,4 +1,4 @@
-// The check of an offered record, in document 01's order: 3, 4, 5, 6, 8. A refusal is its number, 0 for none.
+// The check of an offered record, in the papers' order: 3, 4, 5, 17, 6, 8. A refusal is its number, 0 for none.
 // The limits' bits are kept while they are judged, so that the writer need not work them out again.
 ghost use mathlib.Core.Path.{_≡_};
 ghost use mathlib.Core.Bool.{true};
@@ -10,6 +10,7 @@ ghost use Rattle.limit.specs.Sums.{sumsOf};
 ghost use Rattle.journal_spec.specs.Refusals.{outside};
 ghost use Rattle.journal_spec.specs.Section.{sectionRefusal};
 ghost use Rattle.journal_spec.specs.Record.{nameSection, chanceSection, maxChances};
+ghost use Rattle.journal_spec.specs.Append.{judgeEven};
 ghost use Rattle.journal.specs.Records.{asLast};
 ghost use Rattle.journal.specs.Handed.{offerFrom, LimitsChecked, OfferChecked};
 use crate::record::CHANCES;
@@ -22,6 +23,11 @@ use limit::SAMPLE_FORM;
 use limit::TIMES_REFUSAL;
 use limit::sums::Gathered;
 use limit::sums::Sums;
+
+// The greatest chance of an offer, which is an even one, and document 02's number for a greater.
+const EVEN_CHANCE: u32 = 500_000;
+
+const EVEN_REFUSAL: u32 = 17;
 
 // The refusal of the offer after the record `last`; where there is none, the limits' bits stand first in `bits`.
 pub(crate) fn offer_refusal(
@@ -46,6 +52,10 @@ pub(crate) fn offer_refusal(
     let of_chances = chances_refusal(chances);
     if 0 < of_chances {
         return of_chances;
+    }
+    let of_even = even_refusal(chances);
+    if 0 < of_even {
+        return of_even;
     }
     let g = limit::sums::gather(times);
     match g {
@@ -93,6 +103,20 @@ fn chances_refusal(chances: &[u32]) -> u32
         }
         low = c + 1;
         i += 1;
+    }
+    0
+}
+
+// The refusal of a chance beyond even, of chances that rise: the last is the greatest.
+fn even_refusal(chances: &[u32]) -> u32
+    ensures { λ r. ⌜ r ≡ judgeEven (now (chances .entry)) ⌝ }
+{
+    let n = chances.len();
+    if n == 0 {
+        return 0;
+    }
+    if EVEN_CHANCE < chances[n - 1] {
+        return EVEN_REFUSAL;
     }
     0
 }

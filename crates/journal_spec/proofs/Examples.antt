@@ -21,7 +21,7 @@ use Rattle.journal_spec.specs.Scan.{recordsOf, contentsFrom, contentsOf,
 use Rattle.journal_spec.specs.Read.{flat, few, normal, letterOf, allEqual, areEqual, markFrom, markOf}
 use Rattle.journal_spec.specs.Request.{all, Request, offerOf, declined}
 use Rattle.journal_spec.specs.Request as R
-use Rattle.journal_spec.specs.Append.{appendRefusal, unchanged, settle, appendTo, appendOf}
+use Rattle.journal_spec.specs.Append.{judgeEven, appendRefusal, unchanged, settle, appendTo, appendOf}
 use Rattle.journal_spec.specs.Model.{workedOut}
 use Rattle.journal_spec.specs.Ranges.{RecordRanges}
 use Rattle.journal_spec.proofs.EvenChance.{worked-plain, plain-finite}
@@ -188,10 +188,11 @@ pub record Declined : Type 0 where
   pub name : declined-by (offer [] [] []) 4
   pub chances : declined-by (offer (0x41 ∷ []) [] []) 5
   pub falling : declined-by (offer (0x41 ∷ []) (2 ∷ 2 ∷ []) []) 5
-  pub times : declined-by (offer (0x41 ∷ []) (1 ∷ 2 ∷ []) []) 6
+  pub beyond : declined-by (offer (0x41 ∷ []) (1 ∷ 500_001 ∷ []) []) 17
+  pub times : declined-by (offer (0x41 ∷ []) (1 ∷ 500_000 ∷ []) []) 6
 
 pub declines : Declined
-unfolding theBytes appendOf appendTo settle unchanged appendRefusal firstOf sectionRefusal offerOf
+unfolding theBytes appendOf appendTo settle unchanged appendRefusal judgeEven firstOf sectionRefusal offerOf
     itemsRefusal contentsOf contentsFrom recordsOf lastOf recordReader run then section items valueOf judgeForm formKnown judgeDay
     nameSection chanceSection judgeChance chanceInRange lastChance timeSection limitSection outside unless inRange
 declines = record {
@@ -199,6 +200,7 @@ declines = record {
   name = refl;
   chances = refl;
   falling = refl;
+  beyond = refl;
   times = refl;
 }
 

@@ -92,6 +92,7 @@ accepts room m n day least most fits fits′ = record {
     range = λ i k. one-chance i k;
     rising = λ i k. absurd (omega arith);
   };
+  even = λ i k. even-chance i k;
   times = record {
     least = omega arith;
     most = omega arith;
@@ -105,6 +106,10 @@ accepts room m n day least most fits fits′ = record {
     one-chance : (i : ℕ) → i < 1 → (1 ≤ getD (500_000 ∷ []) i 0) × (getD (500_000 ∷ []) i 0 ≤ 999_999)
     one-chance zero k = (omega arith, omega arith)
     one-chance (suc i) k = absurd (omega arith)
+
+    even-chance : (i : ℕ) → i < 1 → getD (500_000 ∷ []) i 0 ≤ 500_000
+    even-chance zero k = omega arith
+    even-chance (suc i) k = absurd (omega arith)
 
     two-times : (i : ℕ) → i < 2 → (1 ≤ getD (100 ∷ 100 ∷ []) i 0) × (getD (100 ∷ 100 ∷ []) i 0 ≤ 1_048_575)
     two-times zero k = (omega arith, omega arith)
@@ -169,7 +174,7 @@ unfolding modelRefusal modelRefusals unless firstOf noRoom
 full room m n day least most fits less =
     let big : ℕ = committedOf m + (32 + n) in
     let p = passed big m (named n) (accepted-exactly big m (named n) .1 (accepts big m n day least most (omega arith) fits)) in
-    rw (p .day, p .name, p .chances, p .times, p .limits, named-length n, lt-ltb room (committedOf m + (32 + n)) less) refl
+    rw (p .day, p .name, p .chances, p .even, p .times, p .limits, named-length n, lt-ltb room (committedOf m + (32 + n)) less) refl
 
 -- what the model answers then
 pub turned-away : (room : ℕ) (m : Model) (n : ℕ) → modelRefusal room m (named n) ≡ roomRefusal → enter room m (appendNamed n) .answer ≡ declined roomRefusal

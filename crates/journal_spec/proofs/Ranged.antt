@@ -19,11 +19,11 @@ use Rattle.limit.proofs.InRange as R
 use Rattle.journal_spec.specs.Refusals.{dayRefusal, nameRefusal, limitRefusal, unless, firstOf}
 use Rattle.journal_spec.specs.Section.{sectionRefusal}
 use Rattle.journal_spec.specs.Record.{Record, Last, IsDay, lastOf, judgeForm, judgeDay, limitSection, minName, maxName, minByte}
-use Rattle.journal_spec.specs.Record.{maxByte, minChances, maxChances, recordReader, recordBytes}
+use Rattle.journal_spec.specs.Record.{maxByte, minChances, maxChances, evenChance, recordReader, recordBytes}
 use Rattle.journal_spec.specs.Scan.{maxLength}
 use Rattle.journal_spec.specs.Request.{Offer}
 use Rattle.journal_spec.specs.Model.{Model, committedOf, workedOut, recordFor, each, rising, dayFalls, nameGood, chancesGood, timesGood}
-use Rattle.journal_spec.specs.Model.{limitsGood, noRoom, modelRefusals, modelRefusal}
+use Rattle.journal_spec.specs.Model.{chancesEven, limitsGood, noRoom, modelRefusals, modelRefusal}
 use Rattle.journal_spec.specs.Ranges.{NameRanges, ChanceRanges, TimeRanges, FiniteLimits, Accepted, RecordRanges}
 use Rattle.journal_spec.proofs.Judging.{unless-none, unless-not, unless-true, first-none, none-at, none-first}
 use Rattle.journal_spec.proofs.Each.{each-holds, holds-each, each-range, range-each, rising-holds, holds-rising}
@@ -92,6 +92,7 @@ pub record Passed (room : ℕ) (m : Model) (o : Offer) : Type 0 where
   pub day : dayFalls m o ≡ false
   pub name : nameGood (o .name) ≡ true
   pub chances : chancesGood (o .chances) ≡ true
+  pub even : chancesEven (o .chances) ≡ true
   pub times : timesGood (o .times) ≡ true
   pub limits : limitsGood o ≡ true
   pub room′ : noRoom room m o ≡ false
@@ -104,14 +105,15 @@ passed room m o h =
       day = unless-not (dayFalls m o) 2 (row 0);
       name = unless-none (nameGood (o .name)) 3 (row 1);
       chances = unless-none (chancesGood (o .chances)) 4 (row 2);
-      times = unless-none (timesGood (o .times)) 5 (row 3);
-      limits = unless-none (limitsGood o) 7 (row 4);
-      room′ = unless-not (noRoom room m o) 8 (row 5);
+      even = unless-none (chancesEven (o .chances)) 16 (row 3);
+      times = unless-none (timesGood (o .times)) 5 (row 4);
+      limits = unless-none (limitsGood o) 7 (row 5);
+      room′ = unless-not (noRoom room m o) 8 (row 6);
     }
 
 pub not-declined : (room : ℕ) (m : Model) (o : Offer) → Passed room m o → modelRefusal room m o ≡ 0
 unfolding modelRefusal modelRefusals unless firstOf
-not-declined room m o p = rw (p .day, p .name, p .chances, p .times, p .limits, p .room′) refl
+not-declined room m o p = rw (p .day, p .name, p .chances, p .even, p .times, p .limits, p .room′) refl
 
 either : (a b : Bool) → (a || b) ≡ false → (a ≡ false) × (b ≡ false)
 either true b h = (h, cc)
@@ -119,7 +121,7 @@ either false b h = (refl, h)
 
 -- nothing declines an offer exactly under document 01's ranges
 pub accepted-exactly : (room : ℕ) (m : Model) (o : Offer) → (modelRefusal room m o ≡ 0) ↔ Accepted room m o
-unfolding dayFalls noRoom limitsGood
+unfolding dayFalls chancesEven noRoom limitsGood
 accepted-exactly room m o = (
   λ h.
       let p = passed room m o h in
@@ -129,6 +131,7 @@ accepted-exactly room m o = (
         day = ltb-false (o .day) (lastOf (m .records) .day) (p .day);
         name = name-ranged (o .name) .0 (p .name);
         chances = chance-ranged (o .chances) .0 (p .chances);
+        even = λ i k. leb-true (getD (o .chances) i 0) evenChance (each-holds (λ (c : ℕ). leb c evenChance) (o .chances) (p .even) i k);
         times = time-ranged (o .times) .0 (p .times);
         limits = finite-ranged sampleForm (o .times) (o .chances) .0 (p .limits);
         fitsSlice = ltb-false room size (fit .0);
@@ -140,6 +143,7 @@ accepted-exactly room m o = (
         day = le-ltb (o .day) (lastOf (m .records) .day) (a .day);
         name = name-ranged (o .name) .1 (a .name);
         chances = chance-ranged (o .chances) .1 (a .chances);
+        even = holds-each (λ (c : ℕ). leb c evenChance) (o .chances) (λ i k. le-leb (getD (o .chances) i 0) evenChance (a .even i k));
         times = time-ranged (o .times) .1 (a .times);
         limits = finite-ranged sampleForm (o .times) (o .chances) .1 (a .limits);
         room′ = rw (le-ltb room size (a .fitsSlice), le-ltb maxLength size (a .fitsJournal)) refl;

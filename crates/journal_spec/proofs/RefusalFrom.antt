@@ -1,11 +1,13 @@
 -- For code that judges an offered list of numbers from the front: the first refusal from a number on, by that number and the next.
 -- Assumes nothing.
-use mathlib.Core.Path.{_≡_, refl, _∙_}
-use Prim.Native.Nat.{ℕ, zero, suc, _≤_, _<_}
+use mathlib.Core.Path.{_≡_, refl, sym, ap, _∙_}
+use Prim.Native.Nat.{ℕ, zero, suc, _-_, _≤_, _<_}
 use mathlib.Core.List.{List, [], _∷_}
+use native.Mathlib.Omega.{arith}
 use lib.ListN.{length, take, drop, getD, drop-of-length-le}
 use lib.Seq.{take-suc, drop-cons}
 use Rattle.journal_spec.specs.Refusals.{firstOf}
+use Rattle.journal_spec.specs.Record.{lastChance}
 use Rattle.journal_spec.specs.Section.{itemsRefusal}
 
 -- the first refusal of the numbers from the i-th on, by those before it
@@ -35,3 +37,12 @@ module _ (refusal : List ℕ → ℕ → ℕ) (xs : List ℕ) (i : ℕ) where
   pub refuse-none : length xs ≤ i → refusalFrom refusal xs i ≡ 0
   unfolding refusalFrom itemsRefusal
   refuse-none h = rw (drop-of-length-le xs {i = i} h) refl
+
+-- the last of some chances, by its place
+pub last-at : (xs : List ℕ) → lastChance xs ≡ getD xs (length xs - 1) 0
+unfolding lastChance
+last-at [] = refl
+last-at (x ∷ []) = refl
+last-at (x ∷ y ∷ xs) =
+    let n : length (x ∷ y ∷ xs) - 1 ≡ suc (length (y ∷ xs) - 1) = omega arith in
+    last-at (y ∷ xs) ∙ sym (ap (λ (i : ℕ). getD (x ∷ y ∷ xs) i 0) n)

@@ -1,28 +1,28 @@
 -- Append's refusals of an offer are the model's, number for number, for every offer, whatever it holds.
 -- Assumes nothing.
 use mathlib.Core.Path.{_≡_, refl, sym, ap, _∙_}
-use Prim.Native.Nat.{ℕ, zero, suc, _+_, min}
+use Prim.Native.Nat.{ℕ, zero, suc, _+_, _≤_, min}
 use mathlib.Core.List.{List, [], _∷_, _++_}
 use mathlib.Core.Bool.{Bool, true, false, not, _&&_, _||_}
 use native.Mathlib.Omega.{arith}
 use lib.ListN.{length, length-map}
 use lib.Dec.{leb, ltb}
-use borrow.Author.Tests.{le-leb, lt-leb, lt-ltb, le-ltb}
+use borrow.Author.Tests.{le-leb, lt-leb, leb-true, lt-ltb, le-ltb, ltb-true}
 use Rattle.limit.specs.Times.{minTicks, maxTicks, minCount, maxCount, inRange}
 use Rattle.limit.specs.Formula.{sampleForm}
 use Rattle.limit.specs.Answer.{chanceRefusal, timesRefusal}
 use Rattle.limit.specs.Limit.{minChance, maxChance, chanceInRange}
 use Rattle.limit.proofs.InRange as R
-use Rattle.journal_spec.specs.Refusals.{nameRefusal, unless, outside, firstOf}
+use Rattle.journal_spec.specs.Refusals.{nameRefusal, evenRefusal, unless, outside, firstOf}
 use Rattle.journal_spec.specs.Section.{itemsRefusal, sectionRefusal}
 use Rattle.journal_spec.specs.Record.{lastOf, judgeDay, lastChance, judgeChance, nameSection, chanceSection, timeSection, minName, maxName}
-use Rattle.journal_spec.specs.Record.{minByte, maxByte, minChances, maxChances, recordBytes}
+use Rattle.journal_spec.specs.Record.{minByte, maxByte, minChances, maxChances, evenChance, recordBytes}
 use Rattle.journal_spec.specs.Scan.{maxLength}
 use Rattle.journal_spec.specs.Request.{Offer}
-use Rattle.journal_spec.specs.Append.{offered, limitsOf, judgeRoom, appendRefusal}
-use Rattle.journal_spec.specs.Model.{Model, committedOf, recordFor, each, risingFrom, rising, dayFalls, nameGood, chancesGood, timesGood}
-use Rattle.journal_spec.specs.Model.{limitsGood, noRoom, modelRefusals, modelRefusal}
-use Rattle.journal_spec.proofs.Judging.{first-of-two, unless-none}
+use Rattle.journal_spec.specs.Append.{offered, limitsOf, judgeEven, judgeRoom, appendRefusal}
+use Rattle.journal_spec.specs.Model.{Model, committedOf, recordFor, each, risingFrom, rising, dayFalls, nameGood, chancesGood}
+use Rattle.journal_spec.specs.Model.{chancesEven, timesGood, limitsGood, noRoom, modelRefusals, modelRefusal}
+use Rattle.journal_spec.proofs.Judging.{first-of-two, unless-none, unless-true}
 use Rattle.journal_spec.proofs.Reading.{by-order}
 use Rattle.journal_spec.proofs.Limits.{formulaBits, times-good, limits-refused, limits-are}
 use Rattle.journal_spec.proofs.Records.{length-record}
@@ -104,6 +104,53 @@ chance-refused xs =
     ∙ ap (λ (b : Bool). unless b chanceRefusal)
     (and-assoc (inRange minChances maxChances (length xs)) (each (inRange minChance maxChance) xs) (rising xs)))
 
+-- chances that are good are read, whether an append takes them or not
+pub chances-read : (xs : List ℕ) → chancesGood xs ≡ true → sectionRefusal chanceSection xs ≡ 0
+chances-read xs h = chance-refused xs ∙ unless-true (chancesGood xs) chanceRefusal h
+
+-- ---- chances beyond even
+
+-- rising numbers are not above the last
+last-most : (x : ℕ) (xs : List ℕ) → risingFrom x xs ≡ true → x ≤ lastChance (x ∷ xs)
+unfolding risingFrom lastChance
+last-most x [] h = omega arith
+last-most x (y ∷ ys) h =
+    omega (arith, ltb-true x y (R.first-of (ltb x y) (risingFrom y ys) h), last-most y ys (R.second-of (ltb x y) (risingFrom y ys) h))
+
+-- so that the last one decides
+last-decides : (top x : ℕ) (xs : List ℕ) → risingFrom x xs ≡ true → leb (lastChance (x ∷ xs)) top ≡ each (λ (c : ℕ). leb c top) (x ∷ xs)
+unfolding each risingFrom lastChance
+last-decides top x [] h = both-true (leb x top)
+  where
+    both-true : (b : Bool) → b ≡ b && true
+    both-true true = refl
+    both-true false = refl
+last-decides top x (y ∷ ys) h =
+    let r = R.second-of (ltb x y) (risingFrom y ys) h in
+    let first : x ≤ lastChance (x ∷ y ∷ ys) = last-most x (y ∷ ys) h in
+    last-decides top y ys r
+    ∙ absorb (each (λ (c : ℕ). leb c top) (y ∷ ys))
+    (λ e. le-leb x top (omega (arith, first, leb-true (lastChance (y ∷ ys)) top (last-decides top y ys r ∙ e))))
+  where
+    absorb : (b : Bool) → (b ≡ true → leb x top ≡ true) → b ≡ leb x top && b
+    absorb true f = rw (f refl) refl
+    absorb false f = go (leb x top)
+      where
+        go : (a : Bool) → false ≡ a && false
+        go true = refl
+        go false = refl
+
+pub even-refused : (xs : List ℕ) → chancesGood xs ≡ true → judgeEven xs ≡ unless (chancesEven xs) evenRefusal
+unfolding judgeEven chancesEven
+even-refused xs h = ap (λ (b : Bool). unless b evenRefusal) (go xs (rises-of xs h))
+  where
+    rises-of : (xs : List ℕ) → chancesGood xs ≡ true → rising xs ≡ true
+    rises-of xs h = unfold chancesGood in R.second-of (inRange minChances maxChances (length xs) && each (inRange minChance maxChance) xs) (rising xs) h
+
+    go : (xs : List ℕ) → rising xs ≡ true → leb (lastChance xs) evenChance ≡ each (λ (c : ℕ). leb c evenChance) xs
+    go [] h = unfold each lastChance in refl
+    go (x ∷ xs) h = last-decides evenChance x xs (unfold rising in h)
+
 -- ---- day and room
 
 not-below : (a b : ℕ) → leb a b ≡ not (ltb b a)
@@ -152,6 +199,7 @@ pub same-refusal : (room : ℕ) (m : Model) (o : Offer)
 unfolding appendRefusal modelRefusal modelRefusals judgeDay judgeRoom dayFalls noRoom limitsGood
 same-refusal room m o =
     let size : ℕ = committedOf m + length (recordBytes (recordFor o)) in
+    let good = unless-none (chancesGood (o .chances)) 4 in
     same-rows _ _ (
       rw (not-below (lastOf (m .records) .day) (o .day)) refl,
       λ day. (
@@ -159,14 +207,16 @@ same-refusal room m o =
         λ name. (
           chance-refused (o .chances),
           λ chances. (
-            time-refused (o .times),
-            λ times. (
-              (let c = unless-none (chancesGood (o .chances)) 4 chances in
-                  let t = unless-none (timesGood (o .times)) 5 times in
-                  limits-refused (o .times) (sym (times-good (o .times)) ∙ t) (o .chances) (chances-each (o .chances) c)),
-              λ limits. (
-                rw (same-length o, fits-both size room maxLength) refl,
-                λ fits. tt,
+            even-refused (o .chances) (good chances),
+            λ even. (
+              time-refused (o .times),
+              λ times. (
+                (let t = unless-none (timesGood (o .times)) 5 times in
+                    limits-refused (o .times) (sym (times-good (o .times)) ∙ t) (o .chances) (chances-each (o .chances) (good chances))),
+                λ limits. (
+                  rw (same-length o, fits-both size room maxLength) refl,
+                  λ fits. tt,
+                ),
               ),
             ),
           ),

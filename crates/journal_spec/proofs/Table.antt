@@ -22,7 +22,7 @@ use Rattle.journal_spec.specs.Record.{timeSection, limitSection, recordR
 use Rattle.journal_spec.specs.Scan.{maxLength, Placed, recordsOf, Contents, standing, faulty, contentsFrom, contentsOf, statusOf, scanOf}
 use Rattle.journal_spec.specs.Scan as S
 use Rattle.journal_spec.specs.Request.{Journal, Budget, Request, Offer, offerOf, declined}
-use Rattle.journal_spec.specs.Append.{judgeWorked, limitsRefusal, judgeRoom, appendRefusal, unchanged, extend, settle, appendTo, appendOf}
+use Rattle.journal_spec.specs.Append.{judgeEven, judgeWorked, limitsRefusal, judgeRoom, appendRefusal, unchanged, extend, settle, appendTo, appendOf}
 use Rattle.journal_spec.specs.Model.{each, nameGood, chancesGood, timesGood}
 use Rattle.journal_spec.proofs.Reading.{by-order, field-cases, run-left}
 use Rattle.journal_spec.proofs.Scanning.{contents-fits, contents-long, turn-short, turn-fault, turn-found}
@@ -91,14 +91,14 @@ unfolding firstOf
 first-number P zero ns n f g h = g n h
 first-number P (suc m) ns n f g h = rw h at (f m refl)
 
--- every row refuses by a number with the property P
-abbrev pub Rows : (ℕ → Type 0) → List ℕ → Type 0
-Rows P [] = Unit {0}
-Rows P (a ∷ ns) = ((m : ℕ) → a ≡ suc m → P (suc m)) × Rows P ns
+-- every row of a list refuses by a number with the property P
+pub data Rows (P : ℕ → Type 0) : List ℕ → Type 0 where
+  end : Rows P []
+  row : {a : ℕ} {ns : List ℕ} → ((m : ℕ) → a ≡ suc m → P (suc m)) → Rows P ns → Rows P (a ∷ ns)
 
-one-of : (P : ℕ → Type 0) (ns : List ℕ) → Rows P ns → (n : ℕ) → firstOf ns ≡ suc n → P (suc n)
-one-of P [] rows n h = unfold firstOf in absurd (omega arith)
-one-of P (a ∷ ns) rows n h = first-number P a ns n (rows .0) (one-of P ns (rows .1)) h
+one-of : (P : ℕ → Type 0) {ns : List ℕ} → Rows P ns → (n : ℕ) → firstOf ns ≡ suc n → P (suc n)
+one-of P end n h = unfold firstOf in absurd (omega arith)
+one-of P (row {a} {ns} this rows) n h = first-number P a ns n this (one-of P rows) h
 
 limit-number : (r : LimitResult) (bits n : ℕ) → judgeLimit r bits ≡ suc n → OfRecord (suc n)
 unfolding judgeLimit among
@@ -107,7 +107,7 @@ limit-number (refused m) bits n h = rw (← h) refl
 
 form-number : (last : Last) (form n : ℕ) → judgeForm last form ≡ suc n → OfRecord (suc n)
 unfolding judgeForm among
-form-number last form = one-of OfRecord _ (λ n h. only recordNumbers _ 2 n refl h, (λ n h. only recordNumbers _ 13 n refl h, tt))
+form-number last form = one-of OfRecord (row (λ n h. only recordNumbers _ 2 n refl h) (row (λ n h. only recordNumbers _ 13 n refl h) end))
 
 pub record-faults : (last : Last) → Faults OfRecord (recordReader last)
 unfolding recordReader judgeDay nameSection chanceSection judgeChance timeSection limitSection outside among
@@ -241,7 +241,7 @@ length-exactly slice len = (λ h. beyond (contentsOf slice len) refl h, λ b. �
 
 -- the numbers of a declined append, in the order in which they are judged (7 is none of them: an offer's limits are worked out, not given)
 abbrev pub appendNumbers : List ℕ
-appendNumbers = 3 ∷ 4 ∷ 5 ∷ 6 ∷ 8 ∷ 9 ∷ []
+appendNumbers = 3 ∷ 4 ∷ 5 ∷ 17 ∷ 6 ∷ 8 ∷ 9 ∷ []
 
 abbrev pub OfOffer : ℕ → Type 0
 OfOffer = Among appendNumbers
@@ -257,26 +257,17 @@ limits-number times [] n h = unfold firstOf in absurd (omega arith)
 limits-number times (c ∷ cs) n h = first-number OfOffer _ _ n (λ m e. worked-number (limitOf sampleForm times c) m e) (λ m e. limits-number times cs m e) h
 
 append-number : (room : ℕ) (last : Last) (committed : ℕ) (o : Offer) (n : ℕ) → appendRefusal room last committed o ≡ suc n → OfOffer (suc n)
-unfolding appendRefusal judgeDay judgeRoom among
-append-number room last committed o = one-of OfOffer _ (
-  λ n e. only appendNumbers _ 3 n refl e,
-  (
-    λ n e. only appendNumbers (nameGood (o .name)) 4 n refl (sym (name-refused (o .name)) ∙ e),
-    (
-      λ n e. only appendNumbers (chancesGood (o .chances)) 5 n refl (sym (chance-refused (o .chances)) ∙ e),
-      (
-        λ n e. only appendNumbers (timesGood (o .times)) 6 n refl (sym (time-refused (o .times)) ∙ e),
-        (
-          limits-number (o .times) (o .chances),
-          (
-            λ n e. only appendNumbers _ 9 n refl e,
-            tt,
-          ),
-        ),
-      ),
-    ),
-  ),
-)
+unfolding appendRefusal judgeDay judgeEven judgeRoom among
+append-number room last committed o =
+    one-of OfOffer
+    (row (λ n e. only appendNumbers _ 3 n refl e)
+    (row (λ n e. only appendNumbers (nameGood (o .name)) 4 n refl (sym (name-refused (o .name)) ∙ e))
+    (row (λ n e. only appendNumbers (chancesGood (o .chances)) 5 n refl (sym (chance-refused (o .chances)) ∙ e))
+    (row (λ n e. only appendNumbers _ 17 n refl e)
+    (row (λ n e. only appendNumbers (timesGood (o .times)) 6 n refl (sym (time-refused (o .times)) ∙ e))
+    (row (limits-number (o .times) (o .chances))
+    (row (λ n e. only appendNumbers _ 9 n refl e)
+    end)))))))
 
 extended-not-declined : (j : Journal) (committed : ℕ) (new : List ℕ) (n : ℕ) → settle 0 j committed new .answer ≡ declined n → ⊥
 unfolding settle extend

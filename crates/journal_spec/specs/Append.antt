@@ -8,9 +8,9 @@ use lib.Ieee.{binary64, toBits}
 use Rattle.limit.specs.Formula.{sampleForm}
 use Rattle.limit.specs.Answer.{LimitResult, limited, refused, finiteRefusal}
 use Rattle.limit.specs.Limit.{limitOf}
-use Rattle.journal_spec.specs.Refusals.{roomRefusal, unless, firstOf}
+use Rattle.journal_spec.specs.Refusals.{roomRefusal, evenRefusal, unless, firstOf}
 use Rattle.journal_spec.specs.Section.{sectionRefusal}
-use Rattle.journal_spec.specs.Record.{Record, Last, lastOf, judgeDay, nameSection, chanceSection, timeSection, recordBytes}
+use Rattle.journal_spec.specs.Record.{Record, Last, lastOf, judgeDay, evenChance, lastChance, nameSection, chanceSection, timeSection, recordBytes}
 use Rattle.journal_spec.specs.Scan.{maxLength, recordsOf, Contents, standing, faulty, contentsOf}
 use Rattle.journal_spec.specs.Request.{Journal, Budget, Request, Offer, offerOf, allowed, AppendResult, extended, declined, damaged, Outcome}
 
@@ -38,6 +38,10 @@ offered o = record {
 
 -- ---- what is declined
 
+-- 17 (document 02, 2026-10): a chance beyond even. The chances rise where this is asked, so that the last one decides.
+unfoldable pub judgeEven : List ℕ → ℕ
+judgeEven chances = unless (leb (lastChance chances) evenChance) evenRefusal
+
 -- the refusal of a limit worked out. The chances and times are in range where this is asked, so that it can only be not finite.
 unfoldable pub judgeWorked : LimitResult → ℕ
 judgeWorked (limited x) = 0
@@ -51,13 +55,14 @@ limitsRefusal times chances = firstOf (map (λ (c : ℕ). judgeWorked (limitOf s
 unfoldable pub judgeRoom : ℕ → ℕ → ℕ → ℕ
 judgeRoom room committed size = unless (leb (committed + size) (min room maxLength)) roomRefusal
 
--- the refusal of an offer, the first in document 01's order: 3, 4, 5, 6, 8, 9
+-- the refusal of an offer, the first in document 01's order: 3, 4, 5, 17, 6, 8, 9
 unfoldable pub appendRefusal : ℕ → Last → ℕ → Offer → ℕ
 appendRefusal room last committed o =
     firstOf
     (judgeDay last (o .day)
     ∷ sectionRefusal nameSection (o .name)
     ∷ sectionRefusal chanceSection (o .chances)
+    ∷ judgeEven (o .chances)
     ∷ sectionRefusal timeSection (o .times)
     ∷ limitsRefusal (o .times) (o .chances)
     ∷ judgeRoom room committed (length (recordBytes (offered o)))

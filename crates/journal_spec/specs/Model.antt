@@ -12,8 +12,8 @@ use Rattle.limit.specs.Times.{minTicks, maxTicks, minCount, maxCount, inRange, 
 use Rattle.limit.specs.Formula.{sampleForm, formulaOf}
 use Rattle.limit.specs.Answer.{chanceRefusal, timesRefusal, finiteRefusal}
 use Rattle.limit.specs.Limit.{minChance, maxChance}
-use Rattle.journal_spec.specs.Refusals.{dayRefusal, nameRefusal, roomRefusal, unless, firstOf}
-use Rattle.journal_spec.specs.Record.{Record, lastOf, minName, maxName, minByte, maxByte, minChances, maxChances, recordBytes}
+use Rattle.journal_spec.specs.Refusals.{dayRefusal, nameRefusal, roomRefusal, evenRefusal, unless, firstOf}
+use Rattle.journal_spec.specs.Record.{Record, lastOf, minName, maxName, minByte, maxByte, minChances, maxChances, evenChance, recordBytes}
 use Rattle.journal_spec.specs.Scan.{maxLength}
 use Rattle.journal_spec.specs.Request.{Request, Offer, offerOf, allowed, AppendResult, extended, declined}
 use Rattle.journal_spec.specs.Calls.{Call}
@@ -82,6 +82,10 @@ nameGood name = inRange minName maxName (length name) && each (inRange minByte m
 unfoldable pub chancesGood : List ℕ → Bool
 chancesGood chances = inRange minChances maxChances (length chances) && each (inRange minChance maxChance) chances && rising chances
 
+-- 17: a chance above 500,000
+unfoldable pub chancesEven : List ℕ → Bool
+chancesEven chances = each (λ (c : ℕ). leb c evenChance) chances
+
 -- 6: time count or range
 unfoldable pub timesGood : List ℕ → Bool
 timesGood times = inRange minCount maxCount (length times) && each (inRange minTicks maxTicks) times
@@ -100,6 +104,7 @@ modelRefusals room m o =
     unless (not (dayFalls m o)) dayRefusal
     ∷ unless (nameGood (o .name)) nameRefusal
     ∷ unless (chancesGood (o .chances)) chanceRefusal
+    ∷ unless (chancesEven (o .chances)) evenRefusal
     ∷ unless (timesGood (o .times)) timesRefusal
     ∷ unless (limitsGood o) finiteRefusal
     ∷ unless (not (noRoom room m o)) roomRefusal

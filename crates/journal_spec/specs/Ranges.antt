@@ -11,7 +11,7 @@ use Rattle.limit.specs.Times.{minTicks, maxTicks, minCount, maxCount}
 use Rattle.limit.specs.Formula.{plainForm, sampleForm}
 use Rattle.limit.specs.Limit.{minChance, maxChance}
 use Rattle.journal_spec.specs.Record.{Record, Last, IsDay, lastOf, minName, maxName, minByte, maxByte, minChances, maxChances}
-use Rattle.journal_spec.specs.Record.{recordBytes}
+use Rattle.journal_spec.specs.Record.{evenChance, recordBytes}
 use Rattle.journal_spec.specs.Scan.{maxLength}
 use Rattle.journal_spec.specs.Request.{Offer}
 use Rattle.journal_spec.specs.Model.{Model, committedOf, workedOut, recordFor}
@@ -48,6 +48,7 @@ pub record Accepted (room : ℕ) (m : Model) (o : Offer) : Type 0 where
   pub day : lastOf (m .records) .day ≤ o .day
   pub name : NameRanges (o .name)
   pub chances : ChanceRanges (o .chances)
+  pub even : (i : ℕ) → i < length (o .chances) → getD (o .chances) i 0 ≤ evenChance
   pub times : TimeRanges (o .times)
   pub limits : FiniteLimits sampleForm (o .times) (o .chances)
   pub fitsSlice : committedOf m + length (recordBytes (recordFor o)) ≤ room

@@ -86,6 +86,10 @@ lastChance (c ∷ d ∷ cs) = lastChance (d ∷ cs)
 unfoldable pub judgeChance : List ℕ → ℕ → ℕ
 judgeChance before c = unless (chanceInRange c && ltb (lastChance before) c) chanceRefusal
 
+-- an even chance, the greatest that append accepts (document 02, 2026-10); a record that stands may have a greater one
+abbrev pub evenChance : ℕ
+evenChance = 500_000
+
 -- the chances' section: 5
 unfoldable pub chanceSection : Section
 chanceSection = record { width = 4; count = outside minChances maxChances chanceRefusal; item = judgeChance }

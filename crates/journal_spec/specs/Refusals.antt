@@ -35,6 +35,10 @@ absentRefusal = 10
 abbrev pub oldFormRefusal : ℕ
 oldFormRefusal = 13
 
+-- 17: an offered chance above 500,000
+abbrev pub evenRefusal : ℕ
+evenRefusal = 17
+
 -- none where the test holds, else n
 unfoldable pub unless : Bool → ℕ → ℕ
 unless good n = cond good 0 n

@@ -5,7 +5,7 @@ use super::alter::{byte_altered, field_altered};
 use super::run::{compare_groups, Group, Run};
 use crate::options::Options;
 use crate::tally::Totals;
-use inputs::journal::{record, record_of_size, Fields, LARGEST, SMALLEST};
+use inputs::journal::{record, record_of_size, Fields, LARGEST, OFFERED, SMALLEST};
 use inputs::journal::{CHANCES, NAME_BYTES, TIMES};
 use inputs::random::Random;
 use reference::model::{append_upto, Answer, Model, Offer};
@@ -299,11 +299,11 @@ fn offer_of(fields: Fields) -> Offer {
 
 fn right_offer(random: &mut Random, last_day: u16) -> Offer {
     let day = last_day.saturating_add(random.below(3) as u16);
-    offer_of(record(random, day))
+    offer_of(record(random, day, OFFERED))
 }
 
 fn offer_of_size(random: &mut Random, day: u16, size: usize) -> Offer {
-    offer_of(record_of_size(random, day, size))
+    offer_of(record_of_size(random, day, size, OFFERED))
 }
 
 /// An offer that is right, that takes exactly the room or one byte more or less, or that breaks a rule or several.

@@ -6,7 +6,7 @@ use borrow.Author.Needs.{needs}
 use denote.Ref.{now}
 use Rattle.journal.specs.Records.{asLast}
 use Rattle.journal.specs.Handed.{offerFrom}
-use Rattle.journal.proofs.RefusalOrder.{chances-few, day-refused, name-refused, chances-refused, times-refused, limits-judged}
+use Rattle.journal.proofs.RefusalOrder.{chances-few, day-refused, name-refused, chances-refused, even-refused, times-refused, limits-judged}
 use Rattle.journal.proofs.offer.offer_refusal.Statement.{statement}
 use Rattle.journal.proofs.offer.offer_refusal.Tie as tie
 
@@ -33,34 +33,49 @@ returns-3 c =
     chances-refused (asLast (a .last)) (offerFrom (a .day) (now (a .name)) (now (a .chances)) (now (a .times))) (now (a .bits)) (omega arith)
     (sym (named .name-refusal .ensures) ∙ omega arith) (chances .result) (omega arith) (chances .ensures)
 
-limits-refusal-requires : tie.Need-limits-refusal-requires
-limits-refusal-requires c κs =
-    let chances = c .before .before .before .before .before .before in
-    let start = chances .before .before .before .before .before .before .before .before .before in
-    (chances-few (now (start .args .chances)) (sym (chances .chances-refusal .ensures) ∙ omega arith), start .pre)
-
 returns-4 : tie.Need-returns-4
 unfolding offerFrom asLast
 returns-4 c =
-    let limits = c .before .before .limits-refusal in
-    let told = c .before .before .before .before .before .g .given in
-    let gathered = c .before .before .before .before .before .before .before in
-    let chances = gathered .before .before in
+    let even = c .before .even-refusal in
+    let chances = c .before .before .before in
     let named = chances .before .before in
     let a = named .before .before .before .before .before .before .before .args in
-    limits-judged (asLast (a .last)) (offerFrom (a .day) (now (a .name)) (now (a .chances)) (now (a .times))) _ (omega arith)
+    even-refused (asLast (a .last)) (offerFrom (a .day) (now (a .name)) (now (a .chances)) (now (a .times))) (now (a .bits)) (omega arith)
     (sym (named .name-refusal .ensures) ∙ omega arith) (sym (chances .chances-refusal .ensures) ∙ omega arith)
-    (gathered .gather .result) (gathered .gather .ensures) (told .0 .0) (told .1) (limits .result) (limits .ensures)
+    (even .result) (omega arith) (even .ensures)
+
+limits-refusal-requires : tie.Need-limits-refusal-requires
+limits-refusal-requires c κs =
+    let chances = c .before .before .before .before .before .before .before .before in
+    let start = chances .before .before .before .before .before .before .before .before .before in
+    (chances-few (now (start .args .chances)) (sym (chances .chances-refusal .ensures) ∙ omega arith), start .pre)
 
 returns-5 : tie.Need-returns-5
 unfolding offerFrom asLast
 returns-5 c =
+    let limits = c .before .before .limits-refusal in
+    let told = c .before .before .before .before .before .g .given in
+    let gathered = c .before .before .before .before .before .before .before in
+    let even = gathered .before .before in
+    let chances = even .before .before in
+    let named = chances .before .before in
+    let a = named .before .before .before .before .before .before .before .args in
+    limits-judged (asLast (a .last)) (offerFrom (a .day) (now (a .name)) (now (a .chances)) (now (a .times))) _ (omega arith)
+    (sym (named .name-refusal .ensures) ∙ omega arith) (sym (chances .chances-refusal .ensures) ∙ omega arith)
+    (sym (even .even-refusal .ensures) ∙ omega arith)
+    (gathered .gather .result) (gathered .gather .ensures) (told .0 .0) (told .1) (limits .result) (limits .ensures)
+
+returns-6 : tie.Need-returns-6
+unfolding offerFrom asLast
+returns-6 c =
     let gathered = c .before .before in
-    let chances = gathered .before .before in
+    let even = gathered .before .before in
+    let chances = even .before .before in
     let named = chances .before .before in
     let a = named .before .before .before .before .before .before .before .args in
     times-refused (asLast (a .last)) (offerFrom (a .day) (now (a .name)) (now (a .chances)) (now (a .times))) (now (a .bits)) (omega arith)
     (sym (named .name-refusal .ensures) ∙ omega arith) (sym (chances .chances-refusal .ensures) ∙ omega arith)
+    (sym (even .even-refusal .ensures) ∙ omega arith)
     (gathered .gather .result) (gathered .gather .ensures) (c .enum-told .given .1)
 
 pub offer-refusal-spec : {M : Type 1} → statement M
@@ -73,9 +88,11 @@ offer-refusal-spec =
     (λ c κs. search needs)
     returns-3
     (λ c κs. search needs)
+    returns-4
+    (λ c κs. search needs)
     (λ c. search needs)
     limits-refusal-requires
     (λ c. search needs)
     (λ c. search needs)
-    returns-4
-    returns-5)
+    returns-5
+    returns-6)
