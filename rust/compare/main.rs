@@ -6,6 +6,7 @@ mod journal;
 mod limit;
 mod logarithms;
 mod options;
+mod product;
 mod quantile;
 mod root;
 mod tally;
@@ -31,6 +32,7 @@ fn main() -> ExitCode {
     let mut totals = Totals::default();
     if options.runs("numbers") {
         functions::compare(&options, &mut totals);
+        product::compare(&options, &mut totals);
         logarithms::compare(&mut totals);
         root::compare(&options, &mut totals);
         quantile::compare(&options, &mut totals);

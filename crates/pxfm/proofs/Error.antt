@@ -19,7 +19,7 @@ use Rattle.pxfm.proofs.Exact.{round-few}
 
 -- ---- rounding to a multiple of 2 ^ k
 
-closest-near : (m b : ℕ) → 0 < b → (2 * (b * closest m b) ≤ 2 * m + b) × (2 * m ≤ 2 * (b * closest m b) + b)
+pub closest-near : (m b : ℕ) → 0 < b → (2 * (b * closest m b) ≤ 2 * m + b) × (2 * m ≤ 2 * (b * closest m b) + b)
 closest-near m b B =
     go (compare (m % b * 2) b) (leb→le (m % b * 2) b) (nleb→lt (m % b * 2) b) (eqb→eq (m % b * 2) b) (div-add-mod' m b) (mod-lt m B)
   where
@@ -54,7 +54,7 @@ module _ (f : Format) (s : Bool) (num den m a k j : ℕ) (D : 0 < den) (A : suc 
       ∙ ap (λ (x : ℕ). units f s x (k + j))
       (closest-same (num * 2 ^ low f) (den * 2 ^ (k + j)) m (2 ^ k) (mul-pos D (pow-pos (k + j))) (pow-pos k) h)
 
-  closest-value : prec f + (k + j) < low f + suc (emax f)
+  pub closest-value : prec f + (k + j) < low f + suc (emax f)
       → HasValue (round f s num den) s (2 ^ k * closest m (2 ^ k) * 2 ^ j) (2 ^ low f)
   closest-value r =
       let c = closest m (2 ^ k) in

@@ -4,6 +4,7 @@ pub mod Calls
 mod Paired
 pub mod Nan
 pub mod Value
+pub mod Product
 pub mod Exact
 pub mod Error
 pub mod Units

@@ -7,10 +7,10 @@ use Prim.Native.Nat.{ℕ, _+_, _*_, _^_, _≤_, _<_}
 use native.Mathlib.Nat.{le-of-eq, le-trans, lt-of-not-le, not-le-of-lt, zero-mul, mul-pos, mul-right-comm}
 use native.Mathlib.Nat.{mul-le-mul-right, le-of-mul-le-mul-right, eq-of-mul-eq-mul-right, eq-or-lt-of-le}
 use native.Mathlib.Omega.{arith}
-use lib.Dec.{T, T-not, ltb, eqb, ltb→lt, lt→ltb, nltb→le}
+use lib.Dec.{T, T-not, ltb, eqb, ltb→lt, lt→ltb, nltb→le, eqb→eq}
 use lib.Pow.{pow-pos}
 use lib.Ieee.{Float, nan, inf, fin, binary64, up, down, below, level, lt, le, eq}
-use lib.Ieee.Fits.{down-pos, eq→eqb, and-i}
+use lib.Ieee.Fits.{down-pos, eq→eqb, and-i, and-l, and-r}
 use Rattle.pxfm.proofs.Value.{Gap, Val}
 
 scaled-lt : (x y l a b d : ℕ) → 0 < d → x * l ≡ a * d → y * l ≡ b * d → a < b → x < y
@@ -48,6 +48,24 @@ module _ (x y l a b d p n q m : ℕ) (L : 0 < l) (D : 0 < d) (h : x * l ≡ a * 
   level-of-gaps true false g g' r =
       and-i (eqb x y) (eqb x 0) (eq→eqb (size-same (omega arith))) (eq→eqb (size-zero (omega arith)))
 
+  sizes-same : x ≡ y → a ≡ b
+  sizes-same e = eq-of-mul-eq-mul-right d D a b (sym h ∙ ap (λ (z : ℕ). z * l) e ∙ k)
+
+  size-none : x ≡ 0 → a ≡ 0
+  size-none e = eq-of-mul-eq-mul-right d D a 0 (sym h ∙ ap (λ (z : ℕ). z * l) e ∙ zero-mul l ∙ sym (zero-mul d))
+
+  gaps-of-level : (s t : Bool) → Gap s a p n → Gap t b q m → T (level s x t y) → p + m ≡ q + n
+  gaps-of-level false false g g' r = let e = sizes-same (eqb→eq x y (and-l (eqb x y) true r)) in omega arith
+  gaps-of-level true true g g' r = let e = sizes-same (eqb→eq x y (and-l (eqb x y) true r)) in omega arith
+  gaps-of-level false true g g' r =
+      let e = sizes-same (eqb→eq x y (and-l (eqb x y) (eqb x 0) r)) in
+      let z = size-none (eqb→eq x 0 (and-r (eqb x y) (eqb x 0) r)) in
+      omega arith
+  gaps-of-level true false g g' r =
+      let e = sizes-same (eqb→eq x y (and-l (eqb x y) (eqb x 0) r)) in
+      let z = size-none (eqb→eq x 0 (and-r (eqb x y) (eqb x 0) r)) in
+      omega arith
+
 -- The size x / e over the denominator e * d, and the size y / d.
 over-first : (x l a u e d : ℕ) → x * l ≡ a * u * e → x * d * l ≡ a * (u * (e * d))
 over-first x l a u e d h =
@@ -64,6 +82,7 @@ record Compared (x y : Float) (p n q m : ℕ) : Type 0 where
   lt-of : p + m < q + n → T (lt x y)
   of-lt : T (lt x y) → p + m < q + n
   eq-of : p + m ≡ q + n → T (eq x y)
+  of-eq : T (eq x y) → p + m ≡ q + n
 
 compared : {x y : Float} {p n q m j : ℕ} → Val binary64 x p n j → Val binary64 y q m j → Compared x y p n q m
 unfolding lt eq
@@ -85,7 +104,12 @@ compared {x = fin s a e} {y = fin t b d} {p = p} {n = n} {q = q} {m = m} {j = j}
       lt-of = below-of-gaps x' y' l (v .mag) (w .mag) c p n q m (pow-pos 1074) C h k s t g g';
       of-lt = gaps-of-below x' y' l (v .mag) (w .mag) c p n q m (pow-pos 1074) C h k s t g g';
       eq-of = level-of-gaps x' y' l (v .mag) (w .mag) c p n q m (pow-pos 1074) C h k s t g g';
+      of-eq = gaps-of-level x' y' l (v .mag) (w .mag) c p n q m (pow-pos 1074) C h k s t g g';
     }
+
+pub either : (a b : Bool) → T (a || b) → T a ⊎ T b
+either true b h = inl tt
+either false b h = inr h
 
 or-left : (a b : Bool) → T a → T (a || b)
 or-left true b t = tt
@@ -104,6 +128,17 @@ module _ {x y : Float} {p n q m j : ℕ} (v : Val binary64 x p n j) (w : Val bin
 
   pub eq-of-val : p + m ≡ q + n → T (eq x y)
   eq-of-val h = compared v w .eq-of h
+
+  pub val-of-eq : T (eq x y) → p + m ≡ q + n
+  val-of-eq h = compared v w .of-eq h
+
+  pub val-of-le : T (le x y) → p + m ≤ q + n
+  unfolding le
+  val-of-le h = go (either (lt x y) (eq x y) h)
+    where
+      go : T (lt x y) ⊎ T (eq x y) → p + m ≤ q + n
+      go (inl l) = let l' = val-of-lt l in omega arith
+      go (inr e) = let e' = val-of-eq e in omega arith
 
   pub le-of-val : p + m ≤ q + n → T (le x y)
   unfolding le

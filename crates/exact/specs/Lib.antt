@@ -1,0 +1,3 @@
+-- What the laws of this crate say, in the order in which they build on each other.
+pub mod Scaled
+pub mod Dekker
