@@ -1,5 +1,6 @@
 -- The laws behind the root's proofs, one idea to a file, in the order in which they build on each other, and worked cases.
--- `Nearest` has the theorem that the root is the nearest double, `Negative` that no negative one is nearer.
+-- `RootSteps` has the theorem that the standard's steps make the root, `Nearest` that the root is the nearest double, `Negative` that no
+-- negative one is nearer.
 pub mod Digits
 pub mod Patterns
 pub mod Squares
@@ -9,6 +10,7 @@ pub mod Nans
 pub mod OneRounding
 pub mod Scaling
 pub mod Special
+pub mod RootSteps
 pub mod Midpoints
 pub mod Counted
 pub mod Nearest

@@ -173,7 +173,7 @@ sticky-one r h = go (eqb r 0) (eqb→eq r 0)
     go false e = omega arith
 
 -- an odd number is no root of an even one
-odd-square : (s m : ℕ) → s * s ≡ m → s % 2 ≡ 1 → m % 2 ≡ 0 → ⊥
+pub odd-square : (s m : ℕ) → s * s ≡ m → s % 2 ≡ 1 → m % 2 ≡ 0 → ⊥
 odd-square s m q o e =
     let w : s ≡ 2 * (s / 2) + 1 = omega arith in
     let x : (2 * (s / 2) + 1) * (2 * (s / 2) + 1) ≡ m = ap (λ (y : ℕ). y * y) (sym w) ∙ q in

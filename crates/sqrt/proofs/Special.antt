@@ -34,6 +34,13 @@ lt-zero m e =
     let b = some-left m e in
     lt-ltb (0 * 1 * down e) (suc m * up e * 1) (omega arith)
 
+pub positive-above : (x : Float) → T (positive x) → lt (ofBits binary64 0) x ≡ true
+positive-above nan p = absurd p
+positive-above (inf s) p = absurd p
+positive-above (fin true m e) p = absurd p
+positive-above (fin false zero e) p = absurd p
+positive-above (fin false (suc m) e) p = lt-zero m e
+
 -- an x above 0 is a positive finite value, or the infinity
 pub above-zero : (x : Float) → lt (ofBits binary64 0) x ≡ true → T (positive x) ⊎ (x ≡ inf false)
 unfolding lt ofBits
@@ -193,3 +200,10 @@ module _ (x : Float) (F : T (fits binary64 x)) (above : lt (ofBits binary64 0) x
       go : T (positive x) ⊎ (x ≡ inf false) → sqrtOf x ≡ roundSqrt binary64 (radicand binary64 (ofBits binary64 (toBits binary64 x)))
       go (inl p) = positive-root x p ∙ ap (λ (y : Float). roundSqrt binary64 (radicand binary64 y)) (sym back)
       go (inr e) = let k = infinity-bits e in absurd (omega arith)
+
+-- a positive finite value has a pattern below the infinity's
+pub positive-below : (x : Float) → T (fits binary64 x) → T (positive x) → toBits binary64 x < 2047 * 2 ^ 52
+positive-below x f p =
+    lt-of-not-le
+    (λ (h : 2047 * 2 ^ 52 ≤ toBits binary64 x).
+    pattern-above (toBits binary64 x) h (toBits-lt binary64 x f) (subst (λ (y : Float). T (positive y)) (sym (ofBits-toBits binary64 x f)) p))

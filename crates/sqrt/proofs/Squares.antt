@@ -3,13 +3,14 @@
 use mathlib.Core.Path.{_≡_, ap, _∙_, subst}
 use mathlib.Core.Bool.{Bool, true, false, not, cond}
 use Prim.Native.Nat.{ℕ, zero, suc, _+_, _*_, _/_, _^_, _≤_, _<_}
-use native.Mathlib.Nat.{lt-of-lt-of-le, lt-of-le-of-lt, lt-of-not-le, not-le-of-lt, mul-add, add-mul, mul-comm, mul-le-mul, mul-mul-mul-comm, pow-suc}
+use native.Mathlib.Nat.{le-of-lt, lt-of-lt-of-le, lt-of-le-of-lt, lt-of-not-le, not-le-of-lt, mul-add, add-mul, mul-comm, mul-le-mul, mul-mul-mul-comm, pow-suc}
 use native.Mathlib.Omega.{arith}
 use lib.Dec.{T, leb, leb→le, nleb→lt}
 use lib.Ieee.{size}
 use lib.Ieee.Digits.{size-lt}
 use Rattle.sqrt.specs.Sqrt.{IsRoot, isqrtTo, isqrt}
 use Rattle.sqrt.specs.Steps.{IsRest, IsWhole}
+use Rattle.sqrt.proofs.Digits.{size-above}
 
 -- ---- squares
 
@@ -43,9 +44,14 @@ rest-ge b n s r h p = root-le b s n h (rest-root n s r p .high)
 -- the whole root of q * 2 ^ 54 has 54 binary digits
 pub whole-of-rest : (q s r : ℕ) → 2 ^ 52 ≤ q → q < 2 ^ 54 → IsRest (q * 2 ^ 54) s r → IsWhole q s r
 whole-of-rest q s r lo hi p =
+    let root = rest-root (q * 2 ^ 54) s r p in
+    let s-ge = rest-ge (2 ^ 53) (q * 2 ^ 54) s r (omega arith) p in
     record {
+      digits = le-of-lt (size-above 53 s s-ge);
+      square = root .low;
+      successor = root .high;
       rest = p;
-      s-ge = rest-ge (2 ^ 53) (q * 2 ^ 54) s r (omega arith) p;
+      s-ge = s-ge;
       s-lt = rest-lt (2 ^ 54) (q * 2 ^ 54) s r (omega arith) p;
     }
 

@@ -1,7 +1,9 @@
 -- What the steps of the root promise each other: the scaled significand, and its whole root with the remainder. Definitions only.
 -- The code takes the root of q * 2 ^ 54 for a q of 53 or 54 binary digits, and leaves a power of four to the rounding.
-use Prim.Native.Nat.{ℕ, _+_, _*_, _^_, _≤_, _<_}
+use Prim.Native.Nat.{ℕ, _+_, _*_, _%_, _^_, _≤_, _<_}
 use mathlib.Core.Path.{_≡_}
+use lib.Ieee.{Float, binary64, size}
+use Rattle.sqrt.specs.Sqrt.{radicand, roundRoot, sqrtOf}
 
 -- n is q * 2 ^ 54 * 4 ^ z, with a q of 53 or 54 binary digits
 pub record IsScaled (n q z : ℕ) : Type 0 where
@@ -22,8 +24,24 @@ pub record IsFirst (q g t : ℕ) : Type 0 where
   pub g-lt : g < 2 ^ 32
   pub t-lt : t < 2 ^ 36
 
--- the middle step: s is the whole root of the scaled significand q * 2 ^ 54, r the remainder, and s has 54 binary digits
+-- The middle step: s is the whole root of the scaled significand q * 2 ^ 54, and r the remainder. Its square is at most that number, and its
+-- successor's is above; it has 53 binary digits or more, in fact 54, one more than a double keeps.
 pub record IsWhole (q s r : ℕ) : Type 0 where
+  pub digits : 53 ≤ size s
+  pub square : s * s ≤ q * 2 ^ 54
+  pub successor : q * 2 ^ 54 < (s + 1) * (s + 1)
   pub rest : IsRest (q * 2 ^ 54) s r
   pub s-ge : 2 ^ 53 ≤ s
   pub s-lt : s < 2 ^ 54
+
+-- The root of x, above zero and finite, in the standard's sequence (request 2026-02): x scaled, its whole root with the remainder, and one rounding
+-- from these two: `roundRoot` is one `round`, and of the remainder it takes only whether it is 0.
+pub record RootSteps (x : Float) : Type 0 where
+  pub q : ℕ
+  pub z : ℕ
+  pub s : ℕ
+  pub r : ℕ
+  pub scaled : IsScaled (radicand binary64 x) q z
+  pub whole : IsWhole q s r
+  pub once : sqrtOf x ≡ roundRoot binary64 s r z
+  pub no-tie : s % 2 ≡ 1 → 0 < r

@@ -1,5 +1,6 @@
 // The square root of a double, correctly rounded: document 01's Root. The body goes as IEEE 754
 // does: special operands, the exact root of the scaled significand with its remainder, one rounding.
+// docs/DEFINITION.md, section 4, sets the standard's clauses beside these lines and their contracts.
 ghost use mathlib.Core.Path.{_≡_};
 ghost use mathlib.Core.Bool.{false};
 ghost use lib.Ieee.{binary64, ofBits, toBits, lt};
@@ -16,7 +17,7 @@ mod scale;
 pub fn sqrt(x: f64) -> f64
     ensures { λ r. ⌜ r ≡ sqrtOf x ⌝ }
 {
-    // special operands
+    // 1. Special operands: a zero is its own root, below zero and at a NaN there is none, and the infinity is its own.
     if !(0.0 < x) {
         return not_positive(x);
     }
@@ -24,10 +25,10 @@ pub fn sqrt(x: f64) -> f64
     if b >= bits::INFINITY {
         return x;
     }
-    // the exact root
+    // 2. The exact root: x scaled to a whole number, its whole root, and the remainder.
     let n = scale::scaled(b);
     let w = root::whole_root(n.q, guess::inverse_root(b));
-    // one rounding
+    // 3. One rounding, from the whole root and its remainder.
     rounding::rounded(w, n.z)
 }
 

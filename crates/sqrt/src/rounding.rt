@@ -6,9 +6,11 @@ ghost use lib.Ieee.{binary64};
 ghost use Rattle.sqrt.specs.Sqrt.{roundRoot};
 use crate::root::Whole;
 
-// The root times 2^z smallest doubles, rounded: half of its whole part, to nearest, is the digits of
-// the result, and z + 1 goes before them. There is no tie to look at the remainder for: where the
-// last digit is 1 some remainder is left, since the number under the root is even.
+// The root times 2^z smallest doubles, rounded once. The whole root has 54 digits, so the root lies
+// beyond the midpoint of two doubles where the last digit is 1, and before it where that is 0: half of
+// the whole root, to nearest, is the digits of the result, and z + 1 goes before them. The remainder
+// would only be looked at in a tie, a last digit of 1 with nothing left, and there is none: the number
+// under the root is even (`no-tie`).
 pub(crate) fn rounded(w: Whole, z: u64) -> f64
     requires { ⌜ (2 ^ 53 ≤ w .root) × (w .root < 2 ^ 54) × (z < 2000) ⌝ }
     requires { ⌜ (w .root * w .root + w .rest) % 2 ≡ 0 ⌝ }
