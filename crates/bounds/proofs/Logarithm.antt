@@ -1,0 +1,86 @@
+-- Both logarithms of an argument from 2 ^ -20 up to 1 / 2, estimated by one interval for every bin and every exponent. Assumes nothing.
+use mathlib.Core.Bool.{true, _||_}
+use Prim.Native.Nat.{ℕ, _-_, _^_, _≤_, _<_}
+use lib.Dec.{T}
+use lib.Ieee.{Float, binary64, ofBits, toBits, neg, le}
+use Rattle.pxfm.specs.declared.double_double.DoubleDouble.{DoubleDouble}
+use Rattle.pxfm.specs.DoubleDouble.{one, fromBitPair, log2Dd}
+use Rattle.pxfm.specs.Common.{ddFmla}
+use Rattle.log_tables.specs.PowTables.{powInverse}
+use Rattle.log_tables.specs.Rows.{entryAt}
+use Rattle.pxfm.specs.PowExec.{half, p1, logPoly1}
+use Rattle.pxfm.specs.FastLogDd.{fastLogDdInv, indexOf, reducedOf, exponentOf, scaledOf, partsOf, fastLogDToDd, logLo, fastLogDd}
+use Rattle.pxfm.proofs.Bins.{significand-indexed}
+use Rattle.bounds.specs.Interval.{In}
+use Rattle.bounds.specs.Ranges.{shareB}
+use Rattle.bounds.proofs.Arithmetic.{within}
+use Rattle.bounds.proofs.Operations.{widen}
+use Rattle.bounds.proofs.Estimate.{Est, EstP, given, pairE, point, constE, sumE, timesE, overE, negE, exactMultE, exactAddE, f64AddE, mulF64AddE, fmaE}
+use Rattle.bounds.proofs.Pairs.{by-test}
+use Rattle.bounds.proofs.Table.{z-in, exponent-in, low-in, high-in}
+
+-- ---- the polynomial
+
+unfoldable pub logPolyE : {z : Float} → Est z → EstP (logPoly1 z)
+unfolding logPoly1 p1 ofBits exactMultE fmaE timesE negE point
+logPolyE z =
+    let w = exactMultE z z in
+    let t = fmaE (point (entryAt p1 5)) z (point (entryAt p1 4)) in
+    let u = fmaE (point (entryAt p1 3)) z (point (entryAt p1 2)) in
+    let v = fmaE (point (entryAt p1 1)) z (point (entryAt p1 0)) in
+    let u2 = fmaE t (w .hi) u in
+    let v2 = fmaE u2 (w .hi) v in
+    let u3 = timesE v2 (w .hi) in
+    pairE (fmaE u3 z (timesE (negE (point half)) (w .lo))) (timesE (negE (point half)) (w .hi))
+
+-- ---- the logarithm of a double
+
+-- The significand and the exponent of x: it is normal, from 2 ^ -20 up to 1 / 2.
+pub record Reached (x : Float) : Type 0 where
+  pub low : 2 ^ 52 ≤ scaledOf (toBits binary64 x) .m
+  pub high : scaledOf (toBits binary64 x) .m < 2 ^ 53
+  pub from : 1054 ≤ scaledOf (toBits binary64 x) .e
+  pub to : scaledOf (toBits binary64 x) .e ≤ 1072
+
+module _ (x : Float) (r : Reached x) where
+  abbrev pub m : ℕ
+  m = scaledOf (toBits binary64 x) .m
+
+  abbrev pub zE : Est (ddFmla (entryAt powInverse (indexOf m)) (reducedOf m) (neg one))
+  zE = given (z-in m (r .low) (r .high))
+
+  abbrev pub wE : Est (exponentOf m (scaledOf (toBits binary64 x) .e))
+  wE = given (exponent-in m (scaledOf (toBits binary64 x) .e) (r .from) (r .to))
+
+  abbrev pub lE : EstP (fastLogDdInv (indexOf m))
+  lE =
+      let i = significand-indexed m (r .low) (r .high) .index-below in
+      pairE (given (low-in (indexOf m) i)) (given (high-in (indexOf m) i))
+
+  unfoldable pub partsE : EstP (partsOf x .v)
+  unfolding partsOf mulF64AddE constE f64AddE log2Dd fromBitPair ofBits
+  partsE = let d = mulF64AddE (constE log2Dd) wE lE in f64AddE (d .hi) (pairE (d .lo) zE)
+
+  unfoldable pub logDToDdE : EstP (fastLogDToDd x)
+  unfolding fastLogDToDd partsOf partsE logPolyE sumE f64AddE exactAddE
+  logDToDdE =
+      let v = partsE in
+      let p = logPolyE zE in
+      let w = f64AddE (v .hi) (pairE (sumE (v .lo) (p .lo)) (p .hi)) in
+      exactAddE (w .hi) (w .lo)
+
+-- ---- the logarithm of a pair
+
+pub share-in : (x : DoubleDouble) (p : EstP x) → T (within (overE (p .lo) (p .hi) .bound) shareB) → In (logLo x) shareB
+unfolding logLo point ofBits
+share-in x p t =
+    let four = ofBits binary64 0x4010_0000_0000_0000 in
+    by-test shareB (le (x .hi) (ofBits binary64 0x7fd0_0000_0000_0000) || (le four (x .lo) || le (x .lo) (neg four)))
+    (λ u. widen shareB t (overE (p .lo) (p .hi) .holds)) (λ u. widen shareB tt (point (ofBits binary64 0) .holds))
+
+unfoldable pub logDdE : (x : DoubleDouble) (r : Reached (x .hi)) → In (logLo x) shareB → EstP (fastLogDd x)
+unfolding fastLogDd partsOf partsE logPolyE sumE f64AddE
+logDdE x r h =
+    let v = partsE (x .hi) r in
+    let p = logPolyE (zE (x .hi) r) in
+    f64AddE (v .hi) (pairE (sumE (sumE (v .lo) (p .lo)) (given h)) (p .hi))

@@ -1,0 +1,66 @@
+-- Request 2026-06: every allowed set of times and every allowed chance give a finite limit, under both forms; so refusal 8 is never given.
+-- Assumes nothing.
+use mathlib.Core.Path.{_≡_}
+use mathlib.Core.Bool.{true}
+use mathlib.Core.List.{List}
+use Prim.Native.Nat.{ℕ, _≤_}
+use native.Mathlib.Omega.{arith}
+use lib.ListN.{length}
+use lib.Ieee.{binary64, div}
+use lib.Ieee.Bits.{is-true}
+use lib.Ieee.Scale.{finite}
+use Rattle.limit.specs.declared.sums.Sums.{Sums}
+use Rattle.limit.specs.Times.{timesInRange, sumOf, squaresOf}
+use Rattle.limit.specs.Sums.{sumsOf, isPlausible}
+use Rattle.limit.specs.Formula.{double, halfMillion, quantileOf, formulaOf}
+use Rattle.limit.specs.Answer.{limited}
+use Rattle.limit.specs.Limit.{formKnown, chanceInRange, finiteOrRefused, judge, limitOf, limitOfSums}
+use Rattle.limit.proofs.InRange as range
+use Rattle.limit.proofs.Plausible.{times-plausible}
+use Rattle.bounds.specs.Interval.{In}
+use Rattle.bounds.specs.Ranges.{argumentB, quantileB}
+use Rattle.bounds.proofs.Operations.{widen, finite-of}
+use Rattle.bounds.proofs.Estimate.{overE}
+use Rattle.bounds.proofs.Whole.{wholeE}
+use Rattle.bounds.proofs.Quantile.{quantile-in}
+use Rattle.finite.specs.Finite.{FiniteUnder, FiniteLimits}
+use Rattle.finite.proofs.Formula.{form-within}
+
+-- ---- the quantile of a chance
+
+argument-in : (c : ℕ) → 1 ≤ c → c ≤ 999999 → In (div binary64 (double c) (double halfMillion)) argumentB
+unfolding wholeE overE
+argument-in c a b =
+    widen argumentB tt (overE (wholeE c 1 999999 a b tt) (wholeE halfMillion 500000 500000 (omega arith) (omega arith) tt) .holds)
+
+pub chance-quantile : (c : ℕ) → chanceInRange c ≡ true → In (quantileOf c) quantileB
+unfolding quantileOf chanceInRange
+chance-quantile c h =
+    quantile-in (div binary64 (double c) (double halfMillion)) (argument-in c (range.at-least 1 999999 c h) (range.at-most 1 999999 c h))
+
+-- ---- the sums of allowed times
+
+module _ (form : ℕ) (sums : Sums) (c : ℕ) (p : isPlausible sums ≡ true) (h : chanceInRange c ≡ true) where
+  pub finite-under : FiniteUnder form (sums .count) (sums .sum) (sums .squares) c
+  unfolding formulaOf
+  finite-under =
+      let w = form-within sums p form in
+      let q = chance-quantile c h in
+      record { mean = w .mean-in; spread = w .spread-in; quantile = finite-of q tt; limit = w .ends (quantileOf c) q .above }
+
+  pub sums-limit-given : formKnown form ≡ true → limitOfSums form sums c ≡ limited (formulaOf form (sums .count) (sums .sum) (sums .squares) c)
+  unfolding limitOfSums judge finiteOrRefused
+  sums-limit-given k = rw (k, h, p, is-true (finite (formulaOf form (sums .count) (sums .sum) (sums .squares) c)) (finite-under .limit))
+
+-- ---- the times
+
+-- For both forms, every list of 2 to 128 times from 1 to 1,048,575 and every chance from 1 to 999,999.
+pub finite-limits : (form : ℕ) (ts : List ℕ) (c : ℕ) → formKnown form ≡ true → timesInRange ts ≡ true → chanceInRange c ≡ true
+    → FiniteLimits form ts c
+unfolding sumsOf limitOf judge finiteOrRefused
+finite-limits form ts c k r h =
+    let f = finite-under form (sumsOf ts) c (times-plausible ts r) h in
+    record {
+      under = f;
+      given = rw (k, h, r, is-true (finite (formulaOf form (length ts) (sumOf ts) (squaresOf ts) c)) (f .limit));
+    }

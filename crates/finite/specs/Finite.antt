@@ -1,0 +1,29 @@
+-- Request 2026-06, said of every allowed set of times and every allowed chance: mean, spread, quantile and limit are finite. Definitions only.
+use Prim.Native.Nat.{ℕ}
+use mathlib.Core.Path.{_≡_}
+use mathlib.Core.List.{List}
+use lib.Dec.{T}
+use lib.ListN.{length}
+use lib.Ieee.{Float, binary64, sub, mul}
+use lib.Ieee.Scale.{finite}
+use Rattle.limit.specs.Times.{sumOf, squaresOf}
+use Rattle.limit.specs.Formula.{rootTwo, meanOf, spreadOf, quantileOf, limitFrom, formulaOf}
+use Rattle.limit.specs.Answer.{limited}
+use Rattle.limit.specs.Limit.{limitOf}
+
+-- under a form, for n times with sum s and sum of squares q, at the chance c
+pub record FiniteUnder (form n s q c : ℕ) : Type 0 where
+  pub mean : T (finite (meanOf n s))
+  pub spread : T (finite (spreadOf form n s q))
+  pub quantile : T (finite (quantileOf c))
+  pub limit : T (finite (formulaOf form n s q c))
+
+-- of a list of times: the four are finite, and the limit operation gives the limit, so that refusal 8 is never met
+pub record FiniteLimits (form : ℕ) (ts : List ℕ) (c : ℕ) : Type 0 where
+  pub under : FiniteUnder form (length ts) (sumOf ts) (squaresOf ts) c
+  pub given : limitOf form ts c ≡ limited (formulaOf form (length ts) (sumOf ts) (squaresOf ts) c)
+
+-- mean ± (spread × 1.4142135623730951) × e are both finite
+pub record Ends (mean spread e : Float) : Type 0 where
+  pub above : T (finite (limitFrom mean spread e))
+  pub below : T (finite (sub binary64 mean (mul binary64 (mul binary64 spread rootTwo) e)))
