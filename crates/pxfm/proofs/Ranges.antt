@@ -44,7 +44,7 @@ three-quarters-val i j e = power-val threeQuarters 3 i j 1072 (refl, refl) e
 abbrev pub tenthUnits : ℕ
 tenthUnits = 7205759403792794
 
-tenth-val : (i j : ℕ) → 1018 ≡ i + j → Val binary64 tenth (tenthUnits * 2 ^ i) 0 j
+pub tenth-val : (i j : ℕ) → 1018 ≡ i + j → Val binary64 tenth (tenthUnits * 2 ^ i) 0 j
 unfolding ofBits
 tenth-val i j e = power-val tenth tenthUnits i j 1018 (refl, refl) e
 

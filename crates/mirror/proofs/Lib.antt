@@ -1,0 +1,7 @@
+-- The laws, one idea to a file, in the order in which they build on each other. The request is met in `Mirror`: `mirror`, and for bit
+-- patterns in `Patterns`: `mirror-patterns`.
+pub mod Finer
+pub mod Sign
+pub mod Mirror
+pub mod Patterns
+pub mod Cases
