@@ -2,14 +2,13 @@
 -- starts with the records that stand and the bytes behind them. Assumes nothing.
 use mathlib.Core.Path.{_≡_, refl, sym, ap, _∙_}
 use Prim.Native.Nat.{ℕ, _+_}
-use mathlib.Core.List.{List, _++_}
+use mathlib.Core.List.{List}
 use native.Mathlib.Omega.{arith}
 use lib.ListN.{length, take, drop, length-append}
 use lib.Seq.{drop-at, length-take-le}
 use Rattle.journal_spec.specs.Bytes.{AreBytes}
-use Rattle.journal_spec.specs.Record.{Record, recordsBytes}
+use Rattle.journal_spec.specs.Record.{recordsBytes}
 use Rattle.journal_spec.specs.Scan.{Placed, recordsOf, standing, contentsOf}
-use Rattle.journal_spec.specs.Request.{Journal}
 use Rattle.journal_spec.specs.Calls.{Call, operations}
 use Rattle.journal_spec.specs.Model.{Model, committedOf}
 use Rattle.journal_spec.specs.Demand.{Demand3From}

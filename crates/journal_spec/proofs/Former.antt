@@ -16,7 +16,7 @@ use Rattle.limit.specs.Formula.{plainForm, sampleForm}
 use Rattle.limit.specs.Answer.{formRefusal}
 use Rattle.limit.specs.Limit.{formKnown}
 use Rattle.limit.proofs.InRange as R
-use Rattle.journal_spec.specs.Bytes.{bytesOf, valueOf, numberAt, joined}
+use Rattle.journal_spec.specs.Bytes.{valueOf, numberAt, joined}
 use Rattle.journal_spec.specs.Refusals.{unless, firstOf}
 use Rattle.journal_spec.specs.Reader.{Reader, done, field, Found, found, fault, short, run}
 use Rattle.journal_spec.specs.Section.{section}
@@ -26,7 +26,6 @@ use Rattle.journal_spec.specs.Stages.{dayStage, nameStage, chanceStage, 
 use Rattle.journal_spec.specs.Scan.{maxLength, Placed, recordsOf, Contents, standing, faulty, contentsFrom, contentsOf}
 use Rattle.journal_spec.specs.Ranges.{AllRanges}
 use Rattle.journal_spec.specs.Former.{formerForm, formerReader, formerFrom, formerContents, StopsAtSample}
-use Rattle.journal_spec.proofs.Numbers.{length-bytes, value-bytes}
 use Rattle.journal_spec.proofs.Judging.{unless-none}
 use Rattle.journal_spec.proofs.Reading.{field-short, field-good, field-fault, field-cases, field-found, by-order, then-found, run-left}
 use Rattle.journal_spec.proofs.Records.{by-stages}

@@ -3,11 +3,10 @@
 use mathlib.Core.Path.{_≡_, refl}
 use Prim.Native.Nat.{ℕ, _≤_, _<_}
 use mathlib.Core.List.{List}
-use mathlib.Core.Bool.{Bool, true, false, cond}
+use mathlib.Core.Bool.{true, false}
 use lib.ListN.{length}
-use lib.Dec.{ltb}
 use borrow.Author.Tests.{lt-ltb, le-ltb}
-use Rattle.journal_spec.specs.Read.{flat, few, normal, fewTimes, areEqual, markFrom, markOf}
+use Rattle.journal_spec.specs.Read.{flat, few, fewTimes, areEqual, markFrom, markOf}
 use Rattle.journal_spec.specs.Former.{formerMark}
 
 module _ (times : List ℕ) where

@@ -1,4 +1,4 @@
--- What D is divided by, under each form: n × n is at least n × (n - 1), which is not 0 for two times or more, and both are small.
+-- What D is divided by under each form, and that both divisors are small.
 -- Assumes nothing.
 use mathlib.Core.Path.{_≡_, refl}
 use mathlib.Core.Bool.{Bool, true, false, cond}
@@ -6,7 +6,7 @@ use Prim.Native.Nat.{ℕ, _-_, _*_, _≤_}
 use native.Mathlib.Nat.{mul-le-mul}
 use native.Mathlib.Omega.{arith}
 use lib.Dec.{eqb}
-use Rattle.limit.specs.Times.{minCount, maxCount}
+use Rattle.limit.specs.Times.{maxCount}
 use Rattle.limit.specs.Formula.{plainForm, sampleForm, divisorOf}
 
 either : (b : Bool) (x y z : ℕ) → x ≤ z → y ≤ z → cond b x y ≤ z

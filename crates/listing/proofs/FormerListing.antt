@@ -1,6 +1,6 @@
 -- The listing by the reader from before form 2 (document 02, 2026-04): a journal that it reads lists as before, and one in which it meets a
 -- form 2 lists as `damaged 2` and the place alone, so that it shows no limit. Assumes nothing.
-use mathlib.Core.Path.{_≡_, refl, ap}
+use mathlib.Core.Path.{_≡_, refl}
 use Prim.Native.Nat.{ℕ}
 use mathlib.Core.List.{List}
 use lib.ListN.{length}
