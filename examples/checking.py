@@ -97,7 +97,7 @@ def closed_streams(folder, command, status):
     base = Leaf(day=5)
     data = base.bytes()
     kept = {"missing": b"", "whole": data, "torn": data}
-    kinds = {"missing": None, "whole": data, "torn": data + data[:20], "damaged": b"\x02\x00" + data}
+    kinds = {"missing": None, "whole": data, "torn": data + data[:20], "damaged": b"\x03\x00" + data}
     offers = {"accepted": base, "declined": Leaf(day=5, times=(7,))}
     sets = [closed for size in range(4) for closed in itertools.combinations((0, 1, 2), size)]
     for closed, (kind, before), (fate, leaf) in itertools.product(sets, kinds.items(), offers.items()):
