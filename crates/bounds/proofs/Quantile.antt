@@ -89,7 +89,9 @@ unfolding fErfcinv point ofBits
 quantile-in x h =
     let v = counted (2 ^ 1054) (2 ^ 1075 - 2 ^ 1055) (pow-pos 1054) h in
     let u : BelowTwo x = record { a = v .n; val = v .val; high = lt-of-le-of-lt (v .high) (lit< tt) } in
-    let not-zero = refuted (eq x zero) (λ e. some (2 ^ 1054) (v .n) (pow-pos 1054) (v .low) (val-of-eq (val-whole (v .val)) (zero-val 0) (passes (eq x zero) e))) in
+    let not-zero =
+    refuted (eq x zero)
+    (λ e. some (2 ^ 1054) (v .n) (pow-pos 1054) (v .low) (val-of-eq (val-whole (v .val)) (zero-val 0) (passes (eq x zero) e))) in
     let not-two = refuted (eq x two) (λ e. less (v .n) (2 ^ 1075) (u .high) (val-of-eq (val-whole (v .val)) (two-val 1075 0 refl) (passes (eq x two) e))) in
     rw (not-zero, not-two, within-inside x u)
     (by-test quantileB (eq x one) (λ t. widen quantileB tt (point zero .holds))
