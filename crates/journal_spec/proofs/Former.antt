@@ -25,7 +25,7 @@ use Rattle.journal_spec.specs.Record.{recordReader, recordBytes, records
 use Rattle.journal_spec.specs.Stages.{dayStage, nameStage, chanceStage, timeStage, limitStage}
 use Rattle.journal_spec.specs.Scan.{maxLength, Placed, recordsOf, Contents, standing, faulty, contentsFrom, contentsOf}
 use Rattle.journal_spec.specs.Ranges.{AllRanges}
-use Rattle.journal_spec.specs.Former.{formerForm, formerReader, formerFrom, formerContents, StopsAtSample}
+use Rattle.journal_spec.specs.Former.{heldFrom, heldBy, formerForm, formerReader, formerContents, StopsAtSample}
 use Rattle.journal_spec.proofs.Judging.{unless-none}
 use Rattle.journal_spec.proofs.Reading.{field-short, field-good, field-fault, field-cases, field-found, by-order, then-found, run-left}
 use Rattle.journal_spec.proofs.Records.{by-stages}
@@ -114,15 +114,15 @@ module _ (more : ℕ) (b : List ℕ) where
   -- what is said of the records after one more
   abbrev Later : Type 0
   Later = (ps : List Placed) (at : ℕ) → lastOf (recordsOf ps) .form ≤ plainForm
-      → Compared b (formerFrom more ps at (drop at b)) (contentsFrom more ps at (drop at b))
+      → Compared b (heldFrom formerReader more ps at (drop at b)) (contentsFrom more ps at (drop at b))
 
   module _ (later : Later) (ps : List Placed) (at : ℕ) where
     by-found : (f : Found Record) → run (formerReader (lastOf (recordsOf ps))) at (drop at b) ≡ f
         → run (recordReader (lastOf (recordsOf ps))) at (drop at b) ≡ f
-        → Compared b (formerFrom (suc more) ps at (drop at b)) (contentsFrom (suc more) ps at (drop at b))
-    unfolding formerFrom contentsFrom
-    by-found (fault n p) e d = rw (e, formerFrom) (rw (d, contentsFrom) (record { is = inl refl }))
-    by-found short e d = rw (e, formerFrom) (rw (d, contentsFrom) (record { is = inl refl }))
+        → Compared b (heldFrom formerReader (suc more) ps at (drop at b)) (contentsFrom (suc more) ps at (drop at b))
+    unfolding heldFrom contentsFrom
+    by-found (fault n p) e d = rw (e, heldFrom) (rw (d, contentsFrom) (record { is = inl refl }))
+    by-found short e d = rw (e, heldFrom) (rw (d, contentsFrom) (record { is = inl refl }))
     by-found (found r next rest) e d =
         let l = run-left (formerReader (lastOf (recordsOf ps))) at (drop at b) r next rest e in
         let p : Placed = record { content = r; start = at; size = next - at } in
@@ -130,10 +130,10 @@ module _ (more : ℕ) (b : List ℕ) where
         let left : rest ≡ drop next b = l .same ∙ drop-drop (next - at) at b ∙ ap (λ (k : ℕ). drop k b) way in
         let low : lastOf (recordsOf (ps ++ p ∷ [])) .form ≤ plainForm =
         rw (recordsOf-snoc ps p, lastOf-snoc (recordsOf ps) r) (omega (arith, former-found (lastOf (recordsOf ps)) at (drop at b) r next rest e)) in
-        rw (e, formerFrom) (rw (d, contentsFrom) (rw left (later (ps ++ p ∷ []) next low)))
+        rw (e, heldFrom) (rw (d, contentsFrom) (rw left (later (ps ++ p ∷ []) next low)))
 
     one-more : lastOf (recordsOf ps) .form ≤ plainForm
-        → Compared b (formerFrom (suc more) ps at (drop at b)) (contentsFrom (suc more) ps at (drop at b))
+        → Compared b (heldFrom formerReader (suc more) ps at (drop at b)) (contentsFrom (suc more) ps at (drop at b))
     one-more low =
         let last = lastOf (recordsOf ps) in
         let v = valueOf (take 2 (drop at b)) in
@@ -142,22 +142,22 @@ module _ (more : ℕ) (b : List ℕ) where
         (λ few. by-found (run (recordReader last) at (drop at b)) (former-short last at (drop at b) few) refl)
       where
         by-form : 2 ≤ length (drop at b) → (t : Bool) → eqb (valueOf (take 2 (drop at b))) sampleForm ≡ t
-            → Compared b (formerFrom (suc more) ps at (drop at b)) (contentsFrom (suc more) ps at (drop at b))
-        by-form enough true e = unfold formerFrom numberAt in
+            → Compared b (heldFrom formerReader (suc more) ps at (drop at b)) (contentsFrom (suc more) ps at (drop at b))
+        by-form enough true e = unfold heldFrom numberAt in
             let two = eqb-true (valueOf (take 2 (drop at b))) sampleForm e in
-            record { is = inr (at, two, rw (former-stops (lastOf (recordsOf ps)) at (drop at b) enough two, formerFrom) refl) }
+            record { is = inr (at, two, rw (former-stops (lastOf (recordsOf ps)) at (drop at b) enough two, heldFrom) refl) }
         by-form enough false e =
             by-found (run (recordReader (lastOf (recordsOf ps))) at (drop at b))
             (former-same (lastOf (recordsOf ps)) at (drop at b) low (eqb-false (valueOf (take 2 (drop at b))) sampleForm e)) refl
 
 compared : (more : ℕ) (b : List ℕ) (ps : List Placed) (at : ℕ) → lastOf (recordsOf ps) .form ≤ plainForm
-    → Compared b (formerFrom more ps at (drop at b)) (contentsFrom more ps at (drop at b))
-compared zero b ps at low = unfold formerFrom contentsFrom in record { is = inl refl }
+    → Compared b (heldFrom formerReader more ps at (drop at b)) (contentsFrom more ps at (drop at b))
+compared zero b ps at low = unfold heldFrom contentsFrom in record { is = inl refl }
 compared (suc more) b ps at low = one-more more b (compared more b) ps at low
 
 -- a slice whose length is good, and one whose length is not
-former-fits : (slice : List ℕ) (len : ℕ) → leb len (min (length slice) maxLength) ≡ true → formerContents slice len ≡ formerFrom len [] 0 (take len slice)
-unfolding formerContents
+former-fits : (slice : List ℕ) (len : ℕ) → leb len (min (length slice) maxLength) ≡ true → formerContents slice len ≡ heldFrom formerReader len [] 0 (take len slice)
+unfolding heldBy formerContents
 former-fits slice len e = rw e refl
 
 own-fits : (slice : List ℕ) (len : ℕ) → leb len (min (length slice) maxLength) ≡ true → contentsOf slice len ≡ contentsFrom len [] 0 (take len slice)
@@ -165,7 +165,7 @@ unfolding contentsOf
 own-fits slice len e = rw e refl
 
 both-long : (slice : List ℕ) (len : ℕ) → leb len (min (length slice) maxLength) ≡ false → formerContents slice len ≡ contentsOf slice len
-unfolding formerContents contentsOf
+unfolding heldBy formerContents contentsOf
 both-long slice len e = rw e refl
 
 no-records : lastOf (recordsOf []) .form ≤ plainForm
@@ -204,10 +204,10 @@ AllPlain (r ∷ rs) = (r .form ≡ plainForm) × AllPlain rs
 module _ (rest : List ℕ) (enough : 2 ≤ length rest) (two : valueOf (take 2 rest) ≡ sampleForm) where
   stops-from : (more : ℕ) (ps : List Placed) (rs : List Record) (at : ℕ) → AllRanges (recordsOf ps) rs → AllPlain rs
       → lastOf (recordsOf ps) .form ≤ plainForm → length rs < more
-      → formerFrom more ps at (recordsBytes rs ++ rest) ≡ faulty formRefusal (at + length (recordsBytes rs))
-  unfolding formerFrom recordsBytes joined
+      → heldFrom formerReader more ps at (recordsBytes rs ++ rest) ≡ faulty formRefusal (at + length (recordsBytes rs))
+  unfolding heldFrom recordsBytes joined
   stops-from zero ps rs at f a low h = absurd (omega arith)
-  stops-from (suc more) ps [] at f a low h = rw (former-stops (lastOf (recordsOf ps)) at rest enough two, formerFrom) (rw add-zero refl)
+  stops-from (suc more) ps [] at f a low h = rw (former-stops (lastOf (recordsOf ps)) at rest enough two, heldFrom) (rw add-zero refl)
   stops-from (suc more) ps (r ∷ rs) at f a low h =
       let last = lastOf (recordsOf ps) in
       let n : ℕ = length (recordBytes r) in
@@ -219,7 +219,7 @@ module _ (rest : List ℕ) (enough : 2 ≤ length rest) (two : valueOf (take 2 r
       let snoc : recordsOf (ps ++ p ∷ []) ≡ recordsOf ps ++ r ∷ [] = recordsOf-snoc ps p in
       let lower : lastOf (recordsOf (ps ++ p ∷ [])) .form ≤ plainForm = rw (snoc, lastOf-snoc (recordsOf ps) r) (omega (arith, a .0)) in
       rw append-assoc
-      (rw (former, formerFrom)
+      (rw (former, heldFrom)
       (rw (add-sub-cancel-left at n)
       (stops-from more (ps ++ p ∷ []) rs (at + n) (rw snoc (f .1)) (a .1) lower (omega arith)
       ∙ rw (length-append, add-assoc) refl)))

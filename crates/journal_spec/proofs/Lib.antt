@@ -1,6 +1,6 @@
 -- The laws on the journal's definitions, one idea to a file, and the theorem of the whole list.
 -- `Format` has the format's laws by name, `Demand` the theorem, `Continued` that it goes on from a journal that stands, `Shown`, `Answers`,
--- `TornOrWhole` and `ShutOut` what follows from it, `Former` and `Marks` what document 02's requests changed of reading.
+-- `TornOrWhole` and `ShutOut` what follows from it, `Former`, `Marks` and `Unchanged` what document 02's requests changed of reading, and what not.
 
 -- numbers, refusals, readers, sections, records
 pub mod Numbers
@@ -23,6 +23,7 @@ pub mod Placing
 -- what came before document 02's requests
 pub mod Former
 pub mod Marks
+pub mod Unchanged
 -- demand 3
 pub mod Demand
 pub mod Continued
