@@ -156,7 +156,8 @@ compared zero b ps at low = unfold heldFrom contentsFrom in record { is = inl re
 compared (suc more) b ps at low = one-more more b (compared more b) ps at low
 
 -- a slice whose length is good, and one whose length is not
-former-fits : (slice : List ℕ) (len : ℕ) → leb len (min (length slice) maxLength) ≡ true → formerContents slice len ≡ heldFrom formerReader len [] 0 (take len slice)
+former-fits : (slice : List ℕ) (len : ℕ) → leb len (min (length slice) maxLength) ≡ true
+    → formerContents slice len ≡ heldFrom formerReader len [] 0 (take len slice)
 unfolding heldBy formerContents
 former-fits slice len e = rw e refl
 
