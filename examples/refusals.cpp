@@ -65,11 +65,22 @@ int main()
     forms.append(5, "A", 500000, 2);
     forms.bytes[33] = 1;
     say("old form", forms.scan(66).word[1], AWAQLLA_REFUSAL_OLD_FORM);
+    std::uint64_t merged[4];
+    std::vector<std::uint8_t> both(JOURNAL_MAX_LENGTH);
+    journal_merge(volume.bytes.data(), volume.bytes.size(), 32, volume.bytes.data(), volume.bytes.size(), 33, both.data(), both.size(), merged);
+    say("input torn", merged[0], MERGE_INPUT_TORN);
+    say("torn input", merged[1], AWAQLLA_REFUSAL_TORN);
+    journal_merge(volume.bytes.data(), volume.bytes.size(), 33, volume.bytes.data(), volume.bytes.size(), 33, both.data(), both.size(), merged);
+    say("merged", merged[0], MERGE_DONE);
+    say("merge declined", (journal_merge(volume.bytes.data(), volume.bytes.size(), 33, volume.bytes.data(), volume.bytes.size(), 0, both.data(), 32,
+        merged), merged[0]), MERGE_DECLINED);
     volume.bytes[32] ^= 1;
     say("limit", volume.scan(33).word[1], AWAQLLA_REFUSAL_LIMIT);
     volume.bytes[0] = 7;
     say("form", volume.scan(33).word[1], AWAQLLA_REFUSAL_FORM);
     say("damaged", volume.scan(33).word[0], JOURNAL_DAMAGED);
+    journal_merge(volume.bytes.data(), volume.bytes.size(), 33, volume.bytes.data(), volume.bytes.size(), 33, both.data(), both.size(), merged);
+    say("input damaged", merged[0], MERGE_INPUT_DAMAGED);
 
     const std::string name(32, '~');
     const std::vector<std::uint32_t> chances = {1, 2, 3, 4, 5, 6, 7, 8};

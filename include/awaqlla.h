@@ -1,6 +1,6 @@
 /* What the archive of the crate capi exports (rt staticlib capi writes target/staticlib/libcapi.a), for C and C++.
    Doubles go as bit patterns; a NaN comes out as 7ff8000000000000. Every argument is answered or refused.
-   What a call writes to (v of the appends, every out) overlaps nothing else that the call is handed.
+   What a call writes to (v of the appends, c of the merge, every out) overlaps nothing else that the call is handed.
    A pointer must not be NULL, even where its length is 0.
    No function keeps anything between calls, so any number of threads may call at once, as long as none writes to what another uses. */
 #ifndef AWAQLLA_H
@@ -17,10 +17,12 @@ extern "C" {
 #define JOURNAL_MAX_RECORD 652   /* the most bytes of a record */
 #define JOURNAL_MAX_LINE 233     /* the most bytes of a line of the listing, with its line end */
 
-/* The first number of an answer: of the limit, of a scan, and of an append, which may answer JOURNAL_DAMAGED too. */
+/* The first number of an answer: of the limit, of a scan, of an append, which may answer JOURNAL_DAMAGED too, and of a
+   merge. */
 enum { LIMIT_ANSWERED = 0, LIMIT_REFUSED = 1 };
 enum { JOURNAL_WHOLE = 0, JOURNAL_TORN = 1, JOURNAL_DAMAGED = 2 };
 enum { JOURNAL_EXTENDED = 0, JOURNAL_DECLINED = 1 };
+enum { MERGE_DONE = 0, MERGE_DECLINED = 1, MERGE_INPUT_DAMAGED = 2, MERGE_INPUT_TORN = 3 };
 
 /* The refusals' numbers (docs/DEFINITION.md, section 10). */
 enum {
@@ -35,6 +37,7 @@ enum {
     AWAQLLA_REFUSAL_ROOM = 9,      /* the record ends beyond the slice or JOURNAL_MAX_LENGTH */
     AWAQLLA_REFUSAL_ABSENT = 10,   /* there are not so many records */
     AWAQLLA_REFUSAL_OLD_FORM = 13, /* form 1 after a record of form 2 */
+    AWAQLLA_REFUSAL_TORN = 16,     /* an input of a merge ends torn */
     AWAQLLA_REFUSAL_EVEN = 17      /* an offered chance above 500,000 in a million */
 };
 
@@ -78,6 +81,14 @@ void journal_append_upto(uint8_t *v, size_t size, size_t len, uint16_t day, cons
    with its line end. As much of it as there is room for is written to the size bytes at out; the answer is how many bytes those are,
    0 behind the last line. JOURNAL_MAX_LINE bytes have room for every line. Each call scans the journal. */
 size_t journal_line(const uint8_t *v, size_t len, size_t i, uint8_t *out, size_t size);
+
+/* The merge (2026-09): the journals in the first a_len bytes of the a_size at a and the first b_len of the b_size at b, into the c_size bytes
+   at c. Records go by day, on equal days the first journal's first; one of the second with the same bytes as one of the first is dropped.
+   {MERGE_DONE, length of the result, 0, 0}; {MERGE_DECLINED, ROOM, 0, 0}; {MERGE_DECLINED, OLD_FORM, place in the result, 0};
+   {MERGE_INPUT_DAMAGED, refusal, place, whose} as scan's; or {MERGE_INPUT_TORN, TORN, 0, whose}. whose is 1 for the first journal, 2 for the second.
+   Only a merge that is done changes a byte of c, and none behind the result. a and b may be the same bytes, c overlaps neither; out points to four places. */
+void journal_merge(const uint8_t *a, size_t a_size, size_t a_len, const uint8_t *b, size_t b_size, size_t b_len,
+    uint8_t *c, size_t c_size, uint64_t out[4]);
 
 #ifdef __cplusplus
 }

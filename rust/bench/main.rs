@@ -1,6 +1,8 @@
 // Times our functions beside the Rust's and prints a table in markdown.
 // Both sides are called through one driver, on bit patterns, by the C convention, and take turns.
 
+mod merge;
+
 use inputs::doubles::{low_part, moderate};
 use inputs::journal::{LARGEST, SMALLEST};
 use inputs::quantile::{chance, BELOW_ONE, CHANCES, ONE_TO_TWO};
@@ -38,6 +40,7 @@ fn main() {
     );
     scan_rows(&mut random);
     append_rows(&mut random);
+    merge::rows(&mut random);
 }
 
 /// The scan of full journals beside rust/reference's, in bytes a second.

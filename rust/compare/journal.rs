@@ -1,8 +1,9 @@
-// The journal against rust/reference: scan and reading's two calls over random and altered bytes, and histories of appends.
+// The journal against rust/reference: scan and reading's two calls over random and altered bytes, histories of appends, and merges.
 // The lines at the end say how often each kind of answer came.
 
 mod alter;
 mod histories;
+mod merges;
 mod reading;
 mod run;
 mod words;
@@ -16,5 +17,8 @@ pub fn compare(options: &Options, totals: &mut Totals) {
     }
     if options.runs("histories") {
         histories::compare(options, totals);
+    }
+    if options.runs("merges") {
+        merges::compare(options, totals);
     }
 }

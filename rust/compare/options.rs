@@ -3,9 +3,9 @@
 
 use inputs::random::Random;
 
-pub const USAGE: &str = "usage: compare [--scale N] [--seed S] [--only numbers|reading|histories]";
+pub const USAGE: &str = "usage: compare [--scale N] [--seed S] [--only numbers|reading|histories|merges]";
 
-const PARTS: [&str; 3] = ["numbers", "reading", "histories"];
+const PARTS: [&str; 4] = ["numbers", "reading", "histories", "merges"];
 
 pub struct Options {
     pub scale: u64,

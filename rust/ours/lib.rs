@@ -120,3 +120,37 @@ pub fn journal_append_upto(v: &mut [u8], len: usize, offer: Offer, budget: usize
     };
     out
 }
+
+/// Two journals, each a slice and its length in it, merged into a third buffer: {0, length, 0, 0}, {1, 9, 0, 0}, {1, 13, place, 0},
+/// {2, number, place, whose} or {3, 16, 0, whose}.
+pub fn journal_merge(a: (&[u8], usize), b: (&[u8], usize), c: &mut [u8]) -> [u64; 4] {
+    unsafe extern "C" {
+        fn journal_merge(
+            a: *const u8,
+            a_size: usize,
+            a_len: usize,
+            b: *const u8,
+            b_size: usize,
+            b_len: usize,
+            c: *mut u8,
+            c_size: usize,
+            out: *mut [u64; 4],
+        );
+    }
+    let mut out = [u64::MAX; 4];
+    // Each pointer and the size behind it are those of a slice, and out has its four places.
+    unsafe {
+        journal_merge(
+            a.0.as_ptr(),
+            a.0.len(),
+            a.1,
+            b.0.as_ptr(),
+            b.0.len(),
+            b.1,
+            c.as_mut_ptr(),
+            c.len(),
+            &mut out,
+        )
+    };
+    out
+}

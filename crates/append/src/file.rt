@@ -7,11 +7,10 @@ use crate::output::complain;
 use crate::output::fail_file;
 use crate::output::print_verdict;
 use crate::output::refuse_file;
-use crate::streams;
 
 // Appends to the file that the first argument names.
 pub(crate) fn append_to_file(day: u16, name: &[u8], chances: &[u32], ticks: &[u32]) {
-    if !streams::are_open() {
+    if !arguments::streams_are_open(b"append: ") {
         return;
     }
     let mut path = io::buffer();
@@ -87,8 +86,9 @@ fn write_record(path: &[u8], fd: i32, len: usize, start: usize, record: &[u8]) -
     if file < 0 {
         return false;
     }
+    // Before a file's first record, whoever made the file, its name is made to stay.
     if start == 0 {
-        if !sync_folder(path) {
+        if !arguments::sync_folder(b"append: ", path) {
             return false;
         }
     }
@@ -116,27 +116,6 @@ fn made(path: &[u8], fd: i32) -> i32 {
         }
     }
     file
-}
-
-// Syncs the folder of a path, so that the name of a file that is new stays. It is done before a file's first record, whoever made the file.
-fn sync_folder(path: &[u8]) -> bool {
-    let end = arguments::folder_end(path);
-    if end == 0 {
-        return sync(b".");
-    }
-    sync(&path[..end])
-}
-
-// Syncs a folder. Where that fails, what failed is said.
-fn sync(folder: &[u8]) -> bool {
-    let fd = os::open_read(folder);
-    if 0 <= fd {
-        if libc::fsync(fd) == 0 {
-            return libc::close(fd) == 0;
-        }
-    }
-    fail_file(folder);
-    false
 }
 
 // Cuts off what stands behind the start, writes the record there, and syncs the file.

@@ -4,7 +4,6 @@ mod extend;
 mod file;
 mod input;
 mod output;
-mod streams;
 mod verdict;
 
 use arguments::Number;

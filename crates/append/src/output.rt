@@ -12,8 +12,7 @@ pub(crate) fn print_verdict(answer: Appended) {
 
 // What the last call that failed says of a file.
 pub(crate) fn fail_file(path: &[u8]) {
-    io::write_all(2, b"append: ");
-    os::fail(path);
+    arguments::fail_file(b"append: ", path);
 }
 
 // What is wrong with a file.
@@ -27,9 +26,7 @@ pub(crate) fn refuse_file(path: &[u8], what: &[u8]) {
 
 // A line of its own.
 pub(crate) fn complain(what: &[u8]) {
-    io::write_all(2, b"append: ");
-    io::write_all(2, what);
-    io::write_all(2, b"\n");
+    arguments::complain(b"append: ", what);
 }
 
 // The argument of a kind, counted from 1, that is no number.

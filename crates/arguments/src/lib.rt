@@ -1,6 +1,7 @@
 // What the programs share. They read the word `--help`, a decimal number, decimal numbers separated by white space, and an input to its end;
-// they print their help, and say where standard output fails. No public function has a `requires`.
+// they print their help, and say where standard output or a file fails. No public function has a `requires`.
 mod digit;
+mod files;
 mod help;
 mod input;
 mod number;
@@ -9,6 +10,10 @@ mod output;
 mod path;
 
 pub use digit::Number;
+pub use files::complain;
+pub use files::fail_file;
+pub use files::streams_are_open;
+pub use files::sync_folder;
 pub use help::is_help;
 pub use input::Input;
 pub use input::input_room;

@@ -2,3 +2,4 @@
 -- Assumes nothing.
 pub mod AppendOutcome
 pub mod LineAt
+pub mod MergeOutcome

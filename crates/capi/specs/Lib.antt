@@ -4,3 +4,4 @@ pub mod Append
 pub mod Journal
 pub mod Limit
 pub mod Line
+pub mod Merge

@@ -4,4 +4,5 @@ pub mod append;
 pub mod journals;
 pub mod limits;
 pub mod line;
+pub mod merge;
 pub mod quantile;

@@ -41,4 +41,5 @@ pub mod FieldAt
 pub mod SectionAt
 pub mod RecordsLoop
 pub mod RefusalFrom
+pub mod Cursor
 pub mod Writing

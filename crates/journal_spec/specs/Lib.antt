@@ -9,6 +9,7 @@ pub mod Section
 pub mod Record
 -- what scan, reading and append answer
 pub mod Scan
+pub mod Cursor
 pub mod Read
 pub mod Request
 pub mod Append

@@ -92,7 +92,7 @@ impl Run<'_> {
 }
 
 /// A list of calls: the journal as ours leaves it, the model, and the bytes that the model makes of the slice.
-struct History {
+pub struct History {
     v: Vec<u8>,
     len: usize,
     model: Model,
@@ -111,12 +111,7 @@ impl History {
                 .collect(),
             _ => (0..size).map(|_| random.bits() as u8).collect(),
         };
-        History {
-            expected: v.clone(),
-            v,
-            len: 0,
-            model: Model::default(),
-        }
+        History::from(v, 0, Model::default())
     }
 
     /// Records of form 1 with some bytes of one more, none or almost all, and so many bytes behind them.
@@ -128,11 +123,25 @@ impl History {
         let model = Model::of(&standing, &torn[..k]);
         let mut v = model.bytes();
         v.extend((0..room).map(|_| random.bits() as u8));
+        History::from(v, model.len(), model)
+    }
+
+    /// A journal that stands, and its model.
+    pub fn from(v: Vec<u8>, len: usize, model: Model) -> History {
         History {
             expected: v.clone(),
             v,
-            len: model.len(),
+            len,
             model,
+        }
+    }
+
+    /// Up to a dozen calls.
+    pub fn any_calls(mut self, random: &mut Random, run: &mut Run) {
+        for _ in 0..random.whole(1, 12) {
+            let offer = any_offer(random, self.last_day(), self.room());
+            let budget = any_budget(random, &offer);
+            self.call(random, run, &offer, budget);
         }
     }
 
@@ -172,22 +181,12 @@ fn small_history(random: &mut Random, run: &mut Run) {
         1 => random.below(800),
         _ => random.below(3_000),
     };
-    let history = History::new(random, size as usize);
-    any_calls(random, run, history);
+    History::new(random, size as usize).any_calls(random, run);
 }
 
 fn old_history(random: &mut Random, run: &mut Run) {
     let room = random.below(1_500) as usize;
-    let history = History::on_old(random, room);
-    any_calls(random, run, history);
-}
-
-fn any_calls(random: &mut Random, run: &mut Run, mut history: History) {
-    for _ in 0..random.whole(1, 12) {
-        let offer = any_offer(random, history.last_day(), history.room());
-        let budget = any_budget(random, &offer);
-        history.call(random, run, &offer, budget);
-    }
+    History::on_old(random, room).any_calls(random, run);
 }
 
 /// Records until no more has room, in a slice around the longest journal: large ones that finish, and any calls between them.

@@ -1,0 +1,58 @@
+// The merge of two journals into a third buffer, with its answer in four words.
+// `a` and `b` are the slices, `alen` and `blen` the journals' lengths in them, `c` is the third buffer.
+ghost use mathlib.Core.Path.{_≡_};
+ghost use Rattle.merge_spec.specs.Merge.{mergeOf};
+ghost use Rattle.merging.specs.Answers.{whoseOf, answerOf};
+ghost use Rattle.capi.specs.Merge.{whoseWord, mergeWords};
+use merging::Merged;
+use merging::Whose;
+
+#[no_mangle]
+pub extern "C" fn journal_merge(
+    a: &[u8],
+    alen: usize,
+    b: &[u8],
+    blen: usize,
+    c: &mut [u8],
+    out: &mut [u64; 4],
+)
+    ensures { λ r. ⌜ now (c .exit) ≡ mergeOf (now (a .entry)) alen (now (b .entry)) blen (now (c .entry)) .buffer ⌝ }
+    ensures { λ r. ⌜ now (out .exit) ≡ mergeWords (mergeOf (now (a .entry)) alen (now (b .entry)) blen (now (c .entry)) .answer) ⌝ }
+{
+    let m = merging::merge(a, alen, b, blen, c);
+    put_merged(m, out);
+}
+
+// 0 and the result's length; 1 and 9; 1, 13 and the place in the result; 2, a fault's number and place, and whose it is; 3, 16, 0 and whose
+// end is torn.
+fn put_merged(m: Merged, out: &mut [u64; 4])
+    ensures { λ r. ⌜ now (out .exit) ≡ mergeWords (answerOf m) ⌝ }
+{
+    match m {
+        Merged::Length(n) => {
+            *out = [0, n as u64, 0, 0];
+        }
+        Merged::NoRoom => {
+            *out = [1, 9, 0, 0];
+        }
+        Merged::Falls(place) => {
+            *out = [1, 13, place as u64, 0];
+        }
+        Merged::Damaged { whose, fault } => {
+            *out = [2, fault.number as u64, fault.place as u64, word_of(whose)];
+        }
+        Merged::Torn(whose) => {
+            *out = [3, 16, 0, word_of(whose)];
+        }
+    }
+}
+
+// 1 for the first journal, 2 for the second.
+fn word_of(w: Whose) -> u64
+    ensures { λ r. ⌜ r ≡ whoseWord (whoseOf w) ⌝ }
+{
+    match w {
+        Whose::First => 1,
+        Whose::Second => 2,
+    }
+}

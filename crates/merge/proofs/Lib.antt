@@ -1,0 +1,3 @@
+-- The law of the merge's answer that lending the result asks for.
+-- Assumes nothing.
+mod Fits

@@ -1,0 +1,77 @@
+// The merge of two journals into a third buffer (request 2026-09), with two passes over both: the first finds the result's length and where
+// forms fall in it, the second copies the records. Nothing is assumed of the slices, the lengths or the buffer, and no memory is needed.
+ghost use mathlib.Core.Path.{_≡_};
+ghost use Rattle.journal_spec.specs.Cursor.{recordsIn};
+ghost use Rattle.merge_spec.specs.Records.{mergedOf};
+ghost use Rattle.merge_spec.specs.Merge.{mergeOf};
+ghost use Rattle.merging.specs.Answers.{outcomeOf};
+ghost use Rattle.merging.specs.Records.{WholeBytes};
+ghost use Rattle.merging.specs.Passes.{wholeOutcome};
+use crate::copying::copy;
+use crate::inputs::Inputs;
+use crate::inputs::inputs_of;
+use crate::measuring::Measured;
+use crate::measuring::measure;
+use journal::Fault;
+use journal::scan;
+
+mod copying;
+mod inputs;
+mod measuring;
+mod records;
+mod searching;
+mod stepping;
+
+// The longest journal, in bytes.
+const MAX_LENGTH: usize = 65_536;
+
+// Whose: the first journal's or the second's.
+pub enum Whose {
+    First,
+    Second,
+}
+
+// The result's length; a journal's fault, as scan's; 16, whose end is torn; 13, the place in the result of a form 1 after form 2; 9, no room.
+pub enum Merged {
+    Length(usize),
+    Damaged { whose: Whose, fault: Fault },
+    Torn(Whose),
+    Falls(usize),
+    NoRoom,
+}
+
+// The journals of two lengths in two slices, merged into a third buffer.
+pub fn merge(v: &[u8], len: usize, w: &[u8], wlen: usize, out: &mut [u8]) -> Merged
+    ensures { λ r. ⌜ outcomeOf r (now (out .exit)) ≡ mergeOf (now (v .entry)) len (now (w .entry)) wlen (now (out .entry)) ⌝ }
+{
+    let x = scan(v, len);
+    let y = scan(w, wlen);
+    let s = inputs_of(x, y);
+    match s {
+        Inputs::Whole => merge_whole(&v[..len], &w[..wlen], out),
+        Inputs::Damaged { whose, fault } => Merged::Damaged { whose, fault },
+        Inputs::Torn(whose) => Merged::Torn(whose),
+    }
+}
+
+// The merge of two whole journals.
+fn merge_whole(a: &[u8], b: &[u8], out: &mut [u8]) -> Merged
+    requires { ⌜ WholeBytes (now a) × WholeBytes (now b) ⌝ }
+    ensures { λ r. ⌜ outcomeOf r (now (out .exit))
+        ≡ wholeOutcome (mergedOf (recordsIn (now (a .entry))) (recordsIn (now (b .entry)))) (now (out .entry)) ⌝ }
+{
+    let m = measure(a, b);
+    match m {
+        Measured::Length(n) => {
+            if out.len() < n {
+                return Merged::NoRoom;
+            }
+            if MAX_LENGTH < n {
+                return Merged::NoRoom;
+            }
+            copy(a, b, out);
+            Merged::Length(n)
+        }
+        Measured::Falls(p) => Merged::Falls(p),
+    }
+}
