@@ -1,4 +1,4 @@
-/* refusals: a C++ program over the library. It makes a volume, and meets each kind of answer and each refusal but 8, by the header's names;
+/* refusals: a C++ program over the library. It makes a volume, and meets each kind of answer and each refusal, by the header's names;
    a line for each says what the library answered, and whether it is the name's number. examples/refusals.expected has the lines. */
 #include <cinttypes>
 #include <cstdio>

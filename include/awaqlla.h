@@ -24,7 +24,7 @@ enum { JOURNAL_WHOLE = 0, JOURNAL_TORN = 1, JOURNAL_DAMAGED = 2 };
 enum { JOURNAL_EXTENDED = 0, JOURNAL_DECLINED = 1 };
 enum { MERGE_DONE = 0, MERGE_DECLINED = 1, MERGE_INPUT_DAMAGED = 2, MERGE_INPUT_TORN = 3 };
 
-/* The refusals' numbers (docs/DEFINITION.md, section 10). */
+/* The refusals' numbers (docs/DEFINITION.md, section 10). 8 was that of a limit not finite, which there is none; it is not used again. */
 enum {
     AWAQLLA_REFUSAL_LENGTH = 1,    /* the length is beyond the slice or JOURNAL_MAX_LENGTH */
     AWAQLLA_REFUSAL_FORM = 2,      /* a form other than 1 and 2 */
@@ -33,7 +33,6 @@ enum {
     AWAQLLA_REFUSAL_CHANCES = 5,   /* 1 to 8 chances, rising, each 1 to 999,999 in a million */
     AWAQLLA_REFUSAL_TIMES = 6,     /* 2 to 128 times, each 1 to 1,048,575 ticks */
     AWAQLLA_REFUSAL_LIMIT = 7,     /* the limits' count, or the bits of one that does not come out again */
-    AWAQLLA_REFUSAL_FINITE = 8,    /* a limit worked out is not finite */
     AWAQLLA_REFUSAL_ROOM = 9,      /* the record ends beyond the slice or JOURNAL_MAX_LENGTH */
     AWAQLLA_REFUSAL_ABSENT = 10,   /* there are not so many records */
     AWAQLLA_REFUSAL_OLD_FORM = 13, /* form 1 after a record of form 2 */
@@ -48,7 +47,7 @@ uint64_t sqrt_bits(uint64_t x);
 uint64_t f_erfcinv_bits(uint64_t x);
 
 /* The limit of n times in ticks of ten microseconds at a chance in a million, under a form (1: the spread's divisor is n * n; 2: n * (n - 1)):
-   {LIMIT_ANSWERED, bits of the limit}, or {LIMIT_REFUSED, refusal}: FORM, CHANCES, TIMES or FINITE, the first that holds.
+   {LIMIT_ANSWERED, bits of the limit}, or {LIMIT_REFUSED, refusal}: FORM, CHANCES or TIMES, the first that holds.
    times points to n numbers; out to two places. */
 void limit_bits(uint32_t form, const uint32_t *times, size_t n, uint32_t chance, uint64_t out[2]);
 
@@ -68,7 +67,7 @@ uint64_t journal_mark(const uint8_t *v, size_t size, size_t len, size_t i);
 
 /* Append on the journal that fills the first len bytes of the size bytes at v: the record of what is offered, of form 2, is written from the
    committed length on, over a torn tail. Its limits are worked out from the times. {JOURNAL_EXTENDED, length after the call, 0}; {JOURNAL_DECLINED,
-   refusal, 0}: DAY, NAME, CHANCES, EVEN, TIMES, FINITE or ROOM, the first that holds; or {JOURNAL_DAMAGED, refusal, place} as scan's. Only an
+   refusal, 0}: DAY, NAME, CHANCES, EVEN, TIMES or ROOM, the first that holds; or {JOURNAL_DAMAGED, refusal, place} as scan's. Only an
    append that extends changes a byte of v. Each pointer points to as many items as the length behind it says; out to three places. */
 void journal_append(uint8_t *v, size_t size, size_t len, uint16_t day, const uint8_t *name, size_t name_len,
     const uint32_t *chances, size_t chances_len, const uint32_t *times, size_t times_len, uint64_t out[3]);

@@ -2,7 +2,7 @@
 // over random and edge sets of times, chances and forms, those that are refused included.
 
 use crate::options::Options;
-use crate::tally::{Tally, Totals};
+use crate::tally::{Extremes, Tally, Totals};
 use inputs::random::Random;
 use reference::limit::{limit, LAST_TIME};
 
@@ -22,12 +22,14 @@ const TIMES: [u32; 8] = [0, 1, 2, 100, 1_048_574, 1_048_575, 1_048_576, u32::MAX
 const COUNTS: [usize; 8] = [0, 1, 2, 3, 127, 128, 129, 1000];
 
 pub fn compare(options: &Options, totals: &mut Totals) {
-    compare_edges(options, totals);
-    compare_random(options, totals);
+    let mut limits = Extremes::default();
+    compare_edges(options, &mut limits, totals);
+    compare_random(options, &mut limits, totals);
+    limits.print("limits");
 }
 
 /// Every count, form, chance and two times of the edges: the two times in turn, then in random order.
-fn compare_edges(options: &Options, totals: &mut Totals) {
+fn compare_edges(options: &Options, limits: &mut Extremes, totals: &mut Totals) {
     let mut tally = Tally::new("limit, edges");
     let mut random = options.random("limit, edges");
     for count in COUNTS {
@@ -35,11 +37,11 @@ fn compare_edges(options: &Options, totals: &mut Totals) {
             for (form, chance) in FORMS.iter().flat_map(|a| CHANCES.map(|b| (*a, b))) {
                 let turns = [first, second].into_iter().cycle();
                 let mut times: Vec<u32> = turns.take(count).collect();
-                compare_at(form, &times, chance, &mut tally);
+                compare_at((form, &times, chance), &mut tally, limits);
                 times
                     .iter_mut()
                     .for_each(|time| *time = *random.pick(&[first, second]));
-                compare_at(form, &times, chance, &mut tally);
+                compare_at((form, &times, chance), &mut tally, limits);
             }
         }
     }
@@ -47,18 +49,18 @@ fn compare_edges(options: &Options, totals: &mut Totals) {
 }
 
 /// Random times within a random spread under both forms, and at times one time, the chance or the form out of range.
-fn compare_random(options: &Options, totals: &mut Totals) {
+fn compare_random(options: &Options, limits: &mut Extremes, totals: &mut Totals) {
     let mut tally = Tally::new("limit, random");
     let mut random = options.random("limit, random");
     for _ in 0..options.times(300_000) {
         let mut times = random_times(&mut random);
         let chance = random.whole(1, 999_999) as u32;
-        compare_at(1, &times, chance, &mut tally);
-        compare_at(2, &times, chance, &mut tally);
+        compare_at((1, &times, chance), &mut tally, limits);
+        compare_at((2, &times, chance), &mut tally, limits);
         let place = random.below(times.len() as u64) as usize;
         times[place] = *random.pick(&TIMES);
         let form = *random.pick(&FORMS);
-        compare_at(form, &times, *random.pick(&CHANCES), &mut tally);
+        compare_at((form, &times, *random.pick(&CHANCES)), &mut tally, limits);
     }
     tally.close(totals);
 }
@@ -71,14 +73,14 @@ fn random_times(random: &mut Random) -> Vec<u32> {
     (0..count).map(|_| random.whole(low, high) as u32).collect()
 }
 
-fn compare_at(form: u32, times: &[u32], chance: u32, tally: &mut Tally) {
-    let sides = [
-        ours::limit_bits(form, times, chance),
-        answer(limit(form, times, chance)),
-    ];
-    tally.take(sides, || {
-        format!("times {times:?} at {chance} under form {form}")
-    });
+fn compare_at((form, times, chance): (u32, &[u32], u32), tally: &mut Tally, limits: &mut Extremes) {
+    let expected = limit(form, times, chance);
+    let input = || format!("times {times:?} at {chance} under form {form}");
+    let sides = [ours::limit_bits(form, times, chance), answer(expected)];
+    tally.take(sides, input);
+    if let Ok(limit) = expected {
+        limits.take(limit, tally, input);
+    }
 }
 
 /// {0, bits of the limit} or {1, refusal}.

@@ -50,6 +50,31 @@ impl Tally {
     }
 }
 
+/// The least and the greatest of the limits met.
+#[derive(Default)]
+pub struct Extremes {
+    met: Option<[f64; 2]>,
+}
+
+impl Extremes {
+    /// Takes a limit; one that is not finite counts as a result that differs.
+    pub fn take(&mut self, limit: f64, tally: &mut Tally, input: impl Fn() -> String) {
+        if !limit.is_finite() {
+            tally.take([[0], [1]], || format!("a finite limit, {}", input()));
+        }
+        let [least, greatest] = self.met.unwrap_or([limit; 2]);
+        self.met = Some([least.min(limit), greatest.max(limit)]);
+    }
+
+    /// Prints the two with their bits, if there was a limit.
+    pub fn print(&self, name: &str) {
+        if let Some(met) = self.met {
+            let [least, greatest] = met.map(|x| format!("{x} ({:016x})", x.to_bits()));
+            println!("{name}, finite: from {least} to {greatest}");
+        }
+    }
+}
+
 /// Bit patterns as 16 hexadecimal digits each.
 pub fn hex(patterns: &[u64]) -> String {
     let words: Vec<String> = patterns.iter().map(|bits| format!("{bits:016x}")).collect();

@@ -61,7 +61,7 @@ impl Sums {
         self.squares += time * time;
     }
 
-    /// The limit at a chance that is in range, of times that are; it may be infinite or a NaN.
+    /// The limit at a chance that is in range, of times that are.
     #[allow(clippy::approx_constant)] // the digits are the paper's
     pub fn limit_at(&self, form: Form, chance: u32) -> f64 {
         let d = self.n * self.squares - self.sum * self.sum;
@@ -93,10 +93,5 @@ pub fn limit(form: u32, times: &[u32], chance: u32) -> Result<f64, u64> {
     if !count_fits(times.len()) || !times.iter().all(|time| time_fits(*time)) {
         return Err(6);
     }
-    let limit = Sums::of(times).limit_at(form, chance);
-    if limit.is_finite() {
-        Ok(limit)
-    } else {
-        Err(8)
-    }
+    Ok(Sums::of(times).limit_at(form, chance))
 }

@@ -127,13 +127,6 @@ pub fn offered(
         &offer.chances,
         &offer.times,
     );
-    if !record
-        .limits
-        .iter()
-        .all(|bits| f64::from_bits(*bits).is_finite())
-    {
-        return Err(8);
-    }
     if committed + record.bytes().len() > slice_len.min(MAX_LENGTH) {
         return Err(9);
     }

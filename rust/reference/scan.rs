@@ -172,7 +172,6 @@ impl Cursor<'_> {
         for chance in chances {
             let bits = u64::from_le_bytes(self.bytes()?);
             let limit = sums.limit_at(form, *chance);
-            self.judge(8, 8, limit.is_finite())?;
             self.judge(8, 7, limit.to_bits() == bits)?;
         }
         Ok(())

@@ -43,7 +43,7 @@ room-found : (room : ℕ) (last : Last) (c : ℕ) (o : Offer) → appendRefusal 
     → c + length (recordBytes (offered o)) ≤ min room maxLength
 unfolding appendRefusal judgeRoom
 room-found room last c o h =
-    leb-true _ _ (unless-none (leb (c + length (recordBytes (offered o))) (min room maxLength)) 8 (none-at _ h 6))
+    leb-true _ _ (unless-none (leb (c + length (recordBytes (offered o))) (min room maxLength)) 8 (none-at _ h 5))
 
 -- an offer that is taken was not refused
 record Taken (refusal : ℕ) (slice : List ℕ) (c : ℕ) (new : List ℕ) (n : ℕ) (after : List ℕ) : Type 0 where

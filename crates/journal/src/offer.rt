@@ -1,24 +1,21 @@
-// The check of an offered record, in the papers' order: 3, 4, 5, 17, 6, 8. A refusal is its number, 0 for none.
-// The limits' bits are kept while they are judged, so that the writer need not work them out again.
+// The check of an offered record, in the papers' order: 3, 4, 5, 17, 6. A refusal is its number, 0 for none.
+// Where there is none the limits are worked out, for the writer.
 ghost use mathlib.Core.Path.{_≡_};
-ghost use mathlib.Core.Bool.{true};
-ghost use mathlib.Core.List.{List};
-ghost use Prim.Native.Nat.{ℕ, _≤_};
-ghost use lib.ListN.{length};
-ghost use Rattle.limit.specs.Times.{timesInRange};
-ghost use Rattle.limit.specs.Sums.{sumsOf};
+ghost use Prim.Native.Nat.{_≤_};
+ghost use lib.ListN.{length, take};
+ghost use Rattle.limit.specs.Formula.{sampleForm};
+ghost use Rattle.limit.specs.Limit.{limitOfSums};
 ghost use Rattle.journal_spec.specs.Refusals.{outside};
 ghost use Rattle.journal_spec.specs.Section.{sectionRefusal};
 ghost use Rattle.journal_spec.specs.Record.{nameSection, chanceSection, maxChances};
-ghost use Rattle.journal_spec.specs.Append.{judgeEven};
+ghost use Rattle.journal_spec.specs.Append.{judgeEven, limitBits};
 ghost use Rattle.journal.specs.Records.{asLast};
-ghost use Rattle.journal.specs.Handed.{offerFrom, LimitsChecked, OfferChecked};
+ghost use Rattle.journal.specs.Handed.{offerFrom, limitsFrom, OfferChecked};
 use crate::record::CHANCES;
 use crate::record::DAY_REFUSAL;
 use crate::record::Head;
 use crate::record::NAME;
 use limit::Answer;
-use limit::FINITE_REFUSAL;
 use limit::SAMPLE_FORM;
 use limit::TIMES_REFUSAL;
 use limit::sums::Gathered;
@@ -59,7 +56,10 @@ pub(crate) fn offer_refusal(
     }
     let g = limit::sums::gather(times);
     match g {
-        Gathered::Within(sums) => limits_refusal(sums, chances, bits),
+        Gathered::Within(sums) => {
+            work_out(sums, chances, bits);
+            0
+        }
         Gathered::Outside => TIMES_REFUSAL,
     }
 }
@@ -134,23 +134,26 @@ fn range_refusal(low: u64, high: u64, refusal: u32, x: u64) -> u32
     0
 }
 
-// The refusal of the limits that times with these sums have at the chances, under form 2; each limit's bits are kept.
-fn limits_refusal(sums: Sums, chances: &[u32], bits: &mut [u64]) -> u32
+// The bits of the limits that times with these sums have at the chances.
+fn work_out(sums: Sums, chances: &[u32], bits: &mut [u64])
     requires { ⌜ (length (now chances) ≤ maxChances) × (length (now bits) ≡ maxChances) ⌝ }
-    ensures { λ r. ⌜ ((times : List ℕ) → timesInRange times ≡ true → sums ≡ sumsOf times
-        → LimitsChecked times (now (chances .entry)) r (now (bits .exit))) ⌝ }
+    ensures { λ _. ⌜ take (length (now (chances .entry))) (now (bits .exit)) ≡ limitsFrom sums (now (chances .entry)) ⌝ }
 {
     let n = chances.len();
     let mut i: usize = 0;
     while i < n {
-        let worked = limit::limit_of_sums(SAMPLE_FORM, sums, chances[i]);
-        match worked {
-            Answer::Limit(x) => {
-                bits[i] = sqrt::bits::bits_of(x);
-                i += 1;
-            }
-            Answer::Refused(_) => return FINITE_REFUSAL,
-        }
+        bits[i] = bits_at(sums, chances[i]);
+        i += 1;
     }
-    0
+}
+
+// The bits of the limit that times with these sums have at a chance, under form 2.
+fn bits_at(sums: Sums, chance: u32) -> u64
+    ensures { λ r. ⌜ r ≡ limitBits (limitOfSums sampleForm sums chance) ⌝ }
+{
+    let worked = limit::limit_of_sums(SAMPLE_FORM, sums, chance);
+    match worked {
+        Answer::Limit(x) => sqrt::bits::bits_of(x),
+        Answer::Refused(_) => 0,
+    }
 }

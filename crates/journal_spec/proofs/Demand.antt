@@ -18,7 +18,7 @@ use Rattle.journal_spec.specs.Request.{Journal, Offer, offerOf, allowed,
 use Rattle.journal_spec.specs.Append.{offered, written, unchanged, extend, settle, appendTo, appendOf}
 use Rattle.journal_spec.specs.Calls.{operations, Call, emptyIn, perform, journalAfter, answersOf, reachOf}
 use Rattle.journal_spec.specs.Model.{Model, emptyModel, lengthsOf, committedOf, recordFor, Entry, enterRecord, byNumber, verdictOf, enterBy, enter}
-use Rattle.journal_spec.specs.Model.{limitsGood, modelRefusal, modelAfter, modelAnswers}
+use Rattle.journal_spec.specs.Model.{modelRefusal, modelAfter, modelAnswers}
 use Rattle.journal_spec.specs.Demand.{modelScan, bytesAt, recordMark, Agrees, Demand3From, Demand3}
 use Rattle.journal_spec.specs.Ranges.{RecordRanges, AllRanges}
 use Rattle.journal_spec.proofs.Reading.{by-order, reads-cut}
@@ -137,16 +137,16 @@ module _ (room : ℕ) (j : Journal) (m : Model) (h : Holds room j m) (o : Offer)
   module _ (e : modelRefusal room m o ≡ 0) where
     -- the offer is the model's record, which nothing refuses, and there is room for it
     good : RecordRanges (lastOf (m .records)) (recordFor o)
-    unfolding recordFor formulaBits limitsGood lastOf
+    unfolding recordFor formulaBits lastOf
     good =
         let p = passed room m o e in
         let a = accepted-exactly room m o .0 e in
         good-exactly (lastOf (m .records)) (recordFor o) .0
         (good-record (lastOf (m .records)) (recordFor o) sample-known (last-form [] (m .records) (h .follow) (omega arith)) (a .day) fits (p .name)
-        (p .chances) (p .times) (p .limits) refl)
+        (p .chances) (p .times) refl)
 
     same : recordBytes (offered o) ≡ bytes
-    same = let p = passed room m o e in ap recordBytes (same-record o (p .chances) (p .times) (p .limits))
+    same = let p = passed room m o e in ap recordBytes (same-record o (p .chances) (p .times))
 
     room-for : committedOf m + length bytes ≤ min room maxLength
     room-for = let a = accepted-exactly room m o .0 e in omega (arith, a .fitsSlice, a .fitsJournal)

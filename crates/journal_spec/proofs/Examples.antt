@@ -3,11 +3,9 @@
 use mathlib.Core.Path.{_≡_, refl, sym, ap, _∙_}
 use Prim.Native.Nat.{ℕ, zero, suc, _≤_, _<_}
 use mathlib.Core.List.{List, [], _∷_, append-nil}
-use mathlib.Core.Bool.{true}
 use native.Mathlib.Omega.{arith}
 use lib.ListN.{length, take, getD, set, replicate}
 use lib.Ieee.{binary64, ofBits, toBits}
-use lib.Ieee.Scale.{finite}
 use Rattle.limit.specs.Times.{inRange}
 use Rattle.limit.specs.Formula.{plainForm}
 use Rattle.limit.specs.Limit.{formKnown, chanceInRange}
@@ -24,7 +22,7 @@ use Rattle.journal_spec.specs.Request as R
 use Rattle.journal_spec.specs.Append.{judgeEven, appendRefusal, unchanged, settle, appendTo, appendOf}
 use Rattle.journal_spec.specs.Model.{workedOut}
 use Rattle.journal_spec.specs.Ranges.{RecordRanges}
-use Rattle.journal_spec.proofs.EvenChance.{worked-plain, plain-finite}
+use Rattle.journal_spec.proofs.EvenChance.{worked-plain}
 use Rattle.journal_spec.proofs.Format.{whole-scan, torn-scan}
 
 -- ---- numbers
@@ -80,7 +78,6 @@ keeps = record {
   chances = record { least = omega arith; most = omega arith; range = λ i k. chance i k; rising = λ i k. absurd (omega arith) };
   times = record { least = omega arith; most = omega arith; range = λ i k. time i k };
   limitCount = refl;
-  finite = λ i k. worked i k;
   limits = λ i k. bits i k;
 }
   where
@@ -96,10 +93,6 @@ keeps = record {
     time zero k = (omega arith, omega arith)
     time (suc zero) k = (omega arith, omega arith)
     time (suc (suc i)) k = absurd (omega arith)
-
-    worked : (i : ℕ) → i < 1 → finite (workedOut plainForm (100 ∷ 100 ∷ []) (getD (500_000 ∷ []) i 0)) ≡ true
-    worked zero k = plain-finite
-    worked (suc i) k = absurd (omega arith)
 
     bits : (i : ℕ) → i < 1
         → getD (0x4059_0000_0000_0000 ∷ []) i 0 ≡ toBits binary64 (workedOut plainForm (100 ∷ 100 ∷ []) (getD (500_000 ∷ []) i 0))

@@ -1,27 +1,26 @@
--- The limits of a record: worked out by `limitOf` they are the formula's values, refused exactly where one is not finite, and each fits 8 bytes.
+-- The limits of a record: worked out by `limitOf` they are the formula's values, and each fits 8 bytes.
 -- Assumes nothing.
 use mathlib.Core.Path.{_≡_, refl, sym, ap, ap₂, _∙_}
 use Prim.Native.Nat.{ℕ, _*_, _^_, _<_}
 use mathlib.Core.List.{List, [], _∷_, _++_, map}
-use mathlib.Core.Bool.{Bool, true, false, _&&_}
+use mathlib.Core.Bool.{Bool, true, false}
 use native.Mathlib.Omega.{arith}
 use lib.ListN.{length, getD, length-append}
 use lib.Seq.{append-snoc, getD-at}
 use lib.Dec.{T, eqb}
-use lib.Ieee.{Float, nan, inf, fin, binary64, toBits, fits, top}
-use lib.Ieee.Scale.{finite}
+use lib.Ieee.{Float, binary64, toBits, fits, top}
 use lib.Ieee.Fits.{add-fits}
 use lib.Ieee.Bits.{toBits-lt}
 use borrow.Author.Tests.{eqb-true, eq-eqb}
 use Rattle.limit.specs.Times.{inRange, timesInRange}
 use Rattle.limit.specs.Formula.{sampleForm, limitFrom, formulaOf}
-use Rattle.limit.specs.Answer.{LimitResult, finiteRefusal}
-use Rattle.limit.specs.Limit.{minChance, maxChance, formKnown, chanceInRange, finiteOrRefused, judge, limitOf}
+use Rattle.limit.specs.Answer.{LimitResult, limited}
+use Rattle.limit.specs.Limit.{minChance, maxChance, formKnown, chanceInRange, judge, limitOf}
 use Rattle.limit.proofs.InRange as R
 use Rattle.journal_spec.specs.Refusals.{limitRefusal, unless, firstOf}
 use Rattle.journal_spec.specs.Section.{itemsRefusal}
 use Rattle.journal_spec.specs.Record.{judgeLimit}
-use Rattle.journal_spec.specs.Append.{limitBits, limitsOf, judgeWorked, limitsRefusal}
+use Rattle.journal_spec.specs.Append.{limitBits, limitsOf}
 use Rattle.journal_spec.specs.Model.{workedOut, each, timesGood}
 use Rattle.journal_spec.proofs.Judging.{unless-none, unless-true, first-none, none-first}
 use Rattle.journal_spec.proofs.Each.{each-time}
@@ -29,10 +28,6 @@ use Rattle.journal_spec.proofs.Each.{each-time}
 -- the formula's bits, one for each chance
 unfoldable pub formulaBits : ℕ → List ℕ → List ℕ → List ℕ
 formulaBits form times chances = map (λ (c : ℕ). toBits binary64 (workedOut form times c)) chances
-
--- each of these limits is finite
-abbrev pub allFinite : ℕ → List ℕ → List ℕ → Bool
-allFinite form times chances = each (λ (c : ℕ). finite (workedOut form times c)) chances
 
 pub times-good : (times : List ℕ) → timesGood times ≡ timesInRange times
 unfolding timesGood timesInRange
@@ -45,48 +40,24 @@ sample-known = refl
 -- ---- one limit
 
 pub limit-worked : (form : ℕ) (times : List ℕ) (c : ℕ) → formKnown form ≡ true → timesInRange times ≡ true → inRange minChance maxChance c ≡ true
-    → limitOf form times c ≡ finiteOrRefused (workedOut form times c)
+    → limitOf form times c ≡ limited (workedOut form times c)
 unfolding limitOf judge chanceInRange workedOut
 limit-worked form times c f t e = rw (f, e, t) refl
 
-judge-worked : (x : Float) → judgeWorked (finiteOrRefused x) ≡ unless (finite x) finiteRefusal
-unfolding judgeWorked finiteOrRefused unless
-judge-worked nan = refl
-judge-worked (inf s) = refl
-judge-worked (fin s m e) = refl
+judge-own : (x : Float) → judgeLimit (limited x) (toBits binary64 x) ≡ 0
+unfolding judgeLimit
+judge-own x = unless-true _ limitRefusal (eq-eqb (toBits binary64 x) (toBits binary64 x) refl)
 
-bits-worked : (x : Float) → finite x ≡ true → limitBits (finiteOrRefused x) ≡ toBits binary64 x
-unfolding limitBits finiteOrRefused
-bits-worked x e = rw e refl
+-- bits that are not refused are the formula's
+judge-none : (x : Float) (bits : ℕ) → judgeLimit (limited x) bits ≡ 0 → bits ≡ toBits binary64 x
+unfolding judgeLimit
+judge-none x bits h = eqb-true bits (toBits binary64 x) (unless-none _ 6 h)
 
-judge-own : (x : Float) → finite x ≡ true → judgeLimit (finiteOrRefused x) (toBits binary64 x) ≡ 0
-unfolding judgeLimit finiteOrRefused
-judge-own x e = rw e (unless-true _ limitRefusal (eq-eqb (toBits binary64 x) (toBits binary64 x) refl))
-
--- bits that are not refused are the formula's, which is finite
-judge-none : (x : Float) (bits : ℕ) → judgeLimit (finiteOrRefused x) bits ≡ 0 → (finite x ≡ true) × (bits ≡ toBits binary64 x)
-unfolding judgeLimit finiteOrRefused
-judge-none nan bits h = absurd (omega arith)
-judge-none (inf s) bits h = absurd (omega arith)
-judge-none (fin s m e) bits h = (refl, eqb-true bits (toBits binary64 (fin s m e)) (unless-none _ 6 h))
-
-judged-worked : (x : Float) (bits : ℕ)
-    → judgeLimit (finiteOrRefused x) bits ≡ firstOf (unless (finite x) 8 ∷ unless (eqb bits (toBits binary64 x)) 7 ∷ [])
-unfolding judgeLimit finiteOrRefused unless firstOf
-judged-worked nan bits = refl
-judged-worked (inf s) bits = refl
-judged-worked (fin s m e) bits = alone (eqb bits (toBits binary64 (fin s m e)))
-  where
-    alone : (b : Bool) → unless b 7 ≡ firstOf (unless b 7 ∷ [])
-    alone true = unfold unless firstOf in refl
-    alone false = unfold unless firstOf in refl
-
--- a limit's bits are judged as document 01 says: 8 where the limit worked out is not finite, and then 7 where the bits are not its own
+-- a limit's bits are judged as document 01 says: 7 where they are not those of the limit worked out
 pub limit-judged : (form : ℕ) (times : List ℕ) (c bits : ℕ) → formKnown form ≡ true → timesInRange times ≡ true
-    → inRange minChance maxChance c ≡ true → judgeLimit (limitOf form times c) bits
-    ≡ firstOf (unless (finite (workedOut form times c)) 8 ∷ unless (eqb bits (toBits binary64 (workedOut form times c))) 7 ∷ [])
-limit-judged form times c bits k t e =
-    ap (λ (r : LimitResult). judgeLimit r bits) (limit-worked form times c k t e) ∙ judged-worked (workedOut form times c) bits
+    → inRange minChance maxChance c ≡ true → judgeLimit (limitOf form times c) bits ≡ unless (eqb bits (toBits binary64 (workedOut form times c))) 7
+unfolding judgeLimit
+limit-judged form times c bits k t e = ap (λ (r : LimitResult). judgeLimit r bits) (limit-worked form times c k t e)
 
 -- ---- what fits 8 bytes
 
@@ -95,16 +66,14 @@ unfolding workedOut formulaOf limitFrom
 formula-fits form times c = add-fits binary64 _ _
 
 judged-fits : (k a b : Bool) (x : Float) (bits : ℕ) → T (fits binary64 x) → judgeLimit (judge k a b x) bits ≡ 0 → bits < 256 ^ 8
-unfolding judge judgeLimit finiteOrRefused
+unfolding judge judgeLimit
 judged-fits false a b x bits f h = absurd (omega arith)
 judged-fits true false b x bits f h = absurd (omega arith)
 judged-fits true true false x bits f h = absurd (omega arith)
-judged-fits true true true nan bits f h = absurd (omega arith)
-judged-fits true true true (inf s) bits f h = absurd (omega arith)
-judged-fits true true true (fin s m e) bits f h =
-    let same = eqb-true bits (toBits binary64 (fin s m e)) (unless-none _ 6 h) in
+judged-fits true true true x bits f h =
+    let same = eqb-true bits (toBits binary64 x) (unless-none _ 6 h) in
     let size : 2 * top binary64 ≡ 256 ^ 8 = refl in
-    rw (same, ← size) (toBits-lt binary64 (fin s m e) f)
+    rw (same, ← size) (toBits-lt binary64 x f)
 
 pub limit-fits : (form : ℕ) (times : List ℕ) (c bits : ℕ) → judgeLimit (limitOf form times c) bits ≡ 0 → bits < 256 ^ 8
 unfolding limitOf
@@ -114,30 +83,12 @@ limit-fits form times c bits h =
 -- ---- the limits of an offer
 
 module _ (times : List ℕ) (t : timesInRange times ≡ true) where
-  pub limits-refused : (cs : List ℕ) → each (inRange minChance maxChance) cs ≡ true
-      → limitsRefusal times cs ≡ unless (allFinite sampleForm times cs) finiteRefusal
-  unfolding limitsRefusal each firstOf unless
-  limits-refused [] h = refl
-  limits-refused (c ∷ cs) h =
+  pub limits-are : (cs : List ℕ) → each (inRange minChance maxChance) cs ≡ true → limitsOf times cs ≡ formulaBits sampleForm times cs
+  unfolding limitBits limitsOf formulaBits each
+  limits-are [] h = refl
+  limits-are (c ∷ cs) h =
       let e = limit-worked sampleForm times c sample-known t (R.first-of _ (each (inRange minChance maxChance) cs) h) in
-      let ih = limits-refused cs (R.second-of (inRange minChance maxChance c) _ h) in
-      let rest : List ℕ = map (λ (d : ℕ). judgeWorked (limitOf sampleForm times d)) cs in
-      rw e (rw (judge-worked (workedOut sampleForm times c)) (firsts (finite (workedOut sampleForm times c)) (allFinite sampleForm times cs) rest ih))
-    where
-      firsts : (a b : Bool) (ns : List ℕ) → firstOf ns ≡ unless b finiteRefusal
-          → firstOf (unless a finiteRefusal ∷ ns) ≡ unless (a && b) finiteRefusal
-      firsts true b ns h = h
-      firsts false b ns h = refl
-
-  pub limits-are : (cs : List ℕ) → each (inRange minChance maxChance) cs ≡ true → allFinite sampleForm times cs ≡ true
-      → limitsOf times cs ≡ formulaBits sampleForm times cs
-  unfolding limitsOf formulaBits each
-  limits-are [] h k = refl
-  limits-are (c ∷ cs) h k =
-      let e = limit-worked sampleForm times c sample-known t (R.first-of _ (each (inRange minChance maxChance) cs) h) in
-      ap₂ (λ (x : ℕ) (xs : List ℕ). x ∷ xs)
-      (ap limitBits e ∙ bits-worked (workedOut sampleForm times c) (R.first-of _ (allFinite sampleForm times cs) k))
-      (limits-are cs (R.second-of (inRange minChance maxChance c) _ h) (R.second-of (finite (workedOut sampleForm times c)) _ k))
+      ap₂ (λ (x : ℕ) (xs : List ℕ). x ∷ xs) (ap limitBits e) (limits-are cs (R.second-of (inRange minChance maxChance c) _ h))
 
 -- ---- the limits of a record, by its reader's rules
 
@@ -147,27 +98,26 @@ module _ (form : ℕ) (f : formKnown form ≡ true) (times : List ℕ) (t : time
   rule all before = judgeLimit (limitOf form times (getD all (length before) 0))
 
   pub limits-good : (all done cs before : List ℕ) → all ≡ done ++ cs → length before ≡ length done
-      → each (inRange minChance maxChance) cs ≡ true → allFinite form times cs ≡ true → itemsRefusal (rule all) before (formulaBits form times cs) ≡ 0
+      → each (inRange minChance maxChance) cs ≡ true → itemsRefusal (rule all) before (formulaBits form times cs) ≡ 0
   unfolding itemsRefusal formulaBits each
-  limits-good all done [] before e n h k = refl
-  limits-good all done (c ∷ cs) before e n h k =
+  limits-good all done [] before e n h = refl
+  limits-good all done (c ∷ cs) before e n h =
       let x : ℕ = toBits binary64 (workedOut form times c) in
       let this : getD all (length before) 0 ≡ c = ap (λ (l : List ℕ). getD l (length before) 0) e ∙ getD-at done c cs 0 (length before) (sym n) in
       let own : rule all before x ≡ 0 =
       ap (λ (d : ℕ). judgeLimit (limitOf form times d) x) this
       ∙ ap (λ (r : LimitResult). judgeLimit r x) (limit-worked form times c f t (R.first-of _ (each (inRange minChance maxChance) cs) h))
-      ∙ judge-own (workedOut form times c) (R.first-of _ (allFinite form times cs) k) in
+      ∙ judge-own (workedOut form times c) in
       let more : length (before ++ x ∷ []) ≡ length (done ++ c ∷ []) = rw (length-append before, length-append done, n) refl in
       let rest = limits-good all (done ++ c ∷ []) cs (before ++ x ∷ []) (e ∙ sym (append-snoc done c cs)) more
-      (R.second-of (inRange minChance maxChance c) _ h) (R.second-of (finite (workedOut form times c)) _ k) in
+      (R.second-of (inRange minChance maxChance c) _ h) in
       none-first (rule all before x) _ own (none-first _ [] rest (unfold firstOf in refl))
 
-  -- limits that nothing refuses, as many as the chances, are the formula's, and each is finite
+  -- limits that nothing refuses, as many as the chances, are the formula's
   pub limits-exact : (all done cs before ls : List ℕ) → all ≡ done ++ cs → length before ≡ length done → length ls ≡ length cs
-      → each (inRange minChance maxChance) cs ≡ true → itemsRefusal (rule all) before ls ≡ 0
-      → (allFinite form times cs ≡ true) × (ls ≡ formulaBits form times cs)
+      → each (inRange minChance maxChance) cs ≡ true → itemsRefusal (rule all) before ls ≡ 0 → ls ≡ formulaBits form times cs
   unfolding itemsRefusal formulaBits each
-  limits-exact all done [] before [] e n l h k = (refl, refl)
+  limits-exact all done [] before [] e n l h k = refl
   limits-exact all done [] before (x ∷ ls) e n l h k = absurd (omega arith)
   limits-exact all done (c ∷ cs) before [] e n l h k = absurd (omega arith)
   limits-exact all done (c ∷ cs) before (x ∷ ls) e n l h k =
@@ -181,4 +131,4 @@ module _ (form : ℕ) (f : formKnown form ≡ true) (times : List ℕ) (t : time
       let rest = limits-exact all (done ++ c ∷ []) cs (before ++ x ∷ []) ls (e ∙ sym (append-snoc done c cs)) more (omega arith)
       (R.second-of (inRange minChance maxChance c) _ h)
       (first-none (itemsRefusal (rule all) (before ++ x ∷ []) ls) [] (z .1) .0) in
-      (R.both (own .0) (rest .0), ap₂ (λ (y : ℕ) (ys : List ℕ). y ∷ ys) (own .1) (rest .1))
+      ap₂ (λ (y : ℕ) (ys : List ℕ). y ∷ ys) own rest

@@ -3,23 +3,19 @@
 use mathlib.Core.Path.{_≡_, refl, ap, _∙_}
 use Prim.Native.Nat.{ℕ, zero, suc, _+_, _≤_, _<_}
 use mathlib.Core.List.{List, [], _∷_, _++_, map, append-nil}
-use mathlib.Core.Bool.{true}
 use native.Mathlib.Omega.{arith}
 use native.Mathlib.Nat.{zero-add}
 use lib.ListN.{length, take, getD, replicate, length-replicate, getD-replicate}
 use lib.Seq.{append-snoc}
-use lib.Ieee.Scale.{finite}
 use borrow.Author.Tests.{le-leb, lt-leb, lt-ltb}
-use Rattle.limit.specs.Formula.{sampleForm}
 use Rattle.journal_spec.specs.Refusals.{roomRefusal, unless, firstOf}
 use Rattle.journal_spec.specs.Record.{Record, IsDay, lastOf, recordBytes}
 use Rattle.journal_spec.specs.Scan.{maxLength}
 use Rattle.journal_spec.specs.Request.{Budget, all, upTo, Request, Offer, offerOf, allowed, extended, declined}
 use Rattle.journal_spec.specs.Calls.{Call}
-use Rattle.journal_spec.specs.Model.{Model, emptyModel, lengthsOf, committedOf, workedOut, recordFor, byNumber, verdictOf, Entry}
+use Rattle.journal_spec.specs.Model.{Model, emptyModel, lengthsOf, committedOf, recordFor, byNumber, verdictOf, Entry}
 use Rattle.journal_spec.specs.Model.{enterRecord, enterBy, enter, noRoom, modelRefusals, modelRefusal, modelAfter}
 use Rattle.journal_spec.specs.Ranges.{Accepted}
-use Rattle.journal_spec.proofs.EvenChance.{sample-finite}
 use Rattle.journal_spec.proofs.Records.{length-record}
 use Rattle.journal_spec.proofs.Ranged.{passed, accepted-exactly}
 use Rattle.journal_spec.proofs.Placing.{lengths-snoc}
@@ -98,7 +94,6 @@ accepts room m n day least most fits fits′ = record {
     most = omega arith;
     range = λ i k. two-times i k;
   };
-  limits = λ i k. one-limit i k;
   fitsSlice = rw (named-length n) fits;
   fitsJournal = rw (named-length n) fits′;
 }
@@ -115,10 +110,6 @@ accepts room m n day least most fits fits′ = record {
     two-times zero k = (omega arith, omega arith)
     two-times (suc zero) k = (omega arith, omega arith)
     two-times (suc (suc i)) k = absurd (omega arith)
-
-    one-limit : (i : ℕ) → i < 1 → finite (workedOut sampleForm (100 ∷ 100 ∷ []) (getD (500_000 ∷ []) i 0)) ≡ true
-    one-limit zero k = sample-finite
-    one-limit (suc i) k = absurd (omega arith)
 
 -- a model whose last day is not later than 1
 pub record Early (room : ℕ) (m : Model) (ns : List ℕ) : Type 0 where
@@ -174,7 +165,7 @@ unfolding modelRefusal modelRefusals unless firstOf noRoom
 full room m n day least most fits less =
     let big : ℕ = committedOf m + (32 + n) in
     let p = passed big m (named n) (accepted-exactly big m (named n) .1 (accepts big m n day least most (omega arith) fits)) in
-    rw (p .day, p .name, p .chances, p .even, p .times, p .limits, named-length n, lt-ltb room (committedOf m + (32 + n)) less) refl
+    rw (p .day, p .name, p .chances, p .even, p .times, named-length n, lt-ltb room (committedOf m + (32 + n)) less) refl
 
 -- what the model answers then
 pub turned-away : (room : ℕ) (m : Model) (n : ℕ) → modelRefusal room m (named n) ≡ roomRefusal → enter room m (appendNamed n) .answer ≡ declined roomRefusal

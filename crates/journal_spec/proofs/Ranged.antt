@@ -9,7 +9,6 @@ use native.Mathlib.Omega.{arith}
 use lib.ListN.{length, getD, length-map}
 use lib.Dec.{leb, ltb, eqb}
 use lib.Ieee.{binary64, toBits}
-use lib.Ieee.Scale.{finite}
 use borrow.Author.Tests.{le-leb, leb-true, le-ltb, ltb-false, eq-eqb}
 use Rattle.limit.specs.Times.{minTicks, maxTicks, minCount, maxCount, inRange}
 use Rattle.limit.specs.Answer.{chanceRefusal, timesRefusal}
@@ -23,11 +22,11 @@ use Rattle.journal_spec.specs.Record.{maxByte, minChances, maxChances, e
 use Rattle.journal_spec.specs.Scan.{maxLength}
 use Rattle.journal_spec.specs.Request.{Offer}
 use Rattle.journal_spec.specs.Model.{Model, committedOf, workedOut, recordFor, each, rising, dayFalls, nameGood, chancesGood, timesGood}
-use Rattle.journal_spec.specs.Model.{chancesEven, limitsGood, noRoom, modelRefusals, modelRefusal}
-use Rattle.journal_spec.specs.Ranges.{NameRanges, ChanceRanges, TimeRanges, FiniteLimits, Accepted, RecordRanges}
+use Rattle.journal_spec.specs.Model.{chancesEven, noRoom, modelRefusals, modelRefusal}
+use Rattle.journal_spec.specs.Ranges.{NameRanges, ChanceRanges, TimeRanges, Accepted, RecordRanges}
 use Rattle.journal_spec.proofs.Judging.{unless-none, unless-not, unless-true, first-none, none-at, none-first}
 use Rattle.journal_spec.proofs.Each.{each-holds, holds-each, each-range, range-each, rising-holds, holds-rising}
-use Rattle.journal_spec.proofs.Limits.{formulaBits, allFinite, times-good, limits-good, limits-exact}
+use Rattle.journal_spec.proofs.Limits.{formulaBits, times-good, limits-good, limits-exact}
 use Rattle.journal_spec.proofs.Reading.{Reads}
 use Rattle.journal_spec.proofs.Records.{Good, limit-count, form-known, form-range, form-later, record-length, reads-record}
 use Rattle.journal_spec.proofs.SameRefusals.{name-refused, chance-refused, time-refused, chances-each}
@@ -79,12 +78,6 @@ time-ranged xs = (
   λ g. R.both (R.inside minCount maxCount (length xs) (g .least) (g .most)) (range-each minTicks maxTicks xs (g .range)),
 )
 
-pub finite-ranged : (form : ℕ) (times chances : List ℕ) → (allFinite form times chances ≡ true) ↔ FiniteLimits form times chances
-finite-ranged form times chances = (
-  each-holds (λ (c : ℕ). finite (workedOut form times c)) chances,
-  holds-each (λ (c : ℕ). finite (workedOut form times c)) chances,
-)
-
 -- ---- an offer
 
 -- what each test of the model says where none declines
@@ -94,7 +87,6 @@ pub record Passed (room : ℕ) (m : Model) (o : Offer) : Type 0 where
   pub chances : chancesGood (o .chances) ≡ true
   pub even : chancesEven (o .chances) ≡ true
   pub times : timesGood (o .times) ≡ true
-  pub limits : limitsGood o ≡ true
   pub room′ : noRoom room m o ≡ false
 
 pub passed : (room : ℕ) (m : Model) (o : Offer) → modelRefusal room m o ≡ 0 → Passed room m o
@@ -107,13 +99,12 @@ passed room m o h =
       chances = unless-none (chancesGood (o .chances)) 4 (row 2);
       even = unless-none (chancesEven (o .chances)) 16 (row 3);
       times = unless-none (timesGood (o .times)) 5 (row 4);
-      limits = unless-none (limitsGood o) 7 (row 5);
-      room′ = unless-not (noRoom room m o) 8 (row 6);
+      room′ = unless-not (noRoom room m o) 8 (row 5);
     }
 
 pub not-declined : (room : ℕ) (m : Model) (o : Offer) → Passed room m o → modelRefusal room m o ≡ 0
 unfolding modelRefusal modelRefusals unless firstOf
-not-declined room m o p = rw (p .day, p .name, p .chances, p .even, p .times, p .limits, p .room′) refl
+not-declined room m o p = rw (p .day, p .name, p .chances, p .even, p .times, p .room′) refl
 
 either : (a b : Bool) → (a || b) ≡ false → (a ≡ false) × (b ≡ false)
 either true b h = (h, cc)
@@ -121,7 +112,7 @@ either false b h = (refl, h)
 
 -- nothing declines an offer exactly under document 01's ranges
 pub accepted-exactly : (room : ℕ) (m : Model) (o : Offer) → (modelRefusal room m o ≡ 0) ↔ Accepted room m o
-unfolding dayFalls chancesEven noRoom limitsGood
+unfolding dayFalls chancesEven noRoom
 accepted-exactly room m o = (
   λ h.
       let p = passed room m o h in
@@ -133,7 +124,6 @@ accepted-exactly room m o = (
         chances = chance-ranged (o .chances) .0 (p .chances);
         even = λ i k. leb-true (getD (o .chances) i 0) evenChance (each-holds (λ (c : ℕ). leb c evenChance) (o .chances) (p .even) i k);
         times = time-ranged (o .times) .0 (p .times);
-        limits = finite-ranged sampleForm (o .times) (o .chances) .0 (p .limits);
         fitsSlice = ltb-false room size (fit .0);
         fitsJournal = ltb-false maxLength size (fit .1);
       },
@@ -145,7 +135,6 @@ accepted-exactly room m o = (
         chances = chance-ranged (o .chances) .1 (a .chances);
         even = holds-each (λ (c : ℕ). leb c evenChance) (o .chances) (λ i k. le-leb (getD (o .chances) i 0) evenChance (a .even i k));
         times = time-ranged (o .times) .1 (a .times);
-        limits = finite-ranged sampleForm (o .times) (o .chances) .1 (a .limits);
         room′ = rw (le-ltb room size (a .fitsSlice), le-ltb maxLength size (a .fitsJournal)) refl;
       }),
 )
@@ -153,18 +142,18 @@ accepted-exactly room m o = (
 -- ---- a record
 
 -- the formula's limits are not refused
-own-limits : (form : ℕ) (cs ts : List ℕ) → formKnown form ≡ true → chancesGood cs ≡ true → timesGood ts ≡ true → allFinite form ts cs ≡ true
+own-limits : (form : ℕ) (cs ts : List ℕ) → formKnown form ≡ true → chancesGood cs ≡ true → timesGood ts ≡ true
     → sectionRefusal (limitSection form cs ts) (formulaBits form ts cs) ≡ 0
 unfolding sectionRefusal limitSection
-own-limits form cs ts k c t f =
+own-limits form cs ts k c t =
     let n : length (formulaBits form ts cs) ≡ length cs = unfold formulaBits in length-map cs _ in
     none-first _ _
     (unless-true (eqb (length (formulaBits form ts cs)) (length cs)) limitRefusal (eq-eqb (length (formulaBits form ts cs)) (length cs) n))
-    (none-first _ [] (limits-good form k ts (sym (times-good ts) ∙ t) cs [] cs [] refl refl (chances-each cs c) f) (unfold firstOf in refl))
+    (none-first _ [] (limits-good form k ts (sym (times-good ts) ∙ t) cs [] cs [] refl refl (chances-each cs c)) (unfold firstOf in refl))
 
 -- limits that are not refused are the formula's
 exact-limits : (form : ℕ) (cs ts ls : List ℕ) → formKnown form ≡ true → chancesGood cs ≡ true → timesGood ts ≡ true → length ls ≡ length cs
-    → sectionRefusal (limitSection form cs ts) ls ≡ 0 → (allFinite form ts cs ≡ true) × (ls ≡ formulaBits form ts cs)
+    → sectionRefusal (limitSection form cs ts) ls ≡ 0 → ls ≡ formulaBits form ts cs
 unfolding sectionRefusal limitSection
 exact-limits form cs ts ls k c t n h =
     limits-exact form k ts (sym (times-good ts) ∙ t) cs [] cs [] ls refl refl n (chances-each cs c)
@@ -173,9 +162,9 @@ exact-limits form cs ts ls k c t n h =
 -- a record whose parts pass the tests and whose limits are the formula's
 pub good-record : (last : Last) (r : Record) → formKnown (r .form) ≡ true → last .form ≤ r .form → last .day ≤ r .day → IsDay (r .day)
     → nameGood (r .name) ≡ true → chancesGood (r .chances) ≡ true → timesGood (r .times) ≡ true
-    → allFinite (r .form) (r .times) (r .chances) ≡ true → r .limits ≡ formulaBits (r .form) (r .times) (r .chances) → Good last r
+    → r .limits ≡ formulaBits (r .form) (r .times) (r .chances) → Good last r
 unfolding judgeForm judgeDay
-good-record last r known forms day fits name chances times finite′ limits = record {
+good-record last r known forms day fits name chances times limits = record {
   form = none-first _ _ (unless-true (formKnown (r .form)) 2 known)
       (none-first _ [] (unless-true (leb (last .form) (r .form)) 13 (le-leb (last .form) (r .form) forms)) (unfold firstOf in refl));
   day = unless-true (leb (last .day) (r .day)) dayRefusal (le-leb (last .day) (r .day) day);
@@ -184,7 +173,7 @@ good-record last r known forms day fits name chances times finite′ limits = re
   chances = chance-refused (r .chances) ∙ unless-true (chancesGood (r .chances)) chanceRefusal chances;
   times = time-refused (r .times) ∙ unless-true (timesGood (r .times)) timesRefusal times;
   limits = ap (sectionRefusal (limitSection (r .form) (r .chances) (r .times))) limits
-      ∙ own-limits (r .form) (r .chances) (r .times) known chances times finite′;
+      ∙ own-limits (r .form) (r .chances) (r .times) known chances times;
 }
 
 -- limits that are the formula's at each place are the formula's list
@@ -228,13 +217,12 @@ good-exactly last r = (
         chances = chance-ranged (r .chances) .0 chances;
         times = time-ranged (r .times) .0 times;
         limitCount = count;
-        finite = finite-ranged (r .form) (r .times) (r .chances) .0 (l .0);
-        limits = list-formula (r .form) (r .times) (r .chances) (r .limits) (l .1);
+        limits = list-formula (r .form) (r .times) (r .chances) (r .limits) l;
       },
   λ k.
       good-record last r (unfold formKnown in R.inside plainForm sampleForm (r .form) (k .form .0) (k .form .1)) (k .forms) (k .day) (k .dayFits)
       (name-ranged (r .name) .1 (k .name)) (chance-ranged (r .chances) .1 (k .chances))
-      (time-ranged (r .times) .1 (k .times)) (finite-ranged (r .form) (r .times) (r .chances) .1 (k .finite))
+      (time-ranged (r .times) .1 (k .times))
       (formula-list (r .form) (r .times) (r .chances) (r .limits) (k .limitCount) (k .limits)),
 )
 

@@ -21,10 +21,10 @@ use Rattle.journal_spec.specs.Scan.{maxLength}
 use Rattle.journal_spec.specs.Request.{Offer}
 use Rattle.journal_spec.specs.Append.{offered, limitsOf, judgeEven, judgeRoom, appendRefusal}
 use Rattle.journal_spec.specs.Model.{Model, committedOf, recordFor, each, risingFrom, rising, dayFalls, nameGood, chancesGood}
-use Rattle.journal_spec.specs.Model.{chancesEven, timesGood, limitsGood, noRoom, modelRefusals, modelRefusal}
+use Rattle.journal_spec.specs.Model.{chancesEven, timesGood, noRoom, modelRefusals, modelRefusal}
 use Rattle.journal_spec.proofs.Judging.{first-of-two, unless-none, unless-true}
 use Rattle.journal_spec.proofs.Reading.{by-order}
-use Rattle.journal_spec.proofs.Limits.{formulaBits, times-good, limits-refused, limits-are}
+use Rattle.journal_spec.proofs.Limits.{formulaBits, times-good, limits-are}
 use Rattle.journal_spec.proofs.Records.{length-record}
 
 -- ---- the sections, as tests of the whole list
@@ -196,7 +196,7 @@ same-length o = length-record (offered o) ∙ rw (length-map, length-map) refl �
 
 pub same-refusal : (room : ℕ) (m : Model) (o : Offer)
     → appendRefusal room (lastOf (m .records)) (committedOf m) o ≡ modelRefusal room m o
-unfolding appendRefusal modelRefusal modelRefusals judgeDay judgeRoom dayFalls noRoom limitsGood
+unfolding appendRefusal modelRefusal modelRefusals judgeDay judgeRoom dayFalls noRoom
 same-refusal room m o =
     let size : ℕ = committedOf m + length (recordBytes (recordFor o)) in
     let good = unless-none (chancesGood (o .chances)) 4 in
@@ -211,12 +211,8 @@ same-refusal room m o =
             λ even. (
               time-refused (o .times),
               λ times. (
-                (let t = unless-none (timesGood (o .times)) 5 times in
-                    limits-refused (o .times) (sym (times-good (o .times)) ∙ t) (o .chances) (chances-each (o .chances) (good chances))),
-                λ limits. (
-                  rw (same-length o, fits-both size room maxLength) refl,
-                  λ fits. tt,
-                ),
+                rw (same-length o, fits-both size room maxLength) refl,
+                λ fits. tt,
               ),
             ),
           ),
@@ -225,9 +221,9 @@ same-refusal room m o =
     )
 
 -- an offer that is not declined is the model's record
-pub same-record : (o : Offer) → chancesGood (o .chances) ≡ true → timesGood (o .times) ≡ true → limitsGood o ≡ true → offered o ≡ recordFor o
-unfolding offered recordFor limitsGood formulaBits
-same-record o c t l =
+pub same-record : (o : Offer) → chancesGood (o .chances) ≡ true → timesGood (o .times) ≡ true → offered o ≡ recordFor o
+unfolding offered recordFor formulaBits
+same-record o c t =
     let e : limitsOf (o .times) (o .chances) ≡ formulaBits sampleForm (o .times) (o .chances) =
-    limits-are (o .times) (sym (times-good (o .times)) ∙ t) (o .chances) (chances-each (o .chances) c) l in
+    limits-are (o .times) (sym (times-good (o .times)) ∙ t) (o .chances) (chances-each (o .chances) c) in
     rw e refl

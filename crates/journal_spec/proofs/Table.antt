@@ -9,7 +9,6 @@ use native.Mathlib.Omega.{arith}
 use lib.ListN.{length, take, drop, getD, length-drop}
 use lib.Dec.{leb, eqb}
 use borrow.Author.Tests.{eqb-true}
-use Rattle.limit.specs.Formula.{sampleForm}
 use Rattle.limit.specs.Answer.{LimitResult, limited, refused}
 use Rattle.limit.specs.Limit.{limitOf}
 use Rattle.limit.proofs.InRange as R
@@ -22,7 +21,7 @@ use Rattle.journal_spec.specs.Record.{timeSection, limitSection, recordR
 use Rattle.journal_spec.specs.Scan.{maxLength, Placed, recordsOf, Contents, standing, faulty, contentsFrom, contentsOf, statusOf, scanOf}
 use Rattle.journal_spec.specs.Scan as S
 use Rattle.journal_spec.specs.Request.{Journal, Budget, Request, Offer, offerOf, declined}
-use Rattle.journal_spec.specs.Append.{judgeEven, judgeWorked, limitsRefusal, judgeRoom, appendRefusal, unchanged, extend, settle, appendTo, appendOf}
+use Rattle.journal_spec.specs.Append.{judgeEven, judgeRoom, appendRefusal, unchanged, extend, settle, appendTo, appendOf}
 use Rattle.journal_spec.specs.Model.{each, nameGood, chancesGood, timesGood}
 use Rattle.journal_spec.proofs.Reading.{by-order, field-cases, run-left}
 use Rattle.journal_spec.proofs.Scanning.{contents-fits, contents-long, turn-short, turn-fault, turn-found}
@@ -70,7 +69,7 @@ Among table n = among table n ≡ true
 
 -- the numbers of a record that is read, in the order in which they are judged
 abbrev pub recordNumbers : List ℕ
-recordNumbers = 2 ∷ 13 ∷ 3 ∷ 4 ∷ 5 ∷ 6 ∷ 7 ∷ 8 ∷ []
+recordNumbers = 2 ∷ 13 ∷ 3 ∷ 4 ∷ 5 ∷ 6 ∷ 7 ∷ []
 
 abbrev pub OfRecord : ℕ → Type 0
 OfRecord = Among recordNumbers
@@ -241,20 +240,10 @@ length-exactly slice len = (λ h. beyond (contentsOf slice len) refl h, λ b. �
 
 -- the numbers of a declined append, in the order in which they are judged (7 is none of them: an offer's limits are worked out, not given)
 abbrev pub appendNumbers : List ℕ
-appendNumbers = 3 ∷ 4 ∷ 5 ∷ 17 ∷ 6 ∷ 8 ∷ 9 ∷ []
+appendNumbers = 3 ∷ 4 ∷ 5 ∷ 17 ∷ 6 ∷ 9 ∷ []
 
 abbrev pub OfOffer : ℕ → Type 0
 OfOffer = Among appendNumbers
-
-worked-number : (r : LimitResult) (n : ℕ) → judgeWorked r ≡ suc n → OfOffer (suc n)
-unfolding judgeWorked among
-worked-number (limited x) n h = absurd (omega arith)
-worked-number (refused m) n h = rw (← h) refl
-
-limits-number : (times chances : List ℕ) (n : ℕ) → limitsRefusal times chances ≡ suc n → OfOffer (suc n)
-unfolding limitsRefusal
-limits-number times [] n h = unfold firstOf in absurd (omega arith)
-limits-number times (c ∷ cs) n h = first-number OfOffer _ _ n (λ m e. worked-number (limitOf sampleForm times c) m e) (λ m e. limits-number times cs m e) h
 
 append-number : (room : ℕ) (last : Last) (committed : ℕ) (o : Offer) (n : ℕ) → appendRefusal room last committed o ≡ suc n → OfOffer (suc n)
 unfolding appendRefusal judgeDay judgeEven judgeRoom among
@@ -265,9 +254,8 @@ append-number room last committed o =
     (row (λ n e. only appendNumbers (chancesGood (o .chances)) 5 n refl (sym (chance-refused (o .chances)) ∙ e))
     (row (λ n e. only appendNumbers _ 17 n refl e)
     (row (λ n e. only appendNumbers (timesGood (o .times)) 6 n refl (sym (time-refused (o .times)) ∙ e))
-    (row (limits-number (o .times) (o .chances))
     (row (λ n e. only appendNumbers _ 9 n refl e)
-    end)))))))
+    end))))))
 
 extended-not-declined : (j : Journal) (committed : ℕ) (new : List ℕ) (n : ℕ) → settle 0 j committed new .answer ≡ declined n → ⊥
 unfolding settle extend

@@ -6,7 +6,7 @@ use lib.ListN.{length, take, drop}
 use lib.Dec.{leb}
 use lib.Ieee.{binary64, toBits}
 use Rattle.limit.specs.Formula.{sampleForm}
-use Rattle.limit.specs.Answer.{LimitResult, limited, refused, finiteRefusal}
+use Rattle.limit.specs.Answer.{LimitResult, limited, refused}
 use Rattle.limit.specs.Limit.{limitOf}
 use Rattle.journal_spec.specs.Refusals.{roomRefusal, evenRefusal, unless, firstOf}
 use Rattle.journal_spec.specs.Section.{sectionRefusal}
@@ -42,20 +42,11 @@ offered o = record {
 unfoldable pub judgeEven : List ℕ → ℕ
 judgeEven chances = unless (leb (lastChance chances) evenChance) evenRefusal
 
--- the refusal of a limit worked out. The chances and times are in range where this is asked, so that it can only be not finite.
-unfoldable pub judgeWorked : LimitResult → ℕ
-judgeWorked (limited x) = 0
-judgeWorked (refused n) = finiteRefusal
-
--- the first refusal of an offer's limits: 8
-unfoldable pub limitsRefusal : List ℕ → List ℕ → ℕ
-limitsRefusal times chances = firstOf (map (λ (c : ℕ). judgeWorked (limitOf sampleForm times c)) chances)
-
 -- 9 exactly if the record ends beyond the slice, which has `room` bytes, or beyond the longest journal
 unfoldable pub judgeRoom : ℕ → ℕ → ℕ → ℕ
 judgeRoom room committed size = unless (leb (committed + size) (min room maxLength)) roomRefusal
 
--- the refusal of an offer, the first in document 01's order: 3, 4, 5, 17, 6, 8, 9
+-- the refusal of an offer, the first in the papers' order: 3, 4, 5, 17, 6, 9
 unfoldable pub appendRefusal : ℕ → Last → ℕ → Offer → ℕ
 appendRefusal room last committed o =
     firstOf
@@ -64,7 +55,6 @@ appendRefusal room last committed o =
     ∷ sectionRefusal chanceSection (o .chances)
     ∷ judgeEven (o .chances)
     ∷ sectionRefusal timeSection (o .times)
-    ∷ limitsRefusal (o .times) (o .chances)
     ∷ judgeRoom room committed (length (recordBytes (offered o)))
     ∷ [])
 

@@ -7,10 +7,9 @@ use mathlib.Core.Bool.{Bool, true, cond, _&&_, _||_, not}
 use lib.ListN.{length, take}
 use lib.Dec.{leb, ltb}
 use lib.Ieee.{Float, binary64, toBits}
-use lib.Ieee.Scale.{finite}
 use Rattle.limit.specs.Times.{minTicks, maxTicks, minCount, maxCount, inRange, sumOf, squaresOf}
 use Rattle.limit.specs.Formula.{sampleForm, formulaOf}
-use Rattle.limit.specs.Answer.{chanceRefusal, timesRefusal, finiteRefusal}
+use Rattle.limit.specs.Answer.{chanceRefusal, timesRefusal}
 use Rattle.limit.specs.Limit.{minChance, maxChance}
 use Rattle.journal_spec.specs.Refusals.{dayRefusal, nameRefusal, roomRefusal, evenRefusal, unless, firstOf}
 use Rattle.journal_spec.specs.Record.{Record, lastOf, minName, maxName, minByte, maxByte, minChances, maxChances, evenChance, recordBytes}
@@ -90,10 +89,6 @@ chancesEven chances = each (λ (c : ℕ). leb c evenChance) chances
 unfoldable pub timesGood : List ℕ → Bool
 timesGood times = inRange minCount maxCount (length times) && each (inRange minTicks maxTicks) times
 
--- 8: a limit worked out not finite
-unfoldable pub limitsGood : Offer → Bool
-limitsGood o = each (λ (c : ℕ). finite (workedOut sampleForm (o .times) c)) (o .chances)
-
 -- 9: the committed length and the record's length together beyond the slice or the longest journal
 unfoldable pub noRoom : ℕ → Model → Offer → Bool
 noRoom room m o = ltb room (committedOf m + length (recordBytes (recordFor o))) || ltb maxLength (committedOf m + length (recordBytes (recordFor o)))
@@ -106,7 +101,6 @@ modelRefusals room m o =
     ∷ unless (chancesGood (o .chances)) chanceRefusal
     ∷ unless (chancesEven (o .chances)) evenRefusal
     ∷ unless (timesGood (o .times)) timesRefusal
-    ∷ unless (limitsGood o) finiteRefusal
     ∷ unless (not (noRoom room m o)) roomRefusal
     ∷ []
 

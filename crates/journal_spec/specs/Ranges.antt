@@ -3,10 +3,8 @@
 use mathlib.Core.Path.{_≡_}
 use Prim.Native.Nat.{ℕ, suc, _+_, _≤_, _<_}
 use mathlib.Core.List.{List, [], _∷_, _++_}
-use mathlib.Core.Bool.{true}
 use lib.ListN.{length, getD}
 use lib.Ieee.{binary64, toBits}
-use lib.Ieee.Scale.{finite}
 use Rattle.limit.specs.Times.{minTicks, maxTicks, minCount, maxCount}
 use Rattle.limit.specs.Formula.{plainForm, sampleForm}
 use Rattle.limit.specs.Limit.{minChance, maxChance}
@@ -39,10 +37,6 @@ pub record TimeRanges (times : List ℕ) : Type 0 where
   pub most : length times ≤ maxCount
   pub range : Each minTicks maxTicks times
 
--- each limit worked out is finite
-abbrev pub FiniteLimits : ℕ → List ℕ → List ℕ → Type 0
-FiniteLimits form times chances = (i : ℕ) → i < length chances → finite (workedOut form times (getD chances i 0)) ≡ true
-
 -- an offer that a journal with these records and this room takes
 pub record Accepted (room : ℕ) (m : Model) (o : Offer) : Type 0 where
   pub day : lastOf (m .records) .day ≤ o .day
@@ -50,7 +44,6 @@ pub record Accepted (room : ℕ) (m : Model) (o : Offer) : Type 0 where
   pub chances : ChanceRanges (o .chances)
   pub even : (i : ℕ) → i < length (o .chances) → getD (o .chances) i 0 ≤ evenChance
   pub times : TimeRanges (o .times)
-  pub limits : FiniteLimits sampleForm (o .times) (o .chances)
   pub fitsSlice : committedOf m + length (recordBytes (recordFor o)) ≤ room
   pub fitsJournal : committedOf m + length (recordBytes (recordFor o)) ≤ maxLength
 
@@ -64,7 +57,6 @@ pub record RecordRanges (last : Last) (r : Record) : Type 0 where
   pub chances : ChanceRanges (r .chances)
   pub times : TimeRanges (r .times)
   pub limitCount : length (r .limits) ≡ length (r .chances)
-  pub finite : FiniteLimits (r .form) (r .times) (r .chances)
   pub limits : (i : ℕ) → i < length (r .chances) → getD (r .limits) i 0 ≡ toBits binary64 (workedOut (r .form) (r .times) (getD (r .chances) i 0))
 
 -- each record may stand after those before it

@@ -7,7 +7,7 @@ use lib.ListN.{length, getD}
 use lib.Dec.{leb, ltb, eqb}
 use lib.Ieee.{binary64, toBits}
 use Rattle.limit.specs.Times.{minTicks, maxTicks, minCount, maxCount}
-use Rattle.limit.specs.Answer.{LimitResult, limited, refused, formRefusal, chanceRefusal, timesRefusal, finiteRefusal}
+use Rattle.limit.specs.Answer.{LimitResult, limited, refused, formRefusal, chanceRefusal, timesRefusal}
 use Rattle.limit.specs.Limit.{formKnown, chanceInRange, limitOf}
 use Rattle.journal_spec.specs.Bytes.{bytesOf, joined}
 use Rattle.journal_spec.specs.Refusals.{dayRefusal, nameRefusal, limitRefusal, oldFormRefusal, unless, outside, firstOf}
@@ -102,13 +102,13 @@ timeSection = record {
   item = λ before. outside minTicks maxTicks timesRefusal;
 }
 
--- The bits of a limit, against the limit worked out: first that it is finite, then that the bits are its own. The chances and times are in
--- range where this is asked, so that not finite is all that `limitOf` can refuse.
+-- The bits of a limit, against the limit worked out. Form, chances and times are in range where this is asked, so that `limitOf` refuses
+-- nothing.
 unfoldable pub judgeLimit : LimitResult → ℕ → ℕ
 judgeLimit (limited x) bits = unless (eqb bits (toBits binary64 x)) limitRefusal
-judgeLimit (refused n) bits = finiteRefusal
+judgeLimit (refused n) bits = limitRefusal
 
--- the limits' section, under the record's own form: 7 for its count, as many limits as chances in their order, then 8 and 7 for each
+-- the limits' section, under the record's own form: 7 for its count, as many limits as chances in their order, and for each
 unfoldable pub limitSection : ℕ → List ℕ → List ℕ → Section
 limitSection form chances times = record {
   width = 8;

@@ -17,7 +17,7 @@ use Rattle.pxfm.specs.Inverfc.{zetaSqrt, asymptotic, inverfcExtraSmall, fErfcin
 use Rattle.limit.specs.Times.{inRange, timeInRange, allInRange, timesInRange, sumOf, squaresOf}
 use Rattle.limit.specs.Formula.{plainForm, sampleForm, meanOf, spreadBy, divisorOf, spreadOf, quantileOf, limitFrom, formulaOf}
 use Rattle.limit.specs.Answer.{LimitResult, limited}
-use Rattle.limit.specs.Limit.{formKnown, chanceInRange, finiteOrRefused, judge, limitOf}
+use Rattle.limit.specs.Limit.{formKnown, chanceInRange, judge, limitOf}
 
 -- The root over bit patterns.
 abbrev sqrtBits : ℕ → ℕ
@@ -57,7 +57,7 @@ unfolding leadingZeros ofBits toBits ofInt isNan eq lt le add sub mul div neg ro
     powInverse p1 logPoly1 fastLogDdInvLo fastLogDdInvHi scaledOf indexOf factorOf carryOf reducedOf exponentOf partsOf fastLogDToDd
     paired14 pAsymptLong qAsymptLong inverfAsymptLong zetaSqrt asymptotic inverfcExtraSmall fErfcinv
     inRange timeInRange allInRange timesInRange sumOf squaresOf meanOf spreadBy divisorOf spreadOf quantileOf limitFrom formulaOf
-    formKnown chanceInRange finiteOrRefused judge limitOf
+    formKnown chanceInRange judge limitOf
 computed = (
   record {
     quantile-at-zero = refl;

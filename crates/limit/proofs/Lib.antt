@@ -15,4 +15,3 @@ pub mod Inputs
 pub mod Meaning
 pub mod Cases
 pub mod Refusals
-mod Finite

@@ -22,10 +22,6 @@ chanceRefusal = 5
 abbrev pub timesRefusal : ℕ
 timesRefusal = 6
 
--- document 01's refusal 8: limit not finite
-abbrev pub finiteRefusal : ℕ
-finiteRefusal = 8
-
 -- document 01's number and values for each case of the code's answer
 unfoldable pub meaning : Answer → LimitResult
 meaning (Limit x) = limited x

@@ -1,16 +1,15 @@
 -- The limit operation of documents 01 and 02: the limit of a list of times at a chance under a form, or the first refusal that holds, in
--- the order 2, 5, 6, 8. The same is said over the sums of the times, for a caller that has summed them already.
+-- the order 2, 5, 6. The same is said over the sums of the times, for a caller that has summed them already.
 use Prim.Native.Nat.{ℕ}
 use mathlib.Core.Bool.{Bool, cond}
 use mathlib.Core.List.{List}
 use lib.ListN.{length}
 use lib.Ieee.{Float}
-use lib.Ieee.Scale.{finite}
 use Rattle.limit.specs.declared.sums.Sums.{Sums}
 use Rattle.limit.specs.Times.{inRange, timesInRange, sumOf, squaresOf}
 use Rattle.limit.specs.Sums.{isPlausible}
 use Rattle.limit.specs.Formula.{plainForm, sampleForm, formulaOf}
-use Rattle.limit.specs.Answer.{LimitResult, limited, refused, formRefusal, chanceRefusal, timesRefusal, finiteRefusal}
+use Rattle.limit.specs.Answer.{LimitResult, limited, refused, formRefusal, chanceRefusal, timesRefusal}
 
 -- the form is 1 or 2: what refusal 2 asks
 unfoldable pub formKnown : ℕ → Bool
@@ -27,16 +26,13 @@ maxChance = 999_999
 unfoldable pub chanceInRange : ℕ → Bool
 chanceInRange = inRange minChance maxChance
 
--- the value as a limit, or refusal 8 of a NaN or an infinity
-unfoldable pub finiteOrRefused : Float → LimitResult
-finiteOrRefused x = cond (finite x) (limited x) (refused finiteRefusal)
-
--- the order of the refusals: the form, then the chance, then the times, then the value
+-- The order of the refusals: the form, then the chance, then the times. What is then worked out is finite (`finite-limits`, crate finite), so
+-- that nothing is refused of it (document 02, 2026-06).
 unfoldable pub judge : Bool → Bool → Bool → Float → LimitResult
 judge formGood chanceGood timesGood x =
     cond formGood
     (cond chanceGood
-    (cond timesGood (finiteOrRefused x) (refused timesRefusal))
+    (cond timesGood (limited x) (refused timesRefusal))
     (refused chanceRefusal))
     (refused formRefusal)
 

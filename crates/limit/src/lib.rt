@@ -2,7 +2,7 @@
 // its refusals. `limit` takes the times; `limit_of_sums` takes their sums, for a caller that has read the times already.
 ghost use mathlib.Core.Path.{_≡_};
 ghost use Rattle.limit.specs.Answer.{meaning};
-ghost use Rattle.limit.specs.Limit.{chanceInRange, finiteOrRefused, formKnown, limitOf, limitOfSums};
+ghost use Rattle.limit.specs.Limit.{chanceInRange, formKnown, limitOf, limitOfSums};
 use crate::ranges::in_range;
 use crate::sums::Gathered;
 use crate::sums::Sums;
@@ -21,14 +21,12 @@ pub const MIN_CHANCE: u64 = 1;
 
 pub const MAX_CHANCE: u64 = 999_999;
 
-// The papers' numbers for a form that there is not, a chance out of range, a count or a time out of range, and a limit that is not finite.
+// The papers' numbers for a form that there is not, a chance out of range, and a count or a time out of range.
 pub const FORM_REFUSAL: u32 = 2;
 
 pub const CHANCE_REFUSAL: u32 = 5;
 
 pub const TIMES_REFUSAL: u32 = 6;
-
-pub const FINITE_REFUSAL: u32 = 8;
 
 // The limit itself, or one refusal number.
 pub enum Answer {
@@ -48,7 +46,7 @@ pub fn limit(form: u64, times: &[u32], chance: u32) -> Answer
     }
     let g = sums::gather(times);
     match g {
-        Gathered::Within(s) => finite_or_refused(formula::formula_of(form, s, chance)),
+        Gathered::Within(s) => Answer::Limit(formula::formula_of(form, s, chance)),
         Gathered::Outside => Answer::Refused(TIMES_REFUSAL),
     }
 }
@@ -66,7 +64,7 @@ pub fn limit_of_sums(form: u64, s: Sums, chance: u32) -> Answer
     if !s.is_plausible() {
         return Answer::Refused(TIMES_REFUSAL);
     }
-    finite_or_refused(formula::formula_of(form, s, chance))
+    Answer::Limit(formula::formula_of(form, s, chance))
 }
 
 fn form_known(form: u64) -> bool
@@ -79,17 +77,4 @@ fn chance_in_range(chance: u32) -> bool
     ensures { λ r. ⌜ r ≡ chanceInRange chance ⌝ }
 {
     in_range(MIN_CHANCE, MAX_CHANCE, chance as u64)
-}
-
-// A NaN compares below nothing, so it fails both tests, and each infinity fails one.
-fn finite_or_refused(x: f64) -> Answer
-    ensures { λ r. ⌜ meaning r ≡ finiteOrRefused x ⌝ }
-{
-    let infinity = f64::from_bits(0x7ff0000000000000);
-    if x < infinity {
-        if -infinity < x {
-            return Answer::Limit(x);
-        }
-    }
-    Answer::Refused(FINITE_REFUSAL)
 }

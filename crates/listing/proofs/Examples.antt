@@ -9,7 +9,7 @@ use Rattle.sqrt.specs.Sqrt.{sqrtIn}
 use Rattle.pxfm.specs.Inverfc.{fErfcinv}
 use Rattle.limit.specs.Times.{inRange, timeInRange, allInRange, timesInRange, sumOf, squaresOf}
 use Rattle.limit.specs.Formula.{meanOf, spreadBy, divisorOf, spreadOf, quantileOf, limitFrom, formulaOf}
-use Rattle.limit.specs.Limit.{formKnown, chanceInRange, finiteOrRefused, judge, limitOf}
+use Rattle.limit.specs.Limit.{formKnown, chanceInRange, judge, limitOf}
 use Rattle.hex.specs.Hex.{glyphOf, digits, orMore, placesIn, placesOf, decimalDigits}
 use Rattle.journal_spec.specs.Bytes.{valueOf, joined}
 use Rattle.journal_spec.specs.Refusals.{unless, outside, firstOf}
@@ -54,7 +54,7 @@ pub record Examples : Type 0 where
 pub listed-examples : Examples
 unfolding ofInt ofBits toBits isNan eq lt add mul div sqrtIn fErfcinv
     inRange timeInRange allInRange timesInRange sumOf squaresOf meanOf spreadBy divisorOf spreadOf quantileOf limitFrom formulaOf
-    formKnown chanceInRange finiteOrRefused judge limitOf glyphOf digits orMore placesIn placesOf decimalDigits
+    formKnown chanceInRange judge limitOf glyphOf digits orMore placesIn placesOf decimalDigits
     valueOf joined unless outside firstOf run then items section
     lastOf judgeForm judgeDay nameSection lastChance judgeChance chanceSection timeSection judgeLimit limitSection recordReader
     recordsOf contentsFrom contentsOf statusOf letterOf allEqual areEqual markFrom markOf

@@ -28,7 +28,6 @@ good-after last next r g f d = record {
   chances = g .chances;
   times = g .times;
   limitCount = g .limitCount;
-  finite = g .finite;
   limits = g .limits;
 }
 

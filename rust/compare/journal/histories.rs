@@ -8,6 +8,7 @@ use crate::tally::Totals;
 use inputs::journal::{record, record_of_size, Fields, LARGEST, OFFERED, SMALLEST};
 use inputs::journal::{CHANCES, NAME_BYTES, TIMES};
 use inputs::random::Random;
+use reference::limit::{Form, Sums};
 use reference::model::{append_upto, Answer, Model, Offer};
 use reference::samples::{filling, joined, old_records, records};
 use reference::scan::MAX_LENGTH;
@@ -72,6 +73,16 @@ impl Run<'_> {
             .map_or(0, |place| place as u64 + 1);
         self.tally
             .take([[differs], [0]], || format!("bytes after {}", input()));
+    }
+
+    /// The limits of an offer that is not declined.
+    fn take_limits(&mut self, offer: &Offer) {
+        let sums = Sums::of(&offer.times);
+        for chance in &offer.chances {
+            let limit = sums.limit_at(Form::Sample, *chance);
+            self.limits
+                .take(limit, &mut self.tally, || format!("{offer:?} at {chance}"));
+        }
     }
 
     /// What scan and reading say of the journal after a call, against the model.
@@ -151,6 +162,7 @@ impl History {
         let answer = self.model.call(self.v.len(), offer, budget);
         if let Answer::Length(length) = answer {
             self.len = length;
+            run.take_limits(offer);
         }
         let made = self.model.bytes();
         self.expected[..made.len()].copy_from_slice(&made);

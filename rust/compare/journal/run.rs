@@ -1,9 +1,9 @@
 // Groups of random inputs of one kind, each with a tally of its own and a generator of its own.
-// All groups of a list share the counts of the answers' kinds.
+// All groups of a list share the counts of the answers' kinds, and the least and the greatest limit of the appends.
 
 use super::words::{mark_word, part_words, scan_words, Kinds};
 use crate::options::Options;
-use crate::tally::{Tally, Totals};
+use crate::tally::{Extremes, Tally, Totals};
 use inputs::random::Random;
 use reference::scan::{Entry, Status};
 
@@ -13,20 +13,23 @@ pub type Group = (&'static str, u64, fn(&mut Random, &mut Run));
 pub struct Run<'a> {
     pub tally: Tally,
     pub kinds: &'a mut Kinds,
+    pub limits: &'a mut Extremes,
 }
 
 pub fn compare_groups(groups: &[Group], options: &Options, totals: &mut Totals) {
-    let mut kinds = Kinds::default();
+    let (mut kinds, mut limits) = (Kinds::default(), Extremes::default());
     for (name, count, each) in groups {
         let mut run = Run {
             tally: Tally::new(*name),
             kinds: &mut kinds,
+            limits: &mut limits,
         };
         let mut random = options.random(name);
         (0..options.times(*count)).for_each(|_| each(&mut random, &mut run));
         run.tally.close(totals);
     }
     kinds.print();
+    limits.print("append, limits");
 }
 
 impl Run<'_> {

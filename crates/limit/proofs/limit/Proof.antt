@@ -1,4 +1,4 @@
--- `limit` judges the form, then the chance, then the times in one pass, then the value, as its definition does.
+-- `limit` judges the form, then the chance, then the times in one pass, as its definition does.
 -- The sums that the pass answers are plausible, since they are those of times in range. Assumes nothing.
 use mathlib.Core.Path.{_≡_, _∙_, sym}
 use mathlib.Core.Bool.{true}
@@ -36,16 +36,15 @@ formula-of-requires : tie.Need-formula-of-requires
 formula-of-requires c κs = let g = gathered (c .before) in rw (g .sums) (times-plausible _ (g .inside))
 
 returns-3 : tie.Need-returns-3
-unfolding limitOf judge sumsOf
+unfolding meaning limitOf judge sumsOf
 returns-3 c =
-    let known = c .before .before .before in
+    let known = c .before .before in
     let g = gathered known in
     rw (
       good-form (known .before .before .before .before .before),
       good-chance (known .before .before .before),
       g .inside,
-      c .finite-or-refused .ensures,
-      c .before .formula-of .ensures,
+      c .formula-of .ensures,
       g .sums,
     )
 
@@ -70,7 +69,6 @@ limit-spec =
     (λ c κs. search needs)
     (λ c. search needs)
     formula-of-requires
-    (λ c κs. search needs)
     (λ c. search needs)
     returns-3
     returns-4)

@@ -1,4 +1,4 @@
--- `limit_of_sums` judges the form, then the chance, then the sums, then the value, as its definition does.
+-- `limit_of_sums` judges the form, then the chance, then the sums, as its definition does.
 -- Assumes nothing.
 use mathlib.Core.Path.{_≡_, _∙_, sym}
 use mathlib.Core.Bool.{true}
@@ -37,14 +37,13 @@ returns-3 c =
     )
 
 returns-4 : tie.Need-returns-4
-unfolding limitOfSums judge
+unfolding meaning limitOfSums judge
 returns-4 c =
     rw (
-      good-form (c .before .before .before .before .before .before),
-      good-chance (c .before .before .before .before),
-      good-sums (c .before .before),
-      c .finite-or-refused .ensures,
-      c .before .formula-of .ensures,
+      good-form (c .before .before .before .before .before),
+      good-chance (c .before .before .before),
+      good-sums (c .before),
+      c .formula-of .ensures,
     )
 
 pub limit-of-sums-spec : {M : Type 1} → statement M
@@ -58,5 +57,4 @@ limit-of-sums-spec =
     (λ c κs. search needs)
     returns-3
     (λ c κs. good-sums c)
-    (λ c κs. search needs)
     returns-4)

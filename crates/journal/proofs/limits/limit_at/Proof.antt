@@ -3,7 +3,7 @@
 use mathlib.Core.Path.{_∙_}
 use borrow.Author.Needs.{needs}
 use denote.Ref.{now}
-use Rattle.journal.proofs.LimitsLoop.{limit-finite, limit-refused}
+use Rattle.journal.proofs.LimitsLoop.{limit-given, limit-refused}
 use Rattle.journal.proofs.limits.limit_at.Statement.{statement}
 use Rattle.journal.proofs.limits.limit_at.Tie as tie
 
@@ -14,7 +14,7 @@ returns c =
     let number = worked .before .number-at in
     let a = worked .before .before .before .args in
     c .field-at .ensures
-    ∙ limit-finite (now (a .b)) (a .form) (a .sums) (a .chance) (a .at) (number .result) (worked .limit-of-sums .result)
+    ∙ limit-given (now (a .b)) (a .form) (a .sums) (a .chance) (a .at) (number .result) (worked .limit-of-sums .result)
     (worked .limit-of-sums .ensures) (number .ensures .0) (found .given .0 .0) (c .before .bits-of .result) (found .given .1)
     (c .before .bits-of .ensures)
 

@@ -6,7 +6,7 @@ use borrow.Author.Needs.{needs}
 use denote.Ref.{now}
 use Rattle.journal.specs.Records.{asLast}
 use Rattle.journal.specs.Handed.{offerFrom}
-use Rattle.journal.proofs.RefusalOrder.{chances-few, day-refused, name-refused, chances-refused, even-refused, times-refused, limits-judged}
+use Rattle.journal.proofs.RefusalOrder.{chances-few, day-refused, name-refused, chances-refused, even-refused, times-refused, none-refused}
 use Rattle.journal.proofs.offer.offer_refusal.Statement.{statement}
 use Rattle.journal.proofs.offer.offer_refusal.Tie as tie
 
@@ -44,8 +44,8 @@ returns-4 c =
     (sym (named .name-refusal .ensures) ∙ omega arith) (sym (chances .chances-refusal .ensures) ∙ omega arith)
     (even .result) (omega arith) (even .ensures)
 
-limits-refusal-requires : tie.Need-limits-refusal-requires
-limits-refusal-requires c κs =
+work-out-requires : tie.Need-work-out-requires
+work-out-requires c κs =
     let chances = c .before .before .before .before .before .before .before .before in
     let start = chances .before .before .before .before .before .before .before .before .before in
     (chances-few (now (start .args .chances)) (sym (chances .chances-refusal .ensures) ∙ omega arith), start .pre)
@@ -53,17 +53,17 @@ limits-refusal-requires c κs =
 returns-5 : tie.Need-returns-5
 unfolding offerFrom asLast
 returns-5 c =
-    let limits = c .before .before .limits-refusal in
+    let worked = c .before .before .work-out in
     let told = c .before .before .before .before .before .g .given in
     let gathered = c .before .before .before .before .before .before .before in
     let even = gathered .before .before in
     let chances = even .before .before in
     let named = chances .before .before in
     let a = named .before .before .before .before .before .before .before .args in
-    limits-judged (asLast (a .last)) (offerFrom (a .day) (now (a .name)) (now (a .chances)) (now (a .times))) _ (omega arith)
+    none-refused (asLast (a .last)) (offerFrom (a .day) (now (a .name)) (now (a .chances)) (now (a .times))) _ (omega arith)
     (sym (named .name-refusal .ensures) ∙ omega arith) (sym (chances .chances-refusal .ensures) ∙ omega arith)
     (sym (even .even-refusal .ensures) ∙ omega arith)
-    (gathered .gather .result) (gathered .gather .ensures) (told .0 .0) (told .1) (limits .result) (limits .ensures)
+    (gathered .gather .result) (gathered .gather .ensures) (told .0 .0) (told .1) (worked .ensures)
 
 returns-6 : tie.Need-returns-6
 unfolding offerFrom asLast
@@ -91,7 +91,7 @@ offer-refusal-spec =
     returns-4
     (λ c κs. search needs)
     (λ c. search needs)
-    limits-refusal-requires
+    work-out-requires
     (λ c. search needs)
     (λ c. search needs)
     returns-5
