@@ -120,3 +120,45 @@ pub fn journal_append_upto(v: &mut [u8], len: usize, offer: Offer, budget: usize
     };
     out
 }
+
+/// The append through a log up to a budget: as above, or {3, number, place in the log}. The offer's times are not looked at.
+pub fn journal_append_log_upto(v: &mut [u8], len: usize, offer: Offer, log: &[u8], budget: usize) -> [u64; 3] {
+    unsafe extern "C" {
+        fn journal_append_log_upto(
+            v: *mut u8,
+            size: usize,
+            len: usize,
+            day: u16,
+            name: *const u8,
+            name_len: usize,
+            chances: *const u32,
+            chances_len: usize,
+            log: *const u8,
+            log_len: usize,
+            budget: usize,
+            out: *mut [u64; 3],
+        );
+    }
+    let Offer {
+        day, name, chances, ..
+    } = offer;
+    let mut out = [u64::MAX; 3];
+    // Each pointer and the length behind it are those of a slice, and out has its three places.
+    unsafe {
+        journal_append_log_upto(
+            v.as_mut_ptr(),
+            v.len(),
+            len,
+            day,
+            name.as_ptr(),
+            name.len(),
+            chances.as_ptr(),
+            chances.len(),
+            log.as_ptr(),
+            log.len(),
+            budget,
+            &mut out,
+        )
+    };
+    out
+}

@@ -19,9 +19,12 @@ use Rattle.journal_spec.specs.Record.{Record, lastOf, judgeForm, judgeDa
 use Rattle.journal_spec.specs.Record.{limitSection, recordReader, recordBytes, recordsBytes}
 use Rattle.journal_spec.specs.Scan.{recordsOf, contentsFrom, contentsOf, whole, torn, damaged, statusOf, scanOf}
 use Rattle.journal_spec.specs.Read.{flat, few, normal, letterOf, allEqual, areEqual, markFrom, markOf}
-use Rattle.journal_spec.specs.Request.{all, Request, offerOf, declined}
+use Rattle.journal_spec.specs.Tests.{each, same, nameGood}
+use Rattle.journal_spec.specs.Log.{begin, linesOf, nameIn, digitsIn, digitsGood, decimalFrom, ticksIn, lineGood, gathered, misread}
+use Rattle.journal_spec.specs.Log.{takeLine, gatherFrom, gatherOf}
+use Rattle.journal_spec.specs.Request.{all, times, Request, gatherBy, timesOf, timesIn, offerOf, declined}
 use Rattle.journal_spec.specs.Request as R
-use Rattle.journal_spec.specs.Append.{judgeEven, appendRefusal, unchanged, settle, appendTo, appendOf}
+use Rattle.journal_spec.specs.Append.{judgeEven, appendRefusal, unchanged, settle, appendTo, appendWith, appendOf}
 use Rattle.journal_spec.specs.Model.{workedOut}
 use Rattle.journal_spec.specs.Ranges.{RecordRanges}
 use Rattle.journal_spec.proofs.EvenChance.{worked-plain, plain-finite}
@@ -178,7 +181,7 @@ old-form = refl
 
 -- an offer of which nothing is right, made better from the front
 abbrev offer : List ℕ → List ℕ → List ℕ → Request
-offer name chances times = record { day = 1; name = name; chances = chances; times = times; budget = all }
+offer name chances ts = record { day = 1; name = name; chances = chances; source = times ts; budget = all }
 
 abbrev declined-by : Request → ℕ → Type 0
 declined-by q n = appendOf (record { slice = theBytes; len = 0 }) q .answer ≡ declined n
@@ -192,7 +195,7 @@ pub record Declined : Type 0 where
   pub times : declined-by (offer (0x41 ∷ []) (1 ∷ 500_000 ∷ []) []) 6
 
 pub declines : Declined
-unfolding theBytes appendOf appendTo settle unchanged appendRefusal judgeEven firstOf sectionRefusal offerOf
+unfolding theBytes appendOf appendWith timesOf gatherBy timesIn appendTo settle unchanged appendRefusal judgeEven firstOf sectionRefusal offerOf
     itemsRefusal contentsOf contentsFrom recordsOf lastOf recordReader run then section items valueOf judgeForm formKnown judgeDay
     nameSection chanceSection judgeChance chanceInRange lastChance timeSection limitSection outside unless inRange
 declines = record {
@@ -202,6 +205,41 @@ declines = record {
   falling = refl;
   beyond = refl;
   times = refl;
+}
+
+-- ---- logs
+
+-- `A 100`, `B 7`, `A 90`, each with its newline
+unfoldable pub theLog : List ℕ
+theLog =
+    0x41 ∷ 0x20 ∷ 0x31 ∷ 0x30 ∷ 0x30 ∷ 0x0a
+    ∷ 0x42 ∷ 0x20 ∷ 0x37 ∷ 0x0a
+    ∷ 0x41 ∷ 0x20 ∷ 0x39 ∷ 0x30 ∷ 0x0a
+    ∷ []
+
+pub record Logs : Type 0 where
+  pub read : gatherOf (0x41 ∷ []) theLog ≡ gathered (100 ∷ 90 ∷ [])
+  pub other : gatherOf (0x43 ∷ []) theLog ≡ gathered []
+  pub empty : gatherOf (0x41 ∷ []) [] ≡ gathered []
+  pub noNewline : gatherOf (0x41 ∷ []) (take 14 theLog) ≡ misread 11 10
+  pub leadingZero : gatherOf (0x41 ∷ []) (set (set theLog 2 0x30) 3 0x31) ≡ misread 11 0
+  pub zeroTicks : gatherOf (0x41 ∷ []) (set theLog 8 0x30) ≡ misread 11 6
+  pub twoSpaces : gatherOf (0x41 ∷ []) (set theLog 2 0x20) ≡ misread 11 0
+  pub noName : gatherOf (0x41 ∷ []) (set theLog 6 0x20) ≡ misread 11 6
+  pub carriageReturn : gatherOf (0x41 ∷ []) (set theLog 4 0x0d) ≡ misread 11 0
+
+pub logs : Logs
+unfolding theLog gatherOf gatherFrom takeLine linesOf begin lineGood nameGood digitsGood each inRange nameIn digitsIn ticksIn decimalFrom same
+logs = record {
+  read = refl;
+  other = refl;
+  empty = refl;
+  noNewline = refl;
+  leadingZero = refl;
+  zeroTicks = refl;
+  twoSpaces = refl;
+  noName = refl;
+  carriageReturn = refl;
 }
 
 -- ---- marks

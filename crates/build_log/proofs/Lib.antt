@@ -1,0 +1,7 @@
+-- The laws of the reader of lines: one byte of a log, and pieces of it.
+-- Assumes nothing.
+pub mod Turns
+pub mod Pieces
+pub mod Shape
+pub mod Own
+pub mod ByLines
