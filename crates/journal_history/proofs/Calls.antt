@@ -1,5 +1,5 @@
 -- What a call leaves: where there is room, the answer's state and the slice's bytes before the rest of the buffer. Assumes nothing.
-use Prim.Native.Nat.{ℕ, _+_, _≤_}
+use Prim.Native.Nat.{ℕ, _+_, _-_, _≤_}
 use mathlib.Core.Path.{_≡_, refl, sym, _∙_}
 use mathlib.Core.Bool.{Bool, true, false, not}
 use mathlib.Core.List.{List, _++_}
@@ -43,7 +43,9 @@ unfolding fitsLog
 log-found s l v n c t room e h =
     let first = both-hold _ _ (sym e ∙ not-false room h) in
     let second = both-hold _ _ (first .1) in
-    (omega (arith, leb-true _ _ (first .0), leb-true _ _ (second .0)), room-found s v n c t true (sym (second .1)) refl)
+    let starts : logAt ≤ n = leb-true _ _ (first .0) in
+    let ends : l .z ≤ n - logAt = leb-true _ _ (second .0) in
+    (omega (arith, starts, ends), room-found s v n c t true (sym (second .1)) refl)
 
 module _ (s x : State) (v : List ℕ) (room fit : Bool) (o : Outcome) (e : room ≡ fit) where
   -- a call was made, and the slice is `part` after it
