@@ -5,7 +5,7 @@ use mathlib.Core.Bool.{Bool, true, false, not}
 use mathlib.Core.List.{List, _++_}
 use native.Mathlib.Omega.{arith}
 use borrow.Author.Tests.{leb-true, not-true, not-false}
-use lib.ListN.{drop}
+use lib.ListN.{take, drop}
 use Rattle.hex.proofs.Cases.{both-hold}
 use Rattle.journal_spec.specs.Request.{Outcome}
 use Rattle.journal.specs.Answers.{appendMeaning, lengthAfter, outcomeOf}
@@ -46,6 +46,10 @@ log-found s l v n c t room e h =
     let starts : logAt ≤ n = leb-true _ _ (first .0) in
     let ends : l .z ≤ n - logAt = leb-true _ _ (second .0) in
     (omega (arith, starts, ends), room-found s v n c t true (sym (second .1)) refl)
+
+-- the log's bytes, from their first to their last
+pub log-part : (z : ℕ) (name : List ℕ) → take (logAt + z - logAt) (drop logAt name) ≡ take z (drop logAt name)
+log-part z name = let size : logAt + z - logAt ≡ z = omega arith in rw size refl
 
 module _ (s x : State) (v : List ℕ) (room fit : Bool) (o : Outcome) (e : room ≡ fit) where
   -- a call was made, and the slice is `part` after it
