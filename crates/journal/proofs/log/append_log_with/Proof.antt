@@ -14,19 +14,19 @@ returns : tie.Need-returns
 unfolding timesOf gatherBy
 returns c =
     let read = c .before .before .before .gather in
-    through-refused _ _ _ (read .result) (read .ensures .0) (c .if1 .taken)
+    through-refused _ _ _ (read .result) (read .ensures .1 .0) (c .if1 .taken)
 
 slice-aggregate-append-with : tie.Need-slice-aggregate-append-with
 slice-aggregate-append-with c =
     let read = c .before .before .before .before .before .gather in
-    sym (length-take-le _ _ (read .ensures .1))
+    sym (length-take-le _ _ (read .ensures .1 .1))
 
 returns-2 : tie.Need-returns-2
 unfolding timesOf gatherBy handedIn
 returns-2 c =
     let tested = c .before .before .before .before .before in
     let read = tested .before .before .before .gather in
-    through-times _ _ _ (read .result) (read .ensures .0) (omega (arith, tested .if1 .left)) _ (c .before .before .append-with .ensures)
+    through-times _ _ _ (read .result) (read .ensures .1 .0) (omega (arith, tested .if1 .left)) _ (c .before .before .append-with .ensures)
 
 pub append-log-with-spec : {M : Type 1} → statement M
 append-log-with-spec =
