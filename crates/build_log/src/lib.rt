@@ -2,6 +2,7 @@
 // What is known between two bytes is a value, so that a log of any size can be read in pieces. No public function has a `requires`.
 mod lines;
 mod times;
+mod whole;
 
 pub use lines::Line;
 pub use lines::next;
