@@ -1,9 +1,12 @@
-// The journal against rust/reference: scan and reading's two calls over random and altered bytes, and histories of appends.
+// The journal against rust/reference: scan and reading's two calls over random and altered bytes, histories of appends, and logs.
 // The lines at the end say how often each kind of answer came.
 
 mod alter;
 mod histories;
+mod history;
+mod logs;
 mod reading;
+mod requests;
 mod run;
 mod words;
 
@@ -16,5 +19,6 @@ pub fn compare(options: &Options, totals: &mut Totals) {
     }
     if options.runs("histories") {
         histories::compare(options, totals);
+        logs::compare(options, totals);
     }
 }
