@@ -17,11 +17,11 @@ extern "C" {
 #define JOURNAL_MAX_RECORD 652   /* the most bytes of a record */
 #define JOURNAL_MAX_LINE 233     /* the most bytes of a line of the listing, with its line end */
 
-/* The first number of an answer: of the limit, of a scan, of an append, which may answer JOURNAL_DAMAGED too, and of a
-   merge. */
+/* The first number of an answer: of the limit, of a scan, of an append, which may answer JOURNAL_DAMAGED too, and through
+   a log JOURNAL_DECLINED_AT, for a line of it; and of a merge. */
 enum { LIMIT_ANSWERED = 0, LIMIT_REFUSED = 1 };
 enum { JOURNAL_WHOLE = 0, JOURNAL_TORN = 1, JOURNAL_DAMAGED = 2 };
-enum { JOURNAL_EXTENDED = 0, JOURNAL_DECLINED = 1 };
+enum { JOURNAL_EXTENDED = 0, JOURNAL_DECLINED = 1, JOURNAL_DECLINED_AT = 3 };
 enum { MERGE_DONE = 0, MERGE_DECLINED = 1, MERGE_INPUT_DAMAGED = 2, MERGE_INPUT_TORN = 3 };
 
 /* The refusals' numbers (docs/DEFINITION.md, section 10). 8 was that of a limit not finite, which there is none; it is not used again. */
@@ -35,6 +35,8 @@ enum {
     AWAQLLA_REFUSAL_LIMIT = 7,     /* the limits' count, or the bits of one that does not come out again */
     AWAQLLA_REFUSAL_ROOM = 9,      /* the record ends beyond the slice or JOURNAL_MAX_LENGTH */
     AWAQLLA_REFUSAL_ABSENT = 10,   /* there are not so many records */
+    AWAQLLA_REFUSAL_LINE = 11,     /* a line of the log not of its shape or range */
+    AWAQLLA_REFUSAL_MANY = 12,     /* a 129th line of the name */
     AWAQLLA_REFUSAL_OLD_FORM = 13, /* form 1 after a record of form 2 */
     AWAQLLA_REFUSAL_TORN = 16,     /* an input of a merge ends torn */
     AWAQLLA_REFUSAL_EVEN = 17      /* an offered chance above 500,000 in a million */
@@ -75,6 +77,15 @@ void journal_append(uint8_t *v, size_t size, size_t len, uint16_t day, const uin
 /* The call with a budget: append, its record written only as far as budget bytes of it. A budget beyond the record is all of it. */
 void journal_append_upto(uint8_t *v, size_t size, size_t len, uint16_t day, const uint8_t *name, size_t name_len,
     const uint32_t *chances, size_t chances_len, const uint32_t *times, size_t times_len, size_t budget, uint64_t out[3]);
+
+/* Append, and the call with a budget, of the times that the log_len bytes at log have for the name, in their order. A log has lines of a name, one
+   space, a decimal tick count without leading zeros, and a newline, names and ticks in their ranges. {JOURNAL_DECLINED_AT, refusal, place in the log of
+   the line's first byte}: LINE or MANY for the first line that is refused, judged before the journal is read; else as the append of those times. */
+void journal_append_log(uint8_t *v, size_t size, size_t len, uint16_t day, const uint8_t *name, size_t name_len,
+    const uint32_t *chances, size_t chances_len, const uint8_t *log, size_t log_len, uint64_t out[3]);
+
+void journal_append_log_upto(uint8_t *v, size_t size, size_t len, uint16_t day, const uint8_t *name, size_t name_len,
+    const uint32_t *chances, size_t chances_len, const uint8_t *log, size_t log_len, size_t budget, uint64_t out[3]);
 
 /* Line i, counted from 0, of the listing of the journal that is all of the len bytes at v: a line for each record, then the end state's, each
    with its line end. As much of it as there is room for is written to the size bytes at out; the answer is how many bytes those are,

@@ -1,11 +1,11 @@
 """The definitions over doubles in crates/*/specs/*.antt as functions, for tools/definition-check.
 
-Reads what those files use of the language: equations with `let`, application, projections, `cond`, `&&`, `||`, lists, and whole
-numbers with + - *. The operations on doubles are those of tools/recompute, or the symbols put in their place.
+Reads what those files use of the language: equations with `let`, application, projections, `cond`, `&&`, `||`, lists with `∷` and `++`,
+and whole numbers with + - *. The operations on doubles are those of tools/recompute, or the symbols put in their place.
 """
 import re
 
-TOKEN = re.compile(r"\s+(\.\w+)|\s*(0x[0-9a-f_]+|\d[\d_]*|\w+|\[\]|∷|\|\||&&|[()={};*+-])")
+TOKEN = re.compile(r"\s+(\.\w+)|\s*(0x[0-9a-f_]+|\d[\d_]*|\w+|\[\]|∷|\+\+|\|\||&&|[()={};*+-])")
 FIELDS = {"lo": 0, "hi": 1}
 
 
@@ -25,7 +25,7 @@ def tokens(text):
 class Parser:
     """Expressions as tuples: ("let", name, value, body), ("call", head, arguments), ("field", of, name), ("op", sign, left, right) .."""
 
-    RANKS = (("∷",), ("||",), ("&&",), ("+", "-"), ("*",))
+    RANKS = (("∷", "++"), ("||",), ("&&",), ("+", "-"), ("*",))
 
     def __init__(self, text):
         self.left = tokens(text)[::-1]
@@ -56,7 +56,7 @@ class Parser:
         while self.peek() in self.RANKS[rank]:
             sign = self.next()
             # A list goes on to the right.
-            right = self.operators(rank if sign == "∷" else rank + 1)
+            right = self.operators(rank if rank == 0 else rank + 1)
             left = ("op", sign, left, right)
         return left
 
@@ -190,4 +190,6 @@ class Definitions:
             return left or right
         if sign == "&&":
             return left and right
+        if sign == "++":
+            return left + right
         return {"+": left + right, "-": left - right, "*": left * right}[sign]

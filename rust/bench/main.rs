@@ -1,6 +1,7 @@
 // Times our functions beside the Rust's and prints a table in markdown.
 // Both sides are called through one driver, on bit patterns, by the C convention, and take turns.
 
+mod log;
 mod merge;
 
 use inputs::doubles::{low_part, moderate};
@@ -17,6 +18,7 @@ use std::time::{Duration, Instant};
 
 type OnBits = extern "C" fn(u64) -> u64;
 type OnJournal = fn(&[u8]) -> u64;
+type OnLog = fn(&[u8], &[u8]) -> u64;
 type OnPart = fn(&RefCell<Vec<u8>>, usize) -> u64;
 
 /// Calls in a turn, and turns of each side; the least time of a turn counts.
@@ -40,6 +42,7 @@ fn main() {
     );
     scan_rows(&mut random);
     append_rows(&mut random);
+    log_rows(&mut random);
     merge::rows(&mut random);
 }
 
@@ -81,6 +84,42 @@ fn append_rows(random: &mut Random) {
         let [append, scan] = times.map(|time| time.as_secs_f64() * 1e9 / 4.0);
         println!("| {len} bytes | {append:.0} | {scan:.0} | {:.0} |", append - scan);
     }
+}
+
+/// The reading of logs of a million bytes beside a plain reader of the same lines. Ours is the append of their 128 times of a name, of which
+/// no byte is written: what it does besides reading is below a thousandth of the time.
+fn log_rows(random: &mut Random) {
+    println!();
+    println!("| a log with names of | ours, MB/s | Rust, MB/s | ours / Rust, time |");
+    println!("|---|---|---|---|");
+    for letters in [1, 13, 32] {
+        let logs: Vec<Vec<u8>> = (0..4).map(|_| log::drawn(random, letters)).collect();
+        let bytes: usize = logs.iter().map(Vec::len).sum();
+        let wanted = vec![b'A'; letters];
+        let times = race([log_ours as OnLog, log_plain], &logs, |read, v| read(&wanted, v));
+        let [ours, rust] = times.map(|time| time.as_secs_f64());
+        let [ours_rate, rust_rate] = [ours, rust].map(|time| bytes as f64 / time / 1e6);
+        println!("| {letters} bytes | {ours_rate:.1} | {rust_rate:.1} | {:.2} |", ours / rust);
+    }
+}
+
+/// The number of times of a name.
+fn log_ours(name: &[u8], log: &[u8]) -> u64 {
+    let offer = Offer {
+        day: 0,
+        name,
+        chances: &[500_000],
+        times: &[],
+    };
+    let answer = ours::journal_append_log_upto(&mut [0; 652], 0, offer, log, 0);
+    assert_eq!(answer, [0, 0, 0]);
+    log::TIMES as u64
+}
+
+fn log_plain(name: &[u8], log: &[u8]) -> u64 {
+    let times = log::gather(name, log).expect("a good log");
+    assert_eq!(times.len(), log::TIMES);
+    times.len() as u64
 }
 
 fn append_largest(journal: &RefCell<Vec<u8>>, len: usize) -> u64 {

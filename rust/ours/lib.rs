@@ -76,49 +76,73 @@ pub struct Offer<'a> {
     pub times: &'a [u32],
 }
 
-/// The append of an offer up to a budget: {0, length, 0}, {1, declined by, 0} or {2, number, place}.
-pub fn journal_append_upto(v: &mut [u8], len: usize, offer: Offer, budget: usize) -> [u64; 3] {
-    unsafe extern "C" {
-        fn journal_append_upto(
-            v: *mut u8,
-            size: usize,
+/// A C function of append over an offer, with a log in place of its times or not, and with a budget or not.
+macro_rules! append {
+    ($(#[$said:meta])* $name:ident($offer:ident $(, $log:ident)? $(; $budget:ident)?), $times:expr => $item:ty) => {
+        $(#[$said])*
+        pub fn $name(
+            v: &mut [u8],
             len: usize,
-            day: u16,
-            name: *const u8,
-            name_len: usize,
-            chances: *const u32,
-            chances_len: usize,
-            times: *const u32,
-            times_len: usize,
-            budget: usize,
-            out: *mut [u64; 3],
-        );
-    }
-    let Offer {
-        day,
-        name,
-        chances,
-        times,
-    } = offer;
-    let mut out = [u64::MAX; 3];
-    // Each pointer and the length behind it are those of a slice, and out has its three places.
-    unsafe {
-        journal_append_upto(
-            v.as_mut_ptr(),
-            v.len(),
-            len,
-            day,
-            name.as_ptr(),
-            name.len(),
-            chances.as_ptr(),
-            chances.len(),
-            times.as_ptr(),
-            times.len(),
-            budget,
-            &mut out,
-        )
+            $offer: Offer,
+            $($log: &[u8],)?
+            $($budget: usize)?
+        ) -> [u64; 3] {
+            unsafe extern "C" {
+                fn $name(
+                    v: *mut u8,
+                    size: usize,
+                    len: usize,
+                    day: u16,
+                    name: *const u8,
+                    name_len: usize,
+                    chances: *const u32,
+                    chances_len: usize,
+                    times: *const $item,
+                    times_len: usize,
+                    $($budget: usize,)?
+                    out: *mut [u64; 3],
+                );
+            }
+            let Offer { day, name, chances, .. } = $offer;
+            let times: &[$item] = $times;
+            let mut out = [u64::MAX; 3];
+            // Each pointer and the length behind it are those of a slice, and out has its three places.
+            unsafe {
+                $name(
+                    v.as_mut_ptr(),
+                    v.len(),
+                    len,
+                    day,
+                    name.as_ptr(),
+                    name.len(),
+                    chances.as_ptr(),
+                    chances.len(),
+                    times.as_ptr(),
+                    times.len(),
+                    $($budget,)?
+                    &mut out,
+                )
+            };
+            out
+        }
     };
-    out
+}
+
+append! {
+    /// The append of an offer: {0, length, 0}, {1, declined by, 0} or {2, number, place}.
+    journal_append(offer), offer.times => u32
+}
+append! {
+    /// The same up to a budget.
+    journal_append_upto(offer; budget), offer.times => u32
+}
+append! {
+    /// The append through a log: as above, or {3, number, place in the log}. The offer's times are not looked at.
+    journal_append_log(offer, log), log => u8
+}
+append! {
+    /// The same up to a budget.
+    journal_append_log_upto(offer, log; budget), log => u8
 }
 
 /// Two journals, each a slice and its length in it, merged into a third buffer: {0, length, 0, 0}, {1, 9, 0, 0}, {1, 13, place, 0},

@@ -4,6 +4,7 @@
 use inputs::quantile::chance as quantile_argument;
 
 pub const LAST_TIME: u64 = 1_048_575;
+pub const MOST_TIMES: usize = 128;
 pub const LAST_CHANCE: u32 = 999_999;
 /// The last that append takes (document 02, 2026-10); volumes that stand are read up to LAST_CHANCE.
 pub const LAST_OFFERED: u32 = 500_000;
@@ -77,7 +78,7 @@ pub fn chance_fits(chance: u32) -> bool {
 }
 
 pub fn count_fits(n: usize) -> bool {
-    (2..=128).contains(&n)
+    (2..=MOST_TIMES).contains(&n)
 }
 
 pub fn time_fits(time: u32) -> bool {

@@ -1,8 +1,10 @@
 // Document 01, Book of demand 3: what a list of calls should have made, fed the calls' arguments and the slice's length alone;
-// and append on any slice, which surveys it first. New records are form 2 and have chances up to 500,000 (document 02, 2026-04, 2026-10).
+// and append on any slice, which surveys it first. New records are form 2 and have chances up to 500,000 (document 02, 2026-04, 2026-10);
+// their times may come from a log, which is judged before all else (2026-01).
 
 use crate::limit::{chance_fits, count_fits, time_fits, Form, LAST_OFFERED};
-use crate::record::Record;
+use crate::log::{gather, Refused};
+use crate::record::{name_fits, Record};
 use crate::scan::{scan_all, Entry, Status, MAX_LENGTH};
 
 /// What a call offers.
@@ -14,10 +16,38 @@ pub struct Offer {
     pub times: Vec<u32>,
 }
 
+/// What a call is handed besides the journal: an offer, a log that has its times where there is one, and k, all where there is none.
+#[derive(Clone, Debug, Default)]
+pub struct Request {
+    pub offer: Offer,
+    pub log: Option<Vec<u8>>,
+    pub budget: Option<usize>,
+}
+
+impl Request {
+    /// What it offers: with the log's times in place of its own, or not at all where a line is refused.
+    pub fn offered(&self) -> Result<Offer, Refused> {
+        let times = match &self.log {
+            None => self.offer.times.clone(),
+            Some(log) => gather(&self.offer.name, log)?,
+        };
+        Ok(Offer {
+            times,
+            ..self.offer.clone()
+        })
+    }
+
+    /// How many of a record's bytes may be written.
+    fn written(&self, length: usize) -> usize {
+        self.budget.map_or(length, |k| k.min(length))
+    }
+}
+
 #[derive(Clone, Copy, Debug, PartialEq, Eq)]
 pub enum Answer {
     Length(usize),
     Declined(u64),
+    DeclinedAt(Refused),
     Damaged { number: u64, place: usize },
 }
 
@@ -66,16 +96,21 @@ impl Model {
         self.len() == 0
     }
 
-    /// The call with k, its answer, and the model after it.
-    pub fn call(&mut self, slice_len: usize, offer: &Offer, k: usize) -> Answer {
+    /// A call, its answer, and the model after it.
+    pub fn call(&mut self, slice_len: usize, request: &Request) -> Answer {
+        let offer = match request.offered() {
+            Ok(offer) => offer,
+            Err(refused) => return Answer::DeclinedAt(refused),
+        };
         let (committed, last_day) = (self.committed(), self.entries.last().map(|e| e.day));
-        let record = match offered(offer, last_day, committed, slice_len) {
+        let record = match record_of(&offer, last_day, committed, slice_len) {
             Ok(record) => record,
             Err(number) => return Answer::Declined(number),
         };
         let bytes = record.bytes();
-        if k < bytes.len() {
-            self.tail = bytes[..k].to_vec();
+        let written = request.written(bytes.len());
+        if written < bytes.len() {
+            self.tail = bytes[..written].to_vec();
         } else {
             self.push(&record);
         }
@@ -99,7 +134,7 @@ impl Model {
 }
 
 /// The record that an offer makes, or the first refusal that holds.
-pub fn offered(
+fn record_of(
     offer: &Offer,
     last_day: Option<u16>,
     committed: usize,
@@ -133,28 +168,28 @@ pub fn offered(
     Ok(record)
 }
 
-fn name_fits(name: &[u8]) -> bool {
-    (1..=32).contains(&name.len()) && name.iter().all(|byte| (0x21..=0x7e).contains(byte))
-}
-
 fn chances_fit(chances: &[u32]) -> bool {
     let rising = chances.windows(2).all(|pair| pair[0] < pair[1]);
     (1..=8).contains(&chances.len()) && chances.iter().all(|chance| chance_fits(*chance)) && rising
 }
 
-/// The call with k on the first `len` bytes of any slice: its answer, and the slice's bytes after it.
-pub fn append_upto(slice: &mut [u8], len: usize, offer: &Offer, k: usize) -> Answer {
+/// A call on the first `len` bytes of any slice: its answer, and the slice's bytes after it. The log is read before the journal.
+pub fn append(slice: &mut [u8], len: usize, request: &Request) -> Answer {
+    let offer = match request.offered() {
+        Ok(offer) => offer,
+        Err(refused) => return Answer::DeclinedAt(refused),
+    };
     let (status, entries) = scan_all(slice, len);
     let committed = match status {
         Status::Damaged { number, place } => return Answer::Damaged { number, place },
         Status::Whole { committed, .. } | Status::Torn { committed, .. } => committed,
     };
     let last_day = entries.last().map(|entry| entry.day);
-    match offered(offer, last_day, committed, slice.len()) {
+    match record_of(&offer, last_day, committed, slice.len()) {
         Err(number) => Answer::Declined(number),
         Ok(record) => {
             let bytes = record.bytes();
-            let written = k.min(bytes.len());
+            let written = request.written(bytes.len());
             slice[committed..committed + written].copy_from_slice(&bytes[..written]);
             Answer::Length(committed + written)
         }

@@ -79,6 +79,10 @@ impl Record {
     }
 }
 
+pub fn name_fits(name: &[u8]) -> bool {
+    (1..=32).contains(&name.len()) && name.iter().all(|byte| (0x21..=0x7e).contains(byte))
+}
+
 /// The letter of the mark of so many times, by whether they are all equal: S first, then F, then N (document 02, 2026-07).
 pub fn mark(equal: bool, times: usize) -> u8 {
     if times < NOT_FEW {

@@ -10,8 +10,9 @@ use lib.ListN.{length, take, length-map}
 use lib.Seq.{take-all}
 use Rattle.journal_spec.specs.Record.{Last, lastOf, recordBytes}
 use Rattle.journal_spec.specs.Scan.{maxLength, recordsOf, Contents, standing, faulty, contentsOf, ScanResult, statusOf, scanOf}
-use Rattle.journal_spec.specs.Request.{Journal, all, Offer, offerOf, allowed, AppendResult, extended, declined, damaged, Outcome}
-use Rattle.journal_spec.specs.Append.{limitsOf, offered, judgeRoom, appendRefusal, written, unchanged, extend, settle, appendTo, appendOf}
+use Rattle.journal_spec.specs.Request.{Journal, all, Offer, gatherBy, timesOf, timesIn, offerOf, allowed, AppendResult, extended, declined, declinedAt}
+use Rattle.journal_spec.specs.Request.{damaged, Outcome}
+use Rattle.journal_spec.specs.Append.{limitsOf, offered, judgeRoom, appendRefusal, written, unchanged, extend, settle, appendTo, appendWith, appendOf}
 use Rattle.journal_spec.proofs.Judging.{none-at, unless-none}
 use Rattle.journal_spec.proofs.Records.{length-record}
 use Rattle.journal_spec.proofs.Writing.{written-nil}
@@ -59,7 +60,7 @@ taken (suc refusal) j c new n e = let z : _≡_ {A = ℕ} 0 1 = cc in absurd (om
 
 pub append-extended : (slice : List ℕ) (len : ℕ) (o : Offer) (n : ℕ) → appendAll slice len o .answer ≡ extended n
     → Extended slice len o n (appendAll slice len o .journal .slice)
-unfolding appendOf offerOf appendTo allowed unchanged scanOf
+unfolding appendOf appendWith timesOf gatherBy timesIn offerOf appendTo allowed unchanged scanOf
 append-extended slice len o n = go (contentsOf slice len) refl
   where
     bytes : List ℕ
@@ -93,7 +94,7 @@ settled-unwritten zero j c new u = absurd (u _ refl)
 settled-unwritten (suc refusal) j c new u = refl
 
 pub append-unwritten : (slice : List ℕ) (len : ℕ) (o : Offer) → Unwritten (appendAll slice len o .answer) → appendAll slice len o .journal .slice ≡ slice
-unfolding appendOf offerOf appendTo unchanged
+unfolding appendOf appendWith timesOf gatherBy timesIn offerOf appendTo unchanged
 append-unwritten slice len o = go (contentsOf slice len)
   where
     go : (x : Contents) → Unwritten (appendTo x (record { slice = slice; len = len }) o all .answer)
@@ -104,6 +105,10 @@ append-unwritten slice len o = go (contentsOf slice len)
 pub declined-unwritten : (answer : Appended) (n : ℕ) → answer ≡ A.Declined n → Unwritten (appendMeaning answer)
 unfolding appendMeaning
 declined-unwritten answer n h m e = let z : _≡_ {A = ℕ} 0 1 = cc (rw h at e) in omega arith
+
+pub line-unwritten : (answer : Appended) (f : Fault) → answer ≡ A.DeclinedAt f → Unwritten (appendMeaning answer)
+unfolding appendMeaning
+line-unwritten answer f h m e = let z : _≡_ {A = ℕ} 0 1 = cc (rw h at e) in omega arith
 
 pub damaged-unwritten : (answer : Appended) (f : Fault) → answer ≡ A.Damaged f → Unwritten (appendMeaning answer)
 unfolding appendMeaning
@@ -119,6 +124,7 @@ pub empty : (s : ScanResult) (o : Offer) (a : AppendResult) → Unwritten a → 
 unfolding startIn endIn partIn
 empty s o (extended n) u = absurd (u n refl)
 empty s o (declined n) u = record { starts = refl; ends = refl; part = refl }
+empty s o (declinedAt n p) u = record { starts = refl; ends = refl; part = refl }
 empty s o (damaged n p) u = record { starts = refl; ends = refl; part = refl }
 
 -- ---- what the code answers

@@ -22,25 +22,28 @@ committedIn (damaged n p) = 0
 unfoldable pub startIn : ScanResult → AppendResult → ℕ
 startIn s (extended n) = committedIn s
 startIn s (declined n) = 0
+startIn s (Request.declinedAt n p) = 0
 startIn s (Request.damaged n p) = 0
 
 -- where it ends: at the new length; at 0 where nothing is written
 unfoldable pub endIn : AppendResult → ℕ
 endIn (extended n) = n
 endIn (declined n) = 0
+endIn (Request.declinedAt n p) = 0
 endIn (Request.damaged n p) = 0
 
 -- its bytes: the offered record's; none where nothing is written
 unfoldable pub partIn : Offer → AppendResult → List ℕ
 partIn o (extended n) = recordBytes (offered o)
 partIn o (declined n) = []
+partIn o (Request.declinedAt n p) = []
 partIn o (Request.damaged n p) = []
 
 -- what an append of all of the record comes to
 abbrev pub appendAll : List ℕ → ℕ → Offer → Outcome
 appendAll slice len o =
     appendOf (record { slice = slice; len = len })
-    (record { day = o .day; name = o .name; chances = o .chances; times = o .times; budget = all })
+    (record { day = o .day; name = o .name; chances = o .chances; source = Request.times (o .times); budget = all })
 
 -- The answer and the slice after it are append's; start and end are those of the written part; the part of the slice after from start to
 -- end is the record's bytes, or none; and the slice after is the slice before with these bytes there and no other byte changed.

@@ -45,6 +45,11 @@ pub fn extend(
             end: 0,
             answer,
         },
+        Appended::DeclinedAt(_) => Extension {
+            start: 0,
+            end: 0,
+            answer,
+        },
         Appended::Damaged(_) => Extension {
             start: 0,
             end: 0,

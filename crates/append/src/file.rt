@@ -8,13 +8,13 @@ use crate::output::fail_file;
 use crate::output::print_verdict;
 use crate::output::refuse_file;
 
-// Appends to the file that the first argument names.
-pub(crate) fn append_to_file(day: u16, name: &[u8], chances: &[u32], ticks: &[u32]) {
+// Appends to the file that the argument at a place names.
+pub(crate) fn append_to_file(at: usize, day: u16, name: &[u8], chances: &[u32], ticks: &[u32]) {
     if !arguments::streams_are_open(b"append: ") {
         return;
     }
     let mut path = io::buffer();
-    let size = os::arg(1, &mut path);
+    let size = os::arg(at, &mut path);
     if size == 0 {
         complain(b"FILE: an empty name, or one of more than 4096 bytes");
         return;

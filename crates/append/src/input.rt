@@ -1,4 +1,4 @@
-// The arguments behind the file's name. More bytes of a name or more chances than a record holds are passed on, so that the library
+// The arguments: whether a log is read, and those behind the file's name. More bytes of a name or more chances than a record holds are passed on, so that the library
 // declines them: there is room for one more than the format allows.
 ghost use mathlib.Core.Path.{_≡_};
 ghost use Prim.Native.Nat.{ℕ, _<_, _≤_, _^_};
@@ -16,32 +16,44 @@ pub(crate) struct Counted {
     pub(crate) wrong: usize,
 }
 
-// The day.
-pub(crate) fn day() -> Number
+// The place of the file's name: 2 behind the word `--log`, and else 1.
+pub(crate) fn first() -> usize
+    ensures { λ r. ⌜ r ≤ 2 ⌝ }
+{
+    let mut word = [0u8; 32];
+    let size = os::arg(1, &mut word);
+    if hex::same(&word[..size], b"--log") {
+        return 2;
+    }
+    1
+}
+
+// The day at a place.
+pub(crate) fn day(at: usize) -> Number
     ensures { λ r. ⌜ ((n : ℕ) → r ≡ N.Value n → n < 2 ^ 16) ⌝ }
 {
     let mut word = [0u8; 32];
-    let size = os::arg(2, &mut word);
+    let size = os::arg(at, &mut word);
     arguments::read_number(&word[..size], MAX_DAY)
 }
 
-// The name, or as much of it as there is room for; how many bytes of the buffer it takes.
-pub(crate) fn name(out: &mut [u8]) -> usize
+// The name at a place, or as much of it as there is room for; how many bytes of the buffer it takes.
+pub(crate) fn name(at: usize, out: &mut [u8]) -> usize
     ensures { λ r. ⌜ Counts r (now (out .exit)) ⌝ }
 {
-    let size = os::arg(3, out);
+    let size = os::arg(at, out);
     if os::errno() == libc::ENAMETOOLONG {
         return out.len();
     }
     size
 }
 
-// The chances, as many as there is room for. All are read, so that one that is no number is found.
-pub(crate) fn chances(out: &mut [u32]) -> Counted
+// The chances from a place on, as many as there is room for. All are read, so that one that is no number is found.
+pub(crate) fn chances(from: usize, out: &mut [u32]) -> Counted
     ensures { λ r. ⌜ Counts (r .count) (now (out .exit)) ⌝ }
 {
     let end = os::arg_count();
-    let mut i = 4;
+    let mut i = from;
     let mut count = 0;
     while i < end {
         match chance(i) {
@@ -52,7 +64,7 @@ pub(crate) fn chances(out: &mut [u32]) -> Counted
             Number::Nothing => {
                 return Counted {
                     count,
-                    wrong: i - 3,
+                    wrong: i - from + 1,
                 };
             }
         }

@@ -1,8 +1,12 @@
-// Appends a record to a journal file, document 01's volume: append FILE DAY NAME CHANCE.. with the ticks on standard input.
-// The last line of the output is the verdict; what is wrong with the arguments, the input or the file is said on standard error.
+// Appends a record to a journal file, document 01's volume: append [--log] FILE DAY NAME CHANCE.. with the ticks on standard input, or
+// request 2026-01's log. The last line of the output is the verdict; what is wrong with the arguments, the input or the file is said on
+// standard error.
+ghost use Prim.Native.Nat.{_≤_};
+
 mod extend;
 mod file;
 mod input;
+mod logs;
 mod output;
 mod verdict;
 
@@ -12,12 +16,13 @@ use arguments::Number;
 const MAX_TEXT: usize = 65_536;
 
 fn main() {
-    if os::arg_count() < 4 {
+    let from = input::first();
+    if os::arg_count() < from + 3 {
         output::usage();
         return;
     }
-    match input::day() {
-        Number::Value(day) => append_on(day as u16),
+    match input::day(from + 1) {
+        Number::Value(day) => append_on(from, day as u16),
         Number::Nothing => output::complain(
             b"DAY: not a decimal number from 0 to 65535 without leading zeros",
         ),
@@ -25,14 +30,20 @@ fn main() {
 }
 
 // The other arguments, where the day is one.
-fn append_on(day: u16) {
+fn append_on(from: usize, day: u16)
+    requires { ⌜ from ≤ 2 ⌝ }
+{
     let mut name = [0u8; 33];
-    let name_size = input::name(&mut name);
+    let name_size = input::name(from + 2, &mut name);
     let mut chances = [0u32; 9];
-    let read = input::chances(&mut chances);
+    let read = input::chances(from + 3, &mut chances);
     let count = read.count;
     if read.wrong > 0 {
         output::malformed(b"CHANCE", read.wrong);
+        return;
+    }
+    if from == 2 {
+        logs::append_log(day, &name[..name_size], &chances[..count]);
         return;
     }
     append_ticks(day, &name[..name_size], &chances[..count]);
@@ -61,7 +72,7 @@ fn append_text(day: u16, name: &[u8], chances: &[u32], text: &[u8]) {
     let count = read.count;
     let pending = read.pending;
     match pending {
-        Number::Value(_) => file::append_to_file(day, name, chances, &ticks[..count]),
+        Number::Value(_) => file::append_to_file(1, day, name, chances, &ticks[..count]),
         Number::Nothing => output::malformed_tick(count),
     }
 }

@@ -2,10 +2,12 @@
 -- The first says which case it is, the others hold its values, 0 where there is none.
 use Prim.Native.Nat.{ℕ}
 use mathlib.Core.List.{List, [], _∷_}
-use Rattle.journal_spec.specs.Request.{AppendResult, extended, declined, damaged}
+use Rattle.journal_spec.specs.Request.{AppendResult, extended, declined, declinedAt, damaged}
 
--- 0 and the journal's length after the call; 1 and the number by which it is declined; or 2, the fault's number and place
+-- 0 and the journal's length after the call; 1 and the number by which it is declined; 2, the fault's number and place; or 3, the number by
+-- which a line of the log is refused and its place in the log
 unfoldable pub appendWords : AppendResult → List ℕ
 appendWords (extended len) = 0 ∷ len ∷ 0 ∷ []
 appendWords (declined number) = 1 ∷ number ∷ 0 ∷ []
+appendWords (declinedAt number place) = 3 ∷ number ∷ place ∷ []
 appendWords (damaged number place) = 2 ∷ number ∷ place ∷ []

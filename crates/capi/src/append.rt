@@ -2,6 +2,7 @@
 // `v` is the slice, `len` the journal's length in it.
 ghost use mathlib.Core.Path.{_≡_};
 ghost use Rattle.journal_spec.specs.Request.{all, upTo};
+ghost use Rattle.journal_spec.specs.Request as Request;
 ghost use Rattle.journal_spec.specs.Append.{appendOf};
 ghost use Rattle.journal.specs.Answers.{appendMeaning};
 ghost use Rattle.capi.specs.Append.{appendWords};
@@ -19,10 +20,12 @@ pub extern "C" fn journal_append(
 )
     ensures { λ r. ⌜ now (v .exit)
         ≡ appendOf (record { slice = now (v .entry); len = len })
-        (record { day = day; name = now (name .entry); chances = now (chances .entry); times = now (times .entry); budget = all }) .journal .slice ⌝ }
+        (record { day = day; name = now (name .entry); chances = now (chances .entry); source = Request.times (now (times .entry)); budget = all })
+        .journal .slice ⌝ }
     ensures { λ r. ⌜ now (out .exit) ≡ appendWords
         (appendOf (record { slice = now (v .entry); len = len })
-        (record { day = day; name = now (name .entry); chances = now (chances .entry); times = now (times .entry); budget = all }) .answer) ⌝ }
+        (record { day = day; name = now (name .entry); chances = now (chances .entry); source = Request.times (now (times .entry)); budget = all })
+        .answer) ⌝ }
 {
     let a = journal::append(v, len, day, name, chances, times);
     put_words(a, out);
@@ -41,17 +44,20 @@ pub extern "C" fn journal_append_upto(
 )
     ensures { λ r. ⌜ now (v .exit)
         ≡ appendOf (record { slice = now (v .entry); len = len })
-        (record { day = day; name = now (name .entry); chances = now (chances .entry); times = now (times .entry); budget = upTo budget }) .journal .slice ⌝ }
+        (record { day = day; name = now (name .entry); chances = now (chances .entry); source = Request.times (now (times .entry)); budget = upTo budget })
+        .journal .slice ⌝ }
     ensures { λ r. ⌜ now (out .exit) ≡ appendWords
         (appendOf (record { slice = now (v .entry); len = len })
-        (record { day = day; name = now (name .entry); chances = now (chances .entry); times = now (times .entry); budget = upTo budget }) .answer) ⌝ }
+        (record { day = day; name = now (name .entry); chances = now (chances .entry); source = Request.times (now (times .entry)); budget = upTo budget })
+        .answer) ⌝ }
 {
     let a = journal::append_upto(v, len, day, name, chances, times, budget);
     put_words(a, out);
 }
 
-// 0 and the journal's length after the call; 1 and the number by which it is declined; or 2, with the fault's number and place.
-fn put_words(a: Appended, out: &mut [u64; 3])
+// 0 and the journal's length after the call; 1 and the number by which it is declined; 2, with the fault's number and place; or 3, with the
+// number by which a line of the log is refused and its place in the log.
+pub(crate) fn put_words(a: Appended, out: &mut [u64; 3])
     ensures { λ r. ⌜ now (out .exit) ≡ appendWords (appendMeaning a) ⌝ }
 {
     match a {
@@ -60,6 +66,9 @@ fn put_words(a: Appended, out: &mut [u64; 3])
         }
         Appended::Declined(n) => {
             *out = [1, n as u64, 0];
+        }
+        Appended::DeclinedAt(f) => {
+            *out = [3, f.number as u64, f.place as u64];
         }
         Appended::Damaged(f) => {
             *out = [2, f.number as u64, f.place as u64];

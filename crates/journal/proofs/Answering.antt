@@ -12,9 +12,11 @@ use Rattle.journal_spec.specs.Record.{Last, lastOf}
 use Rattle.journal_spec.specs.Scan.{maxLength, Placed, recordsOf, standing, faulty, contentsOf, whole, torn, damaged, statusOf, scanOf}
 use Rattle.journal_spec.specs.Scan as Scan
 use Rattle.journal_spec.specs.Read.{noPart, partAt, partOf, partPlace, marked, unmarked, markFrom, markOf, markAt, markIn, readMark}
-use Rattle.journal_spec.specs.Request.{Request, offerOf, Outcome}
+use Rattle.journal_spec.specs.Log.{gathered}
+use Rattle.journal_spec.specs.Request.{Request, timesOf, offerOf, Outcome}
 use Rattle.journal_spec.specs.Append.{unchanged, appendTo, appendOf}
 use Rattle.journal_spec.proofs.Scanning.{contents-long}
+use Rattle.journal_spec.proofs.Logs.{append-read}
 use Rattle.journal_spec.proofs.RecordsLoop.{contents-part, mark-beyond}
 use Rattle.journal.specs.declared.Fault.{Fault}
 use Rattle.journal.specs.declared.record.Head.{Head}
@@ -118,15 +120,15 @@ module _ (v : List ℕ) (len i : ℕ) (x : Contents) (read : x ≡ contentsRead 
     unfolding readMark markIn
     mark-absent h = sym (mark-beyond (stood .ps) i (omega (arith, stood .count))) ∙ ap (λ k. markIn k i) (sym (stood .is))
 
-    -- what becomes of a request goes on from what stands
-    pub append-stands : (q : Request) (out : Outcome)
+    -- what becomes of a request whose times are read goes on from what stands
+    pub append-stands : (q : Request) (ts : List ℕ) → timesOf q ≡ gathered ts → (out : Outcome)
         → ((ps : List Placed) → asLast last ≡ lastOf (recordsOf ps)
         → out ≡ appendTo (standing ps committed) (record { slice = v; len = len }) (offerOf q) (q .budget))
         → out ≡ appendOf (record { slice = v; len = len }) q
-    unfolding appendOf
-    append-stands q out h =
+    append-stands q ts e out h =
         h (stood .ps) (ap asLast (stood .ends) ∙ last-kept (lastOf (recordsOf (stood .ps))))
         ∙ ap (λ k. appendTo k (record { slice = v; len = len }) (offerOf q) (q .budget)) (sym (stood .is))
+        ∙ append-read (record { slice = v; len = len }) q ts e
 
   module _ (f : Fault) (told : x ≡ C.Damaged f) where
     is : contentsOf v len ≡ faulty (f .number) (f .place)
@@ -144,6 +146,7 @@ module _ (v : List ℕ) (len i : ℕ) (x : Contents) (read : x ≡ contentsRead 
     unfolding readMark markIn
     mark-damaged = rw is
 
-    pub append-damaged : (q : Request) → outcomeOf len (A.Damaged f) v ≡ appendOf (record { slice = v; len = len }) q
-    unfolding appendOf appendTo outcomeOf appendMeaning lengthAfter unchanged
-    append-damaged q = rw is
+    pub append-damaged : (q : Request) (ts : List ℕ) → timesOf q ≡ gathered ts
+        → outcomeOf len (A.Damaged f) v ≡ appendOf (record { slice = v; len = len }) q
+    unfolding appendTo outcomeOf appendMeaning lengthAfter unchanged
+    append-damaged q ts e = rw (← append-read (record { slice = v; len = len }) q ts e, is)

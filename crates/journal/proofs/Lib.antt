@@ -28,4 +28,5 @@ pub mod Checking
 pub mod WorkedOut
 pub mod RefusalOrder
 pub mod Extending
+pub mod Through
 pub mod Meaning

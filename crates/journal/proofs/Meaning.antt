@@ -71,6 +71,7 @@ mark-meaning-injective = injective-by markMeaning ofMarkResult back
 ofAppend : AppendResult → Appended
 ofAppend (extended n) = A.Extended n
 ofAppend (declined n) = A.Declined n
+ofAppend (Request.declinedAt n p) = A.DeclinedAt (record { number = n; place = p })
 ofAppend (Request.damaged n p) = A.Damaged (record { number = n; place = p })
 
 pub append-meaning-injective : (a b : Appended) → appendMeaning a ≡ appendMeaning b → a ≡ b
@@ -80,6 +81,7 @@ append-meaning-injective = injective-by appendMeaning ofAppend back
     back : (a : Appended) → ofAppend (appendMeaning a) ≡ a
     back (A.Extended n) = refl
     back (A.Declined n) = refl
+    back (A.DeclinedAt f) = refl
     back (A.Damaged f) = refl
 
 pub outcome-injective : (len : ℕ) (a b : Appended) (v w : List ℕ) → outcomeOf len a v ≡ outcomeOf len b w → (a ≡ b) × (v ≡ w)

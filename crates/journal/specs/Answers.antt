@@ -5,7 +5,7 @@ use mathlib.Core.List.{List}
 use Rattle.journal_spec.specs.Scan.{ScanResult, whole, torn, damaged}
 use Rattle.journal_spec.specs.Read.{flat, few, normal, MarkResult, marked, unmarked}
 use Rattle.journal_spec.specs.Read as Read
-use Rattle.journal_spec.specs.Request.{AppendResult, extended, declined, Outcome}
+use Rattle.journal_spec.specs.Request.{AppendResult, extended, declined, declinedAt, Outcome}
 use Rattle.journal_spec.specs.Request as Request
 use Rattle.journal.specs.declared.Status.{Status}
 use Rattle.journal.specs.declared.Status.the-variants as S
@@ -38,16 +38,18 @@ unfoldable pub markMeaning : Marked → MarkResult
 markMeaning (M.As mark) = marked (asMark mark)
 markMeaning (M.Refused n) = unmarked n
 
--- document 01's answer of an append for each case
+-- document 01's answer of an append for each case, and request 2026-01's for a line of the log
 unfoldable pub appendMeaning : Appended → AppendResult
 appendMeaning (A.Extended n) = extended n
 appendMeaning (A.Declined n) = declined n
+appendMeaning (A.DeclinedAt f) = declinedAt (f .number) (f .place)
 appendMeaning (A.Damaged f) = Request.damaged (f .number) (f .place)
 
 -- the journal's length after an append that found the length `len`: what is answered, and else it stays
 unfoldable pub lengthAfter : ℕ → Appended → ℕ
 lengthAfter len (A.Extended n) = n
 lengthAfter len (A.Declined n) = len
+lengthAfter len (A.DeclinedAt f) = len
 lengthAfter len (A.Damaged f) = len
 
 -- all that an append comes to, from the length before it, its answer and the slice's bytes after it

@@ -9,6 +9,7 @@ ghost use Rattle.limit.specs.Times.{maxCount};
 ghost use Rattle.journal_spec.specs.Record.{lastOf, maxName, maxChances};
 ghost use Rattle.journal_spec.specs.Scan.{maxLength, Placed, recordsOf, standing};
 ghost use Rattle.journal_spec.specs.Request.{allowed};
+ghost use Rattle.journal_spec.specs.Request as Request;
 ghost use Rattle.journal_spec.specs.Append.{judgeRoom, settle, appendTo, appendOf};
 ghost use Rattle.journal.specs.Records.{asLast};
 ghost use Rattle.journal.specs.Handed.{offerFrom, asBudget, bytesFrom};
@@ -48,7 +49,13 @@ pub(crate) fn append_with(
 ) -> Appended
     ensures { λ r. ⌜ outcomeOf len r (now (v .exit))
         ≡ appendOf (record { slice = now (v .entry); len = len })
-        (record { day = day; name = now (name .entry); chances = now (chances .entry); times = now (times .entry); budget = asBudget budget }) ⌝ }
+        (record {
+          day = day;
+          name = now (name .entry);
+          chances = now (chances .entry);
+          source = Request.times (now (times .entry));
+          budget = asBudget budget;
+        }) ⌝ }
 {
     let x = contents_of(v, len, 0);
     match x {

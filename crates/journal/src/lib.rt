@@ -1,15 +1,18 @@
-// The journal: scan, document 01's survey; reading's two calls, the part of a record and its mark; append, and the call with a budget.
+// The journal: scan, document 01's survey; reading's two calls, the part of a record and its mark; append, and the call with a budget, each
+// of times or through a log.
 // Each goes over the journal's bytes once; nothing is assumed of the slice, the length or what is offered.
 ghost use mathlib.Core.Path.{_≡_};
 ghost use Rattle.journal_spec.specs.Scan.{scanOf};
 ghost use Rattle.journal_spec.specs.Read.{partPlace, readPart, readMark};
 ghost use Rattle.journal_spec.specs.Request.{all, upTo};
+ghost use Rattle.journal_spec.specs.Request as Request;
 ghost use Rattle.journal_spec.specs.Append.{appendOf};
 ghost use Rattle.journal.specs.Answers.{meaning, partMeaning, markMeaning, outcomeOf};
 use crate::contents::Contents;
 use crate::contents::contents_of;
 use crate::extend::Budget;
 use crate::extend::append_with;
+use crate::log::append_log_with;
 use crate::marks::Mark;
 use crate::marks::mark_from;
 
@@ -18,6 +21,7 @@ mod contents;
 mod extend;
 mod field;
 mod limits;
+mod log;
 pub mod marks;
 mod number;
 mod offer;
@@ -31,7 +35,7 @@ pub use number::number_in;
 // Document 01's number for an i that is not below the number of records.
 pub const ABSENT_REFUSAL: u32 = 10;
 
-// A refusal's number, and the place of the field that is refused.
+// A refusal's number, and the place of what is refused: a field's first byte in the journal, or a line's in the log.
 pub struct Fault {
     pub number: u32,
     pub place: usize,
@@ -57,10 +61,12 @@ pub enum Marked {
     Refused(u32),
 }
 
-// The journal's length after an append; or declined, with the refusal's number; or damaged, with the journal's first fault.
+// The journal's length after an append; or declined, with the refusal's number; or declined for a line of the log, with the refusal's number
+// and the place in the log of that line's first byte; or damaged, with the journal's first fault.
 pub enum Appended {
     Extended(usize),
     Declined(u32),
+    DeclinedAt(Fault),
     Damaged(Fault),
 }
 
@@ -148,7 +154,7 @@ pub fn append(
 ) -> Appended
     ensures { λ r. ⌜ outcomeOf len r (now (v .exit))
         ≡ appendOf (record { slice = now (v .entry); len = len })
-        (record { day = day; name = now (name .entry); chances = now (chances .entry); times = now (times .entry); budget = all }) ⌝ }
+        (record { day = day; name = now (name .entry); chances = now (chances .entry); source = Request.times (now (times .entry)); budget = all }) ⌝ }
 {
     append_with(v, len, day, name, chances, times, Budget::All)
 }
@@ -166,7 +172,41 @@ pub fn append_upto(
 ) -> Appended
     ensures { λ r. ⌜ outcomeOf len r (now (v .exit))
         ≡ appendOf (record { slice = now (v .entry); len = len })
-        (record { day = day; name = now (name .entry); chances = now (chances .entry); times = now (times .entry); budget = upTo budget }) ⌝ }
+        (record { day = day; name = now (name .entry); chances = now (chances .entry); source = Request.times (now (times .entry)); budget = upTo budget }) ⌝ }
 {
     append_with(v, len, day, name, chances, times, Budget::UpTo(budget))
+}
+
+// Request 2026-01: append with the times of the name in a build server's log, in file order. A line of the log that is refused is judged
+// before the journal; else it ends as `append` of those times does.
+pub fn append_log(
+    v: &mut [u8],
+    len: usize,
+    day: u16,
+    name: &[u8],
+    chances: &[u32],
+    log: &[u8],
+) -> Appended
+    ensures { λ r. ⌜ outcomeOf len r (now (v .exit))
+        ≡ appendOf (record { slice = now (v .entry); len = len })
+        (record { day = day; name = now (name .entry); chances = now (chances .entry); source = Request.log (now (log .entry)); budget = all }) ⌝ }
+{
+    append_log_with(v, len, day, name, chances, log, Budget::All)
+}
+
+// The same with document 01's k.
+pub fn append_log_upto(
+    v: &mut [u8],
+    len: usize,
+    day: u16,
+    name: &[u8],
+    chances: &[u32],
+    log: &[u8],
+    budget: usize,
+) -> Appended
+    ensures { λ r. ⌜ outcomeOf len r (now (v .exit))
+        ≡ appendOf (record { slice = now (v .entry); len = len })
+        (record { day = day; name = now (name .entry); chances = now (chances .entry); source = Request.log (now (log .entry)); budget = upTo budget }) ⌝ }
+{
+    append_log_with(v, len, day, name, chances, log, Budget::UpTo(budget))
 }

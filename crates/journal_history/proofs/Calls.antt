@@ -1,16 +1,18 @@
 -- What a call leaves: where there is room, the answer's state and the slice's bytes before the rest of the buffer. Assumes nothing.
-use Prim.Native.Nat.{ℕ, _≤_}
+use Prim.Native.Nat.{ℕ, _+_, _-_, _≤_}
 use mathlib.Core.Path.{_≡_, refl, sym, _∙_}
 use mathlib.Core.Bool.{Bool, true, false, not}
 use mathlib.Core.List.{List, _++_}
+use native.Mathlib.Omega.{arith}
 use borrow.Author.Tests.{leb-true, not-true, not-false}
-use lib.ListN.{drop}
+use lib.ListN.{take, drop}
 use Rattle.hex.proofs.Cases.{both-hold}
 use Rattle.journal_spec.specs.Request.{Outcome}
 use Rattle.journal.specs.Answers.{appendMeaning, lengthAfter, outcomeOf}
 use Rattle.journal.specs.declared.Appended.{Appended}
 use Rattle.journal_history.specs.State.{malformedOnce}
-use Rattle.journal_history.specs.Call.{resultSet, fits, calledWith}
+use Rattle.journal_history.specs.Call.{resultSet, fits, logAt, fitsLog, calledWith}
+use Rattle.journal_history.specs.declared.line.Line.{Line}
 use Rattle.journal_history.specs.declared.state.State.{State}
 
 -- each buffer holds what the state says of it
@@ -33,6 +35,21 @@ room-found s v n c t room e h =
       chances = leb-true _ _ (third .0);
       times = leb-true _ _ (third .1);
     }
+
+-- and for the log
+pub log-found : (s : State) (l : Line) (v n c t : ℕ) (room : Bool) → room ≡ fitsLog s l v n c t → not room ≡ false
+    → (logAt + l .z ≤ n) × Room s v n c t
+unfolding fitsLog
+log-found s l v n c t room e h =
+    let first = both-hold _ _ (sym e ∙ not-false room h) in
+    let second = both-hold _ _ (first .1) in
+    let starts : logAt ≤ n = leb-true _ _ (first .0) in
+    let ends : l .z ≤ n - logAt = leb-true _ _ (second .0) in
+    (omega (arith, starts, ends), room-found s v n c t true (sym (second .1)) refl)
+
+-- the log's bytes, from their first to their last
+pub log-part : (z : ℕ) (name : List ℕ) → take (logAt + z - logAt) (drop logAt name) ≡ take z (drop logAt name)
+log-part z name = let size : logAt + z - logAt ≡ z = omega arith in rw size refl
 
 module _ (s x : State) (v : List ℕ) (room fit : Bool) (o : Outcome) (e : room ≡ fit) where
   -- a call was made, and the slice is `part` after it

@@ -11,7 +11,7 @@ use Rattle.lines.specs.Lines.{lineEnd}
 use Rattle.lines.proofs.Replay.{Replayed, replay-turn}
 use Rattle.journal_history.specs.Line.{parsedLine}
 use Rattle.journal_history.specs.State.{answeredWith, comparedOnce}
-use Rattle.journal_history.specs.Call.{appendCalled, appendUptoCalled}
+use Rattle.journal_history.specs.Call.{appendCalled, appendUptoCalled, appendLogCalled, appendLogUptoCalled}
 use Rattle.journal_history.specs.Replay.{Memory, memoryOf, withState, afterCall, sliceBy, expectedBy, nameBy, numbersBy, stateBy}
 use Rattle.journal_history.specs.Replay.{stored, steppedBy, stepped}
 use Rattle.journal_history.specs.declared.line.Line.{Line}
@@ -26,6 +26,20 @@ module _ (l : Line) (s x : State) (v v′ e n c t : List ℕ) where
   unfolding steppedBy afterCall withState memoryOf
   line-cut h made = rw (eq-eqb (l .letter) 97 h, made .0, made .1) refl
 
+  -- the call with a budget through the log, and append through it
+  pub line-log-cut : (l .letter ≡ 97 → ⊥) → (l .letter ≡ 65 → ⊥) → l .letter ≡ 98
+      → (x ≡ appendLogUptoCalled s l v n c t .state) × (v′ ≡ appendLogUptoCalled s l v n c t .slice)
+      → memoryOf x v′ e n c t ≡ steppedBy l (memoryOf s v e n c t)
+  unfolding steppedBy afterCall withState memoryOf
+  line-log-cut f g h made = rw (ne-eqb (l .letter) 97 f, ne-eqb (l .letter) 65 g, eq-eqb (l .letter) 98 h, made .0, made .1) refl
+
+  pub line-log-append : (l .letter ≡ 97 → ⊥) → (l .letter ≡ 65 → ⊥) → (l .letter ≡ 98 → ⊥) → l .letter ≡ 66
+      → (x ≡ appendLogCalled s l v n c t .state) × (v′ ≡ appendLogCalled s l v n c t .slice)
+      → memoryOf x v′ e n c t ≡ steppedBy l (memoryOf s v e n c t)
+  unfolding steppedBy afterCall withState memoryOf
+  line-log-append f g h i made =
+      rw (ne-eqb (l .letter) 97 f, ne-eqb (l .letter) 65 g, ne-eqb (l .letter) 98 h, eq-eqb (l .letter) 66 i, made .0, made .1) refl
+
   -- append
   pub line-append : (l .letter ≡ 97 → ⊥) → l .letter ≡ 65
       → (x ≡ appendCalled s l v n c t .state) × (v′ ≡ appendCalled s l v n c t .slice)
@@ -34,19 +48,19 @@ module _ (l : Line) (s x : State) (v v′ e n c t : List ℕ) where
   line-append g h made = rw (ne-eqb (l .letter) 97 g, eq-eqb (l .letter) 65 h, made .0, made .1) refl
 
 -- a comparison
-pub line-compared : (l : Line) (s x : State) (v e n c t : List ℕ) → (l .letter ≡ 97 → ⊥) → (l .letter ≡ 65 → ⊥) → l .letter ≡ 101
-    → x ≡ comparedOnce s (answeredWith s l && sameBytes v e) → memoryOf x v e n c t ≡ steppedBy l (memoryOf s v e n c t)
+pub line-compared : (l : Line) (s x : State) (v e n c t : List ℕ) → (l .letter ≡ 97 → ⊥) → (l .letter ≡ 65 → ⊥) → (l .letter ≡ 98 → ⊥)
+    → (l .letter ≡ 66 → ⊥) → l .letter ≡ 101 → x ≡ comparedOnce s (answeredWith s l && sameBytes v e) → memoryOf x v e n c t ≡ steppedBy l (memoryOf s v e n c t)
 unfolding steppedBy withState memoryOf
-line-compared l s x v e n c t f g h made =
-    rw (ne-eqb (l .letter) 97 f, ne-eqb (l .letter) 65 g, eq-eqb (l .letter) 101 h, made) refl
+line-compared l s x v e n c t f g i j h made =
+    rw (ne-eqb (l .letter) 97 f, ne-eqb (l .letter) 65 g, ne-eqb (l .letter) 98 i, ne-eqb (l .letter) 66 j, eq-eqb (l .letter) 101 h, made) refl
 
 -- something stored
 pub line-stored : (l : Line) (s x : State) (v v′ e e′ n n′ c c′ t t′ : List ℕ) → (l .letter ≡ 97 → ⊥) → (l .letter ≡ 65 → ⊥)
-    → (l .letter ≡ 101 → ⊥) → x ≡ stateBy l s → v′ ≡ sliceBy l v → e′ ≡ expectedBy l e → n′ ≡ nameBy l n → c′ ≡ numbersBy l 99 c
+    → (l .letter ≡ 98 → ⊥) → (l .letter ≡ 66 → ⊥) → (l .letter ≡ 101 → ⊥) → x ≡ stateBy l s → v′ ≡ sliceBy l v → e′ ≡ expectedBy l e → n′ ≡ nameBy l n → c′ ≡ numbersBy l 99 c
     → t′ ≡ numbersBy l 116 t → memoryOf x v′ e′ n′ c′ t′ ≡ steppedBy l (memoryOf s v e n c t)
 unfolding steppedBy stored memoryOf
-line-stored l s x v v′ e e′ n n′ c c′ t t′ f g h a b d i j k =
-    rw (ne-eqb (l .letter) 97 f, ne-eqb (l .letter) 65 g, ne-eqb (l .letter) 101 h, a, b, d, i, j, k) refl
+line-stored l s x v v′ e e′ n n′ c c′ t t′ f g p q h a b d i j k =
+    rw (ne-eqb (l .letter) 97 f, ne-eqb (l .letter) 65 g, ne-eqb (l .letter) 98 p, ne-eqb (l .letter) 66 q, ne-eqb (l .letter) 101 h, a, b, d, i, j, k) refl
 
 -- ---- a chunk
 

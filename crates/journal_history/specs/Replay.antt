@@ -10,7 +10,7 @@ use Rattle.lines.specs.Lines.{replayOf}
 use Rattle.journal_history.specs.Line.{parsedLine}
 use Rattle.journal_history.specs.State.{started, countsSet, lengthSet, answeredWith, comparedOnce, malformedOnce}
 use Rattle.journal_history.specs.Store.{filled, bytesStored, repeated, numberStored}
-use Rattle.journal_history.specs.Call.{Called, appendCalled, appendUptoCalled}
+use Rattle.journal_history.specs.Call.{Called, appendCalled, appendUptoCalled, appendLogCalled, appendLogUptoCalled}
 use Rattle.journal_history.specs.declared.line.Line.{Line}
 use Rattle.journal_history.specs.declared.state.State.{State}
 
@@ -25,7 +25,7 @@ unfoldable pub expectedBy : Line → List ℕ → List ℕ
 expectedBy l v =
     cond (eqb (l .letter) 120) (bytesStored l v) (cond (eqb (l .letter) 114) (repeated (l .y) (l .x) (l .z) v) (sliceBy l v))
 
--- the name: n puts bytes there
+-- the name, and the log behind it: n puts bytes there
 unfoldable pub nameBy : Line → List ℕ → List ℕ
 nameBy l v = cond (eqb (l .letter) 110) (bytesStored l v) v
 
@@ -80,14 +80,16 @@ stored l w = record {
   times = numbersBy l 116 (w .times);
 }
 
--- after a line's letter and numbers: a is the call with a budget, A append, e a comparison
+-- after a line's letter and numbers: a is the call with a budget, A append, b and B the same through the log, e a comparison
 unfoldable pub steppedBy : Line → Memory → Memory
 steppedBy l w =
     cond (eqb (l .letter) 97) (afterCall w (appendUptoCalled (w .state) l (w .slice) (w .name) (w .chances) (w .times)))
     (cond (eqb (l .letter) 65) (afterCall w (appendCalled (w .state) l (w .slice) (w .name) (w .chances) (w .times)))
+    (cond (eqb (l .letter) 98) (afterCall w (appendLogUptoCalled (w .state) l (w .slice) (w .name) (w .chances) (w .times)))
+    (cond (eqb (l .letter) 66) (afterCall w (appendLogCalled (w .state) l (w .slice) (w .name) (w .chances) (w .times)))
     (cond (eqb (l .letter) 101)
     (withState w (comparedOnce (w .state) (answeredWith (w .state) l && sameBytes (w .slice) (w .expected))) (w .slice))
-    (stored l w)))
+    (stored l w)))))
 
 -- after one line more
 unfoldable pub stepped : List ℕ → Memory → Memory

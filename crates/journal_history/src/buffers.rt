@@ -10,13 +10,14 @@ pub(crate) fn bytes_buffer() -> [u8; 65568]
     [0; 65568]
 }
 
-// More than a name, the chances and the times of a record may take.
-pub(crate) fn name_buffer() -> [u8; 40]
-    ensures { λ r. ⌜ 40 ≡ length r ⌝ }
+// 40 bytes for a name, more than a record may take, and 4,096 for a log behind them.
+pub(crate) fn name_buffer() -> [u8; 4136]
+    ensures { λ r. ⌜ 4136 ≡ length r ⌝ }
 {
-    [0; 40]
+    [0; 4136]
 }
 
+// More than the chances and the times of a record may take.
 pub(crate) fn chances_buffer() -> [u32; 16]
     ensures { λ r. ⌜ 16 ≡ length r ⌝ }
 {

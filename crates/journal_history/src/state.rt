@@ -14,7 +14,7 @@ pub(crate) struct Offered {
     pub times: usize,
 }
 
-// An answer: 0, a length, 0; 1, declined by, 0; or 2, number, place.
+// An answer: 0, a length, 0; 1, declined by, 0; 2, number, place; or 3, number, place in the log.
 pub(crate) struct Words {
     pub kind: u64,
     pub first: u64,

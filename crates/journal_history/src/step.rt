@@ -3,6 +3,8 @@
 ghost use mathlib.Core.Path.{_≡_};
 ghost use Rattle.journal_history.specs.Replay.{memoryOf, replayed, steppedBy};
 use crate::call::append;
+use crate::call::append_log;
+use crate::call::append_log_upto;
 use crate::call::append_upto;
 use crate::compare::compare;
 use crate::line::Line;
@@ -58,6 +60,12 @@ fn replay_line(
     }
     if l.letter == b'A' {
         return append(s, l, v, name, chances, times);
+    }
+    if l.letter == b'b' {
+        return append_log_upto(s, l, v, name, chances, times);
+    }
+    if l.letter == b'B' {
+        return append_log(s, l, v, name, chances, times);
     }
     if l.letter == b'e' {
         return compare(s, l, v, expected);

@@ -43,7 +43,7 @@ pub(crate) fn set_expected(l: Line, v: &mut [u8])
     set_slice(l, v);
 }
 
-// The name: n puts bytes there.
+// The name, and the log behind it: n puts bytes there.
 pub(crate) fn set_name(l: Line, name: &mut [u8])
     ensures { λ _. ⌜ now (name .exit) ≡ nameBy l (now (name .entry)) ⌝ }
 {

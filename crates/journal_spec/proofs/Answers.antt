@@ -3,15 +3,16 @@
 use mathlib.Core.Path.{_≡_, refl, ap, _∙_}
 use mathlib.Core.Logic.{_↔_}
 use Prim.Native.Nat.{ℕ, zero, suc, _+_}
-use mathlib.Core.List.{List}
+use mathlib.Core.List.{List, [], _∷_}
 use native.Mathlib.Omega.{arith}
 use lib.ListN.{length, take, length-take}
 use borrow.Author.Tests.{le-leb, lt-leb}
 use Rattle.journal_spec.specs.Record.{recordBytes}
-use Rattle.journal_spec.specs.Request.{offerOf, AppendResult, extended}
+use Rattle.journal_spec.specs.Log.{Gathered, gathered, misread}
+use Rattle.journal_spec.specs.Request.{Request, timesOf, offerOf, AppendResult, extended}
 use Rattle.journal_spec.specs.Calls.{operations, Call, emptyIn, perform, journalAfter}
-use Rattle.journal_spec.specs.Model.{Model, emptyModel, committedOf, Verdict, taken, turned, byNumber, verdictOf, Entry}
-use Rattle.journal_spec.specs.Model.{enterRecord, enterBy, modelAfter}
+use Rattle.journal_spec.specs.Model.{Model, emptyModel, committedOf, Verdict, taken, turned, byNumber, byLog, firstTurned, verdictOf}
+use Rattle.journal_spec.specs.Model.{Entry, enterRecord, enterBy, modelRefusal, modelAfter}
 use Rattle.journal_spec.specs.Shown.{offerBy, budgetOf, recordOf}
 use Rattle.journal_spec.specs.Ranges.{Accepted}
 use Rattle.journal_spec.proofs.Reading.{by-order}
@@ -19,10 +20,24 @@ use Rattle.journal_spec.proofs.Ranged.{accepted-exactly}
 use Rattle.journal_spec.proofs.Demand.{start, step, after-all}
 use Rattle.journal_spec.proofs.Shown.{enter-is}
 
-number-none : (n : ℕ) → byNumber n ≡ taken → n ≡ 0
-unfolding byNumber
-number-none zero h = refl
-number-none (suc n) h = let z : _≡_ {A = ℕ} 0 1 = cc in absurd (omega arith)
+-- the request's times are handed in, or its log has them
+pub record Gathers (q : Request) : Type 0 where
+  pub times : List ℕ
+  pub are : timesOf q ≡ gathered times
+
+pub taken-exactly : (room : ℕ) (m : Model) (q : Request) → (verdictOf room m q ≡ taken) ↔ (Gathers q × Accepted room m (offerOf q))
+unfolding verdictOf
+taken-exactly room m q = (
+  λ h.
+      let z = both (timesOf q) (modelRefusal room m (offerOf q)) h in
+      (record { times = z .0; are = z .1 }, accepted-exactly room m (offerOf q) .0 (z .2)),
+  λ a. rw (a .0 .are, accepted-exactly room m (offerOf q) .1 (a .1)) (unfold byLog byNumber firstTurned in refl),
+)
+  where
+    both : (g : Gathered) (n : ℕ) → firstTurned (byLog g ∷ byNumber n ∷ []) ≡ taken → (ts : List ℕ) × (g ≡ gathered ts) × (n ≡ 0)
+    both (gathered ts) zero h = (ts, refl, refl)
+    both (gathered ts) (suc n) h = unfold byLog byNumber firstTurned in let z : _≡_ {A = ℕ} 0 1 = cc in absurd (omega arith)
+    both (misread k p) n h = unfold byLog firstTurned in let z : _≡_ {A = ℕ} 0 1 = cc in absurd (omega arith)
 
 module _ (slice : List ℕ) (cs : List Call) (c : Call) where
   -- the model and the answer of one more call
@@ -55,9 +70,7 @@ module _ (slice : List ℕ) (cs : List Call) (c : Call) where
       (λ all. rw (le-leb _ _ all, length-take) (ap (λ (n : ℕ). extended (committedOf before + n)) (omega arith)))
       (λ less. rw (lt-leb _ _ less, length-take) (ap (λ (n : ℕ). extended (committedOf before + n)) (omega arith))))
 
-  -- and it is taken exactly under the ranges
-  pub accepted : (verdict ≡ taken) ↔ Accepted (length slice) before (offerBy c)
-  unfolding verdictOf offerBy
-  accepted =
-      let e = accepted-exactly (length slice) before (offerOf (c .request)) in
-      (λ h. e .0 (number-none _ h), λ a. rw (e .1 a) (unfold byNumber in refl))
+  -- and it is taken exactly where its log reads and the ranges hold
+  pub accepted : (verdict ≡ taken) ↔ (Gathers (c .request) × Accepted (length slice) before (offerBy c))
+  unfolding offerBy
+  accepted = taken-exactly (length slice) before (c .request)

@@ -14,10 +14,12 @@ use Rattle.journal_spec.specs.Bytes.{joined}
 use Rattle.journal_spec.specs.Record.{Record, IsDay, lastOf, recordReader, recordBytes, recordsBytes}
 use Rattle.journal_spec.specs.Scan.{maxLength, standing, contentsOf, statusOf, scanOf}
 use Rattle.journal_spec.specs.Read.{partOf, partPlace, readPart, markIn, readMark}
-use Rattle.journal_spec.specs.Request.{Journal, Offer, offerOf, allowed, AppendResult, extended, Outcome}
-use Rattle.journal_spec.specs.Append.{offered, written, unchanged, extend, settle, appendTo, appendOf}
+use Rattle.journal_spec.specs.Log.{Gathered, gathered, misread}
+use Rattle.journal_spec.specs.Request.{Journal, Request, Offer, timesOf, offerOf, allowed, AppendResult, extended, Outcome}
+use Rattle.journal_spec.specs.Append.{offered, written, unchanged, extend, settle, appendTo, appendWith, appendOf}
 use Rattle.journal_spec.specs.Calls.{operations, Call, emptyIn, perform, journalAfter, answersOf, reachOf}
-use Rattle.journal_spec.specs.Model.{Model, emptyModel, lengthsOf, committedOf, recordFor, Entry, enterRecord, byNumber, verdictOf, enterBy, enter}
+use Rattle.journal_spec.specs.Model.{Model, emptyModel, lengthsOf, committedOf, recordFor, Entry, enterRecord, enterBy, enter}
+use Rattle.journal_spec.specs.Model.{Verdict, taken, byNumber, byLog, firstTurned, verdictOf}
 use Rattle.journal_spec.specs.Model.{modelRefusal, modelAfter, modelAnswers}
 use Rattle.journal_spec.specs.Demand.{modelScan, bytesAt, recordMark, Agrees, Demand3From, Demand3}
 use Rattle.journal_spec.specs.Ranges.{RecordRanges, AllRanges}
@@ -191,14 +193,33 @@ module _ (room : ℕ) (j : Journal) (m : Model) (h : Holds room j m) (o : Offer)
       byRefusal zero e = by-order (length bytes) k (step-finished e) (step-cut e)
       byRefusal (suc n) e = step-declined n e
 
--- every call
-pub step : (room : ℕ) (j : Journal) (m : Model) → Holds room j m → (c : Call) → Step room j (perform operations j c) (enter room m c)
-unfolding perform operations enter appendOf appendTo verdictOf offerOf
-step room j m h c =
-    let o : Offer = offerOf (c .request) in
-    rw (held room j m h)
-    (rw (recordsOf-placed 0 (m .records), h .slice, same-refusal room m o, same-length o)
-    (settled room j m h o (c .dayFits) (allowed (c .request .budget) (length (recordBytes (recordFor o))))))
+only-number : (n : ℕ) → firstTurned (byNumber n ∷ []) ≡ byNumber n
+unfolding firstTurned byNumber
+only-number zero = refl
+only-number (suc n) = refl
+
+-- every call, by what its log comes to
+module _ (room : ℕ) (j : Journal) (m : Model) (h : Holds room j m) (c : Call) where
+  abbrev q : Request
+  q = c .request
+
+  abbrev o : Offer
+  o = offerOf q
+
+  abbrev entry : Verdict → Entry
+  entry v = enterBy v m (recordFor o) (allowed (q .budget) (length (recordBytes (recordFor o))))
+
+  step-with : (g : Gathered) → Step room j (appendWith g j q) (entry (firstTurned (byLog g ∷ byNumber (modelRefusal room m o) ∷ [])))
+  unfolding appendWith appendTo unchanged byLog firstTurned enterBy
+  step-with (misread n p) = record { answer = refl; holds = h; beyond = refl }
+  step-with (gathered ts) =
+      rw (held room j m h)
+      (rw (recordsOf-placed 0 (m .records), h .slice, same-refusal room m o, same-length o, only-number)
+      (settled room j m h o (unfold offerOf in c .dayFits) (allowed (q .budget) (length (recordBytes (recordFor o))))))
+
+  pub step : Step room j (perform operations j c) (enter room m c)
+  unfolding perform operations enter appendOf verdictOf
+  step = step-with (timesOf q)
 
 -- ---- every list
 

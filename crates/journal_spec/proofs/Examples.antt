@@ -1,8 +1,8 @@
--- Worked examples, computed from the definitions: document 01's 33 bytes, cuts of them, faults at their places, marks, and declined offers.
+-- Worked examples, computed from the definitions: document 01's 33 bytes, cuts of them, faults at their places, declined offers, logs and marks.
 -- Assumes nothing.
 use mathlib.Core.Path.{_≡_, refl, sym, ap, _∙_}
 use Prim.Native.Nat.{ℕ, zero, suc, _≤_, _<_}
-use mathlib.Core.List.{List, [], _∷_, append-nil}
+use mathlib.Core.List.{List, [], _∷_, _++_, append-nil}
 use native.Mathlib.Omega.{arith}
 use lib.ListN.{length, take, getD, set, replicate}
 use lib.Ieee.{binary64, ofBits, toBits}
@@ -17,9 +17,12 @@ use Rattle.journal_spec.specs.Record.{Record, lastOf, judgeForm, judgeDa
 use Rattle.journal_spec.specs.Record.{limitSection, recordReader, recordBytes, recordsBytes}
 use Rattle.journal_spec.specs.Scan.{recordsOf, contentsFrom, contentsOf, whole, torn, damaged, statusOf, scanOf}
 use Rattle.journal_spec.specs.Read.{flat, few, normal, letterOf, allEqual, areEqual, markFrom, markOf}
-use Rattle.journal_spec.specs.Request.{all, Request, offerOf, declined}
+use Rattle.journal_spec.specs.Tests.{each, same, nameGood}
+use Rattle.journal_spec.specs.Log.{begin, linesOf, nameIn, digitsIn, digitsGood, decimalFrom, ticksIn, lineGood, Gathered, gathered, misread}
+use Rattle.journal_spec.specs.Log.{takeLine, gatherFrom, gatherOf}
+use Rattle.journal_spec.specs.Request.{all, times, log, Request, gatherBy, timesOf, timesIn, offerOf, declined, declinedAt}
 use Rattle.journal_spec.specs.Request as R
-use Rattle.journal_spec.specs.Append.{judgeEven, appendRefusal, unchanged, settle, appendTo, appendOf}
+use Rattle.journal_spec.specs.Append.{judgeEven, appendRefusal, unchanged, settle, appendTo, appendWith, appendOf}
 use Rattle.journal_spec.specs.Model.{workedOut}
 use Rattle.journal_spec.specs.Ranges.{RecordRanges}
 use Rattle.journal_spec.proofs.EvenChance.{worked-plain}
@@ -171,7 +174,11 @@ old-form = refl
 
 -- an offer of which nothing is right, made better from the front
 abbrev offer : List ℕ → List ℕ → List ℕ → Request
-offer name chances times = record { day = 1; name = name; chances = chances; times = times; budget = all }
+offer name chances ts = record { day = 1; name = name; chances = chances; source = times ts; budget = all }
+
+-- the same with nothing wrong but what a log brings
+abbrev through : List ℕ → Request
+through bytes = record { day = 1; name = 0x41 ∷ []; chances = 1 ∷ 500_000 ∷ []; source = log bytes; budget = all }
 
 abbrev declined-by : Request → ℕ → Type 0
 declined-by q n = appendOf (record { slice = theBytes; len = 0 }) q .answer ≡ declined n
@@ -183,9 +190,13 @@ pub record Declined : Type 0 where
   pub falling : declined-by (offer (0x41 ∷ []) (2 ∷ 2 ∷ []) []) 5
   pub beyond : declined-by (offer (0x41 ∷ []) (1 ∷ 500_001 ∷ []) []) 17
   pub times : declined-by (offer (0x41 ∷ []) (1 ∷ 500_000 ∷ []) []) 6
+  pub noLine : declined-by (through []) 6
+  pub oneLine : declined-by (through (0x41 ∷ 0x20 ∷ 0x31 ∷ 0x0a ∷ [])) 6
+  pub badLine : appendOf (record { slice = theBytes; len = 34 }) (through (0x0a ∷ [])) .answer ≡ declinedAt 11 0
 
 pub declines : Declined
-unfolding theBytes appendOf appendTo settle unchanged appendRefusal judgeEven firstOf sectionRefusal offerOf
+unfolding theBytes appendOf appendWith timesOf gatherBy timesIn gatherOf gatherFrom takeLine linesOf begin lineGood nameGood digitsGood each
+    nameIn digitsIn ticksIn decimalFrom same appendTo settle unchanged appendRefusal judgeEven firstOf sectionRefusal offerOf
     itemsRefusal contentsOf contentsFrom recordsOf lastOf recordReader run then section items valueOf judgeForm formKnown judgeDay
     nameSection chanceSection judgeChance chanceInRange lastChance timeSection limitSection outside unless inRange
 declines = record {
@@ -195,6 +206,73 @@ declines = record {
   falling = refl;
   beyond = refl;
   times = refl;
+  noLine = refl;
+  oneLine = refl;
+  badLine = refl;
+}
+
+-- ---- logs
+
+-- `A 100`, `B 7`, `A 90`, each with its newline
+unfoldable pub theLog : List ℕ
+theLog =
+    0x41 ∷ 0x20 ∷ 0x31 ∷ 0x30 ∷ 0x30 ∷ 0x0a
+    ∷ 0x42 ∷ 0x20 ∷ 0x37 ∷ 0x0a
+    ∷ 0x41 ∷ 0x20 ∷ 0x39 ∷ 0x30 ∷ 0x0a
+    ∷ []
+
+-- so many lines `A 1`, and the bytes of `A 1048575` up to its last digit
+unfoldable pub lines : ℕ → List ℕ
+lines zero = []
+lines (suc n) = 0x41 ∷ 0x20 ∷ 0x31 ∷ 0x0a ∷ lines n
+
+unfoldable pub digits : List ℕ
+digits = 0x41 ∷ 0x20 ∷ 0x31 ∷ 0x30 ∷ 0x34 ∷ 0x38 ∷ 0x35 ∷ 0x37 ∷ []
+
+abbrev ofA : List ℕ → Gathered
+ofA bytes = gatherOf (0x41 ∷ []) bytes
+
+pub record Logs : Type 0 where
+  pub read : ofA theLog ≡ gathered (100 ∷ 90 ∷ [])
+  pub other : gatherOf (0x43 ∷ []) theLog ≡ gathered []
+  pub empty : ofA [] ≡ gathered []
+  pub noNewline : ofA (take 14 theLog) ≡ misread 11 10
+  pub leadingZero : ofA (set (set theLog 2 0x30) 3 0x31) ≡ misread 11 0
+  pub zeroTicks : ofA (set theLog 8 0x30) ≡ misread 11 6
+  pub twoSpaces : ofA (set theLog 2 0x20) ≡ misread 11 0
+  pub noName : ofA (set theLog 6 0x20) ≡ misread 11 6
+  pub carriageReturn : ofA (set theLog 4 0x0d) ≡ misread 11 0
+  pub most : ofA (digits ++ (0x35 ∷ 0x0a ∷ [])) ≡ gathered (1_048_575 ∷ [])
+  pub beyond : ofA (digits ++ (0x36 ∷ 0x0a ∷ [])) ≡ misread 11 0
+  pub longName : gatherOf (replicate 32 0x41) (replicate 31 0x41 ++ lines 1) ≡ gathered (1 ∷ [])
+  pub longerName : gatherOf (replicate 33 0x41) (replicate 32 0x41 ++ lines 1) ≡ misread 11 0
+  pub all : ofA (lines 128) ≡ gathered (replicate 128 1)
+  pub many : ofA (theLog ++ lines 127) ≡ misread 12 519
+  pub manyOfAnother : gatherOf (0x42 ∷ []) (theLog ++ lines 129) ≡ gathered (7 ∷ [])
+  pub faultyMany : ofA (lines 128 ++ (0x41 ∷ 0x20 ∷ 0x30 ∷ 0x0a ∷ [])) ≡ misread 11 512
+  pub firstDecides : ofA (lines 129 ++ (0x0a ∷ [])) ≡ misread 12 512
+
+pub logs : Logs
+unfolding theLog lines digits gatherOf gatherFrom takeLine linesOf begin lineGood nameGood digitsGood each inRange nameIn digitsIn ticksIn decimalFrom same
+logs = record {
+  read = refl;
+  other = refl;
+  empty = refl;
+  noNewline = refl;
+  leadingZero = refl;
+  zeroTicks = refl;
+  twoSpaces = refl;
+  noName = refl;
+  carriageReturn = refl;
+  most = refl;
+  beyond = refl;
+  longName = refl;
+  longerName = refl;
+  all = refl;
+  many = refl;
+  manyOfAnother = refl;
+  faultyMany = refl;
+  firstDecides = refl;
 }
 
 -- ---- marks

@@ -20,6 +20,9 @@ pub mod Format
 pub mod Refused
 pub mod Table
 pub mod Placing
+-- the log
+pub mod Lines
+pub mod Logs
 -- what came before document 02's requests
 pub mod Former
 pub mod Marks

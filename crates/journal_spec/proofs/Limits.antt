@@ -21,7 +21,8 @@ use Rattle.journal_spec.specs.Refusals.{limitRefusal, unless, firstOf}
 use Rattle.journal_spec.specs.Section.{itemsRefusal}
 use Rattle.journal_spec.specs.Record.{judgeLimit}
 use Rattle.journal_spec.specs.Append.{limitBits, limitsOf}
-use Rattle.journal_spec.specs.Model.{workedOut, each, timesGood}
+use Rattle.journal_spec.specs.Tests.{each}
+use Rattle.journal_spec.specs.Model.{workedOut, timesGood}
 use Rattle.journal_spec.proofs.Judging.{unless-none, unless-true, first-none, none-first}
 use Rattle.journal_spec.proofs.Each.{each-time}
 

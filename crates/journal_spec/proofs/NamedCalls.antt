@@ -11,10 +11,10 @@ use borrow.Author.Tests.{le-leb, lt-leb, lt-ltb}
 use Rattle.journal_spec.specs.Refusals.{roomRefusal, unless, firstOf}
 use Rattle.journal_spec.specs.Record.{Record, IsDay, lastOf, recordBytes}
 use Rattle.journal_spec.specs.Scan.{maxLength}
-use Rattle.journal_spec.specs.Request.{Budget, all, upTo, Request, Offer, offerOf, allowed, extended, declined}
+use Rattle.journal_spec.specs.Request.{Budget, all, upTo, times, Request, Offer, gatherBy, timesOf, timesIn, offerOf, allowed, extended, declined}
 use Rattle.journal_spec.specs.Calls.{Call}
-use Rattle.journal_spec.specs.Model.{Model, emptyModel, lengthsOf, committedOf, recordFor, byNumber, verdictOf, Entry}
-use Rattle.journal_spec.specs.Model.{enterRecord, enterBy, enter, noRoom, modelRefusals, modelRefusal, modelAfter}
+use Rattle.journal_spec.specs.Model.{Model, emptyModel, lengthsOf, committedOf, recordFor, byNumber, byLog, firstTurned, verdictOf}
+use Rattle.journal_spec.specs.Model.{Entry, enterRecord, enterBy, enter, noRoom, modelRefusals, modelRefusal, modelAfter}
 use Rattle.journal_spec.specs.Ranges.{Accepted}
 use Rattle.journal_spec.proofs.Records.{length-record}
 use Rattle.journal_spec.proofs.Ranged.{passed, accepted-exactly}
@@ -23,7 +23,7 @@ use Rattle.journal_spec.proofs.Scanning.{lastOf-snoc}
 
 -- day 1, times 100 and 100, an even chance
 unfoldable pub request : ℕ → Budget → Request
-request n budget = record { day = 1; name = replicate n 0x41; chances = 500_000 ∷ []; times = 100 ∷ 100 ∷ []; budget = budget }
+request n budget = record { day = 1; name = replicate n 0x41; chances = 500_000 ∷ []; source = times (100 ∷ 100 ∷ []); budget = budget }
 
 unfoldable pub named : ℕ → Offer
 named n = record { day = 1; name = replicate n 0x41; chances = 500_000 ∷ []; times = 100 ∷ 100 ∷ [] }
@@ -121,7 +121,7 @@ pub record Early (room : ℕ) (m : Model) (ns : List ℕ) : Type 0 where
 entered : (room : ℕ) (m : Model) (n : ℕ) (budget : Budget) → lastOf (m .records) .day ≤ 1 → 1 ≤ n → n ≤ 32
     → committedOf m + (32 + n) ≤ room → committedOf m + (32 + n) ≤ maxLength
     → enter room m (callNamed n budget) ≡ enterRecord m (recordFor (named n)) (allowed budget (length (recordBytes (recordFor (named n)))))
-unfolding enter enterBy verdictOf byNumber callNamed request named offerOf
+unfolding enter enterBy verdictOf firstTurned byLog byNumber callNamed request named offerOf timesOf gatherBy timesIn
 entered room m n budget day least most fits fits′ = rw (accepted-exactly room m (named n) .1 (accepts room m n day least most fits fits′)) refl
 
 pub finished : (room : ℕ) (m : Model) (n : ℕ) → lastOf (m .records) .day ≤ 1 → 1 ≤ n → n ≤ 32
@@ -169,5 +169,5 @@ full room m n day least most fits less =
 
 -- what the model answers then
 pub turned-away : (room : ℕ) (m : Model) (n : ℕ) → modelRefusal room m (named n) ≡ roomRefusal → enter room m (appendNamed n) .answer ≡ declined roomRefusal
-unfolding enter enterBy verdictOf byNumber callNamed request named offerOf
+unfolding enter enterBy verdictOf firstTurned byLog byNumber callNamed request named offerOf timesOf gatherBy timesIn
 turned-away room m n e = rw e refl

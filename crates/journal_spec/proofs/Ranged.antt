@@ -21,7 +21,8 @@ use Rattle.journal_spec.specs.Record.{Record, Last, IsDay, lastOf, judge
 use Rattle.journal_spec.specs.Record.{maxByte, minChances, maxChances, evenChance, recordReader, recordBytes}
 use Rattle.journal_spec.specs.Scan.{maxLength}
 use Rattle.journal_spec.specs.Request.{Offer}
-use Rattle.journal_spec.specs.Model.{Model, committedOf, workedOut, recordFor, each, rising, dayFalls, nameGood, chancesGood, timesGood}
+use Rattle.journal_spec.specs.Tests.{each, rising, nameGood}
+use Rattle.journal_spec.specs.Model.{Model, committedOf, workedOut, recordFor, dayFalls, chancesGood, timesGood}
 use Rattle.journal_spec.specs.Model.{chancesEven, noRoom, modelRefusals, modelRefusal}
 use Rattle.journal_spec.specs.Ranges.{NameRanges, ChanceRanges, TimeRanges, Accepted, RecordRanges}
 use Rattle.journal_spec.proofs.Judging.{unless-none, unless-not, unless-true, first-none, none-at, none-first}

@@ -10,8 +10,9 @@ use lib.ListN.{length}
 use Rattle.journal_spec.specs.Scan.{Placed, Contents, standing, faulty, contentsOf, statusOf, scanOf}
 use Rattle.journal_spec.specs.Scan as S
 use Rattle.journal_spec.specs.Read.{noPart, partOf, partPlace, partBytes, readPart, unmarked, markIn, readMark}
-use Rattle.journal_spec.specs.Request.{Journal, Budget, Request, Offer, offerOf, AppendResult, extended, declined, damaged}
-use Rattle.journal_spec.specs.Append.{unchanged, extend, settle, appendTo, appendOf}
+use Rattle.journal_spec.specs.Log.{Gathered, gathered, misread}
+use Rattle.journal_spec.specs.Request.{Journal, Budget, Request, Offer, timesOf, offerOf, AppendResult, extended, declinedAt, damaged}
+use Rattle.journal_spec.specs.Append.{unchanged, extend, settle, appendTo, appendWith, appendOf}
 
 -- the answer is a length, or nothing was touched: every byte and the length are as they were
 settle-untouched : (n : ℕ) (j : Journal) (committed : ℕ) (new : List ℕ) (a : AppendResult)
@@ -43,19 +44,28 @@ fault-said len m q n p j o budget h =
     let b : q ≡ p = cc in
     rw (a, b) refl
 
+unread-untouched : (g : Gathered) (j : Journal) (q : Request) (a : AppendResult)
+    → appendWith g j q .answer ≡ a → ((m : ℕ) → a ≡ extended m → ⊥) → appendWith g j q .journal ≡ j
+unfolding appendWith unchanged
+unread-untouched (misread n p) j q a e other = refl
+unread-untouched (gathered ts) j q a e other = untouched _ j (offerOf q) (q .budget) a e other
+
 module _ (j : Journal) (q : Request) where
-  pub declined-untouched : (n : ℕ) → appendOf j q .answer ≡ declined n → appendOf j q .journal ≡ j
+  -- a call that answers no length leaves every byte and the length
+  pub refused-untouched : ((m : ℕ) → appendOf j q .answer ≡ extended m → ⊥) → appendOf j q .journal ≡ j
   unfolding appendOf
-  declined-untouched n e = untouched _ j (offerOf q) (q .budget) (declined n) e (λ m x. let z : _≡_ {A = ℕ} 0 1 = cc in omega arith)
+  refused-untouched other = unread-untouched (timesOf q) j q _ refl other
 
-  pub damaged-untouched : (n p : ℕ) → appendOf j q .answer ≡ damaged n p → appendOf j q .journal ≡ j
-  unfolding appendOf
-  damaged-untouched n p e = untouched _ j (offerOf q) (q .budget) (damaged n p) e (λ m x. let z : _≡_ {A = ℕ} 0 1 = cc in omega arith)
+  -- the log's refusal comes first, whatever the journal holds
+  pub log-first : (n p : ℕ) → timesOf q ≡ misread n p → appendOf j q .answer ≡ declinedAt n p
+  unfolding appendOf appendWith unchanged
+  log-first n p e = rw e refl
 
-  -- the journal's faults come first, as scan says them, whatever is offered
-  pub faults-first : (n p : ℕ) → scanOf (j .slice) (j .len) ≡ S.damaged n p → appendOf j q .answer ≡ damaged n p
-  unfolding scanOf appendOf
-  faults-first n p h = go (contentsOf (j .slice) (j .len)) h
+  -- then the journal's faults, as scan says them, whatever is offered
+  pub faults-first : (ts : List ℕ) → timesOf q ≡ gathered ts → (n p : ℕ) → scanOf (j .slice) (j .len) ≡ S.damaged n p
+      → appendOf j q .answer ≡ damaged n p
+  unfolding scanOf appendOf appendWith
+  faults-first ts e n p h = rw e (go (contentsOf (j .slice) (j .len)) h)
     where
       go : (x : Contents) → statusOf (j .len) x ≡ S.damaged n p → appendTo x j (offerOf q) (q .budget) .answer ≡ damaged n p
       go (standing ps committed) h = absurd (standing-not-damaged (j .len) ps committed n p h)

@@ -20,7 +20,8 @@ use Rattle.journal_spec.specs.Record.{minByte, maxByte, minChances, maxC
 use Rattle.journal_spec.specs.Scan.{maxLength}
 use Rattle.journal_spec.specs.Request.{Offer}
 use Rattle.journal_spec.specs.Append.{offered, limitsOf, judgeEven, judgeRoom, appendRefusal}
-use Rattle.journal_spec.specs.Model.{Model, committedOf, recordFor, each, risingFrom, rising, dayFalls, nameGood, chancesGood}
+use Rattle.journal_spec.specs.Tests.{each, risingFrom, rising, nameGood}
+use Rattle.journal_spec.specs.Model.{Model, committedOf, recordFor, dayFalls, chancesGood}
 use Rattle.journal_spec.specs.Model.{chancesEven, timesGood, noRoom, modelRefusals, modelRefusal}
 use Rattle.journal_spec.proofs.Judging.{first-of-two, unless-none, unless-true}
 use Rattle.journal_spec.proofs.Reading.{by-order}

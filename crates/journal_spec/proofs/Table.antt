@@ -20,9 +20,11 @@ use Rattle.journal_spec.specs.Record.{Record, Last, lastOf, judgeForm, j
 use Rattle.journal_spec.specs.Record.{timeSection, limitSection, recordReader}
 use Rattle.journal_spec.specs.Scan.{maxLength, Placed, recordsOf, Contents, standing, faulty, contentsFrom, contentsOf, statusOf, scanOf}
 use Rattle.journal_spec.specs.Scan as S
-use Rattle.journal_spec.specs.Request.{Journal, Budget, Request, Offer, offerOf, declined}
-use Rattle.journal_spec.specs.Append.{judgeEven, judgeRoom, appendRefusal, unchanged, extend, settle, appendTo, appendOf}
-use Rattle.journal_spec.specs.Model.{each, nameGood, chancesGood, timesGood}
+use Rattle.journal_spec.specs.Log.{Gathered, gathered, misread}
+use Rattle.journal_spec.specs.Request.{Journal, Budget, Request, Offer, timesOf, offerOf, declined}
+use Rattle.journal_spec.specs.Append.{judgeEven, judgeRoom, appendRefusal, unchanged, extend, settle, appendTo, appendWith, appendOf}
+use Rattle.journal_spec.specs.Tests.{each, nameGood}
+use Rattle.journal_spec.specs.Model.{chancesGood, timesGood}
 use Rattle.journal_spec.proofs.Reading.{by-order, field-cases, run-left}
 use Rattle.journal_spec.proofs.Scanning.{contents-fits, contents-long, turn-short, turn-fault, turn-found}
 use Rattle.journal_spec.proofs.Refused.{standing-not-damaged}
@@ -269,10 +271,14 @@ damaged-not-declined : (m p : ℕ) (j : Journal) (o : Offer) (budget : Budget) (
 unfolding appendTo unchanged
 damaged-not-declined m p j o budget n e = let z : _≡_ {A = ℕ} 0 1 = cc in omega arith
 
+unread-not-declined : (m p : ℕ) (j : Journal) (q : Request) (n : ℕ) → appendWith (misread m p) j q .answer ≡ declined n → ⊥
+unfolding appendWith unchanged
+unread-not-declined m p j q n e = let z : _≡_ {A = ℕ} 0 1 = cc in omega arith
+
 -- a declined append's number is one of them
 pub declined-number : (j : Journal) (q : Request) (n : ℕ) → appendOf j q .answer ≡ declined n → OfOffer n
 unfolding appendOf
-declined-number j q n h = by-contents (contentsOf (j .slice) (j .len)) h
+declined-number j q n h = by-times (timesOf q) h
   where
     by-refusal : (m committed : ℕ) (new : List ℕ) → ((i : ℕ) → m ≡ suc i → OfOffer (suc i)) → settle m j committed new .answer ≡ declined n → OfOffer n
     by-refusal zero committed new f e = absurd (extended-not-declined j committed new n e)
@@ -284,3 +290,7 @@ declined-number j q n h = by-contents (contentsOf (j .slice) (j .len)) h
         unfold appendTo in
         by-refusal (appendRefusal (length (j .slice)) (lastOf (recordsOf ps)) committed (offerOf q)) committed _
         (append-number (length (j .slice)) _ committed (offerOf q)) e
+
+    by-times : (g : Gathered) → appendWith g j q .answer ≡ declined n → OfOffer n
+    by-times (misread m p) e = absurd (unread-not-declined m p j q n e)
+    by-times (gathered ts) e = unfold appendWith in by-contents (contentsOf (j .slice) (j .len)) e

@@ -12,7 +12,9 @@ use Rattle.journal_spec.specs.Refusals.{roomRefusal, evenRefusal, unless
 use Rattle.journal_spec.specs.Section.{sectionRefusal}
 use Rattle.journal_spec.specs.Record.{Record, Last, lastOf, judgeDay, evenChance, lastChance, nameSection, chanceSection, timeSection, recordBytes}
 use Rattle.journal_spec.specs.Scan.{maxLength, recordsOf, Contents, standing, faulty, contentsOf}
-use Rattle.journal_spec.specs.Request.{Journal, Budget, Request, Offer, offerOf, allowed, AppendResult, extended, declined, damaged, Outcome}
+use Rattle.journal_spec.specs.Log.{Gathered, gathered, misread}
+use Rattle.journal_spec.specs.Request.{Journal, Budget, Request, Offer, timesOf, offerOf, allowed, AppendResult, extended, declined, declinedAt}
+use Rattle.journal_spec.specs.Request.{damaged, Outcome}
 
 -- ---- the record that is offered
 
@@ -88,6 +90,11 @@ appendTo (standing ps committed) j o budget =
     let bytes = recordBytes (offered o) in
     settle (appendRefusal (length (j .slice)) (lastOf (recordsOf ps)) committed o) j committed (take (allowed budget (length bytes)) bytes)
 
+-- by what the log comes to: a line that is refused is answered before the journal is read
+unfoldable pub appendWith : Gathered → Journal → Request → Outcome
+appendWith (misread n p) j q = unchanged (declinedAt n p) j
+appendWith (gathered ts) j q = appendTo (contentsOf (j .slice) (j .len)) j (offerOf q) (q .budget)
+
 -- append: after its checks, the record's bytes are written as far as the budget goes; document 01's append has all of them for its budget
 unfoldable pub appendOf : Journal → Request → Outcome
-appendOf j q = appendTo (contentsOf (j .slice) (j .len)) j (offerOf q) (q .budget)
+appendOf j q = appendWith (timesOf q) j q

@@ -7,6 +7,9 @@ pub mod Refusals
 pub mod Reader
 pub mod Section
 pub mod Record
+-- ranges as tests, and the build server's log
+pub mod Tests
+pub mod Log
 -- what scan, reading and append answer
 pub mod Scan
 pub mod Cursor

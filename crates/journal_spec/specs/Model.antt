@@ -3,7 +3,7 @@
 -- the types of an offer and an answer.
 use Prim.Native.Nat.{ℕ, zero, suc, _+_}
 use mathlib.Core.List.{List, [], _∷_, _++_, map}
-use mathlib.Core.Bool.{Bool, true, cond, _&&_, _||_, not}
+use mathlib.Core.Bool.{Bool, cond, _&&_, _||_, not}
 use lib.ListN.{length, take}
 use lib.Dec.{leb, ltb}
 use lib.Ieee.{Float, binary64, toBits}
@@ -12,9 +12,11 @@ use Rattle.limit.specs.Formula.{sampleForm, formulaOf}
 use Rattle.limit.specs.Answer.{chanceRefusal, timesRefusal}
 use Rattle.limit.specs.Limit.{minChance, maxChance}
 use Rattle.journal_spec.specs.Refusals.{dayRefusal, nameRefusal, roomRefusal, evenRefusal, unless, firstOf}
-use Rattle.journal_spec.specs.Record.{Record, lastOf, minName, maxName, minByte, maxByte, minChances, maxChances, evenChance, recordBytes}
+use Rattle.journal_spec.specs.Tests.{each, rising, nameGood}
+use Rattle.journal_spec.specs.Log.{Gathered, gathered, misread}
+use Rattle.journal_spec.specs.Record.{Record, lastOf, minChances, maxChances, evenChance, recordBytes}
 use Rattle.journal_spec.specs.Scan.{maxLength}
-use Rattle.journal_spec.specs.Request.{Request, Offer, offerOf, allowed, AppendResult, extended, declined}
+use Rattle.journal_spec.specs.Request.{Request, Offer, timesOf, offerOf, allowed, AppendResult, extended, declined, declinedAt}
 use Rattle.journal_spec.specs.Calls.{Call}
 
 -- document 01's book: a list of records and a torn tail
@@ -54,28 +56,9 @@ recordFor o = record {
 
 -- ---- what is declined
 
--- the test holds of each number
-unfoldable pub each : (ℕ → Bool) → List ℕ → Bool
-each test [] = true
-each test (x ∷ xs) = test x && each test xs
-
--- each number is above the one before it, the first above `low`
-unfoldable pub risingFrom : ℕ → List ℕ → Bool
-risingFrom low [] = true
-risingFrom low (x ∷ xs) = ltb low x && risingFrom x xs
-
--- the numbers rise strictly
-unfoldable pub rising : List ℕ → Bool
-rising [] = true
-rising (x ∷ xs) = risingFrom x xs
-
 -- 3: day below that of the model's last record
 unfoldable pub dayFalls : Model → Offer → Bool
 dayFalls m o = ltb (o .day) (lastOf (m .records) .day)
-
--- 4: name count or byte
-unfoldable pub nameGood : List ℕ → Bool
-nameGood name = inRange minName maxName (length name) && each (inRange minByte maxByte) name
 
 -- 5: chance count, range or not rising
 unfoldable pub chancesGood : List ℕ → Bool
@@ -120,8 +103,20 @@ unfoldable pub byNumber : ℕ → Verdict
 byNumber zero = taken
 byNumber (suc n) = turned (declined (suc n))
 
+-- the log's refusal, with its place
+unfoldable pub byLog : Gathered → Verdict
+byLog (gathered ts) = taken
+byLog (misread n p) = turned (declinedAt n p)
+
+-- the first that turns the call away
+unfoldable pub firstTurned : List Verdict → Verdict
+firstTurned [] = taken
+firstTurned (taken ∷ vs) = firstTurned vs
+firstTurned (turned answer ∷ vs) = turned answer
+
+-- the log is judged before the journal
 unfoldable pub verdictOf : ℕ → Model → Request → Verdict
-verdictOf room m q = byNumber (modelRefusal room m (offerOf q))
+verdictOf room m q = firstTurned (byLog (timesOf q) ∷ byNumber (modelRefusal room m (offerOf q)) ∷ [])
 
 -- a call's answer, and the model after it
 pub record Entry : Type 0 where

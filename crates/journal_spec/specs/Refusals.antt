@@ -31,6 +31,14 @@ roomRefusal = 9
 abbrev pub absentRefusal : ℕ
 absentRefusal = 10
 
+-- 11: a line of the log not of its shape or range
+abbrev pub lineRefusal : ℕ
+lineRefusal = 11
+
+-- 12: a 129th line of the name
+abbrev pub manyRefusal : ℕ
+manyRefusal = 12
+
 -- 13: form 1 after a record of form 2
 abbrev pub oldFormRefusal : ℕ
 oldFormRefusal = 13

@@ -1,6 +1,7 @@
 -- What a call of append is handed, what it answers, and what it leaves: the types alone, which append's definition and the model share.
 use Prim.Native.Nat.{ℕ}
-use mathlib.Core.List.{List}
+use mathlib.Core.List.{List, []}
+use Rattle.journal_spec.specs.Log.{Gathered, gathered, misread, gatherOf}
 
 -- document 01's volume: the bytes of the slice, and the journal's length in it
 pub record Journal : Type 0 where
@@ -12,12 +13,17 @@ pub data Budget : Type 0 where
   all : Budget
   upTo : ℕ → Budget
 
+-- where the times are from: they are handed in, or a log is, whose lines of the request's name have them
+pub data Source : Type 0 where
+  times : List ℕ → Source
+  log : List ℕ → Source
+
 -- what a call is handed besides the journal
 pub record Request : Type 0 where
   pub day : ℕ
   pub name : List ℕ
   pub chances : List ℕ
-  pub times : List ℕ
+  pub source : Source
   pub budget : Budget
 
 -- document 01's offered leaf, without its limits
@@ -27,19 +33,34 @@ pub record Offer : Type 0 where
   pub chances : List ℕ
   pub times : List ℕ
 
+-- a request's times, or the log's refusal
+unfoldable pub gatherBy : List ℕ → Source → Gathered
+gatherBy name (times ts) = gathered ts
+gatherBy name (log bs) = gatherOf name bs
+
+unfoldable pub timesOf : Request → Gathered
+timesOf q = gatherBy (q .name) (q .source)
+
+-- the times where none is refused
+unfoldable pub timesIn : Gathered → List ℕ
+timesIn (gathered ts) = ts
+timesIn (misread n p) = []
+
 -- what a request offers
 unfoldable pub offerOf : Request → Offer
-offerOf q = record { day = q .day; name = q .name; chances = q .chances; times = q .times }
+offerOf q = record { day = q .day; name = q .name; chances = q .chances; times = timesIn (timesOf q) }
 
 -- the bytes that may be written of a record of n bytes
 unfoldable pub allowed : Budget → ℕ → ℕ
 allowed all n = n
 allowed (upTo k) n = k
 
--- document 01's answer of an append: the journal's length after it, declined by a number, or damaged with a fault's number and place
+-- document 01's answer of an append: the journal's length after it; declined by a number; declined by a number for a line of the log, with
+-- the place in the log of that line's first byte; or damaged, with a fault's number and place in the journal
 pub data AppendResult : Type 0 where
   extended : ℕ → AppendResult
   declined : ℕ → AppendResult
+  declinedAt : ℕ → ℕ → AppendResult
   damaged : ℕ → ℕ → AppendResult
 
 -- the answer, and the journal after the call

@@ -14,7 +14,7 @@ use Rattle.journal_spec.specs.Bytes.{valueOf, AreBytes}
 use Rattle.journal_spec.specs.Reader.{Reader, done, field, fault, run}
 use Rattle.journal_spec.specs.Record.{recordReader, recordsBytes}
 use Rattle.journal_spec.specs.Scan.{maxLength, Placed, Contents, standing, faulty, contentsOf, whole, torn, statusOf, scanOf}
-use Rattle.journal_spec.specs.Model.{each}
+use Rattle.journal_spec.specs.Tests.{each}
 use Rattle.journal_spec.proofs.Reading.{field-cases}
 use Rattle.journal_spec.proofs.Scanning.{records-count, length-placed, contents-fits, contents-long}
 use Rattle.journal_spec.proofs.Table.{recordNumbers, among-each, contents-fault, scan-number}

@@ -15,6 +15,8 @@ mod spans;
 mod text;
 mod words;
 
+pub use words::put_words;
+
 // The longest line: a name of 32 bytes, a day of 5 digits, the mark, 8 pairs of a chance of 6 digits and a limit of 16,
 // the spaces and colons between them and the line's end.
 pub const MAX_LINE: usize = 233;

@@ -82,7 +82,7 @@ pub(crate) fn put_state(status: Status, out: &mut [u8]) -> usize
 }
 
 // A word and two numbers, as a line.
-fn put_words(out: &mut [u8], word: &[u8], n: u64, m: u64) -> usize
+pub fn put_words(out: &mut [u8], word: &[u8], n: u64, m: u64) -> usize
     ensures { λ r. ⌜ Put (now (out .entry)) 0
         (lineOf (now (word .entry) ∷ decimalDigits n ∷ decimalDigits m ∷ [])) (now (out .exit)) r ⌝ }
 {

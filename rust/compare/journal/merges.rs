@@ -2,7 +2,7 @@
 // days, whole, torn and damaged; for full ones; and lists of appends from a merged journal.
 
 use super::alter::{byte_altered, field_altered};
-use super::histories::History;
+use super::history::History;
 use super::run::{compare_groups, Group, Run};
 use crate::options::Options;
 use crate::tally::Totals;

@@ -17,6 +17,9 @@ main-spec =
     (λ c. search needs)
     (λ c κs. search needs)
     (λ c. search needs)
+    (λ c. search needs)
+    (λ c κs. search needs)
+    (λ c. search needs)
     cast-append-on
     (λ c κs. search needs)
     (λ c. search needs)

@@ -9,8 +9,8 @@ use denote.Ref.{now}
 use Rattle.journal_spec.specs.Scan.{maxLength}
 use Rattle.journal_spec.specs.Request.{Offer}
 use Rattle.journal.specs.Handed.{offerFrom}
-use Rattle.append.proofs.WrittenPart.{offered-length, extended-said, extends-record, declined-unwritten, damaged-unwritten}
-use Rattle.append.proofs.WrittenPart.{extends-nothing}
+use Rattle.append.proofs.WrittenPart.{offered-length, extended-said, extends-record, declined-unwritten, line-unwritten}
+use Rattle.append.proofs.WrittenPart.{damaged-unwritten, extends-nothing}
 use Rattle.append.proofs.extend.extend.Statement.{statement}
 use Rattle.append.proofs.extend.extend.Tie as tie
 
@@ -54,7 +54,15 @@ returns-3 c =
     let appended = c .before .before .before .before in
     let a = appended .before .before .before .before .before .before .args in
     extends-nothing (now (a .v)) (a .len) (offer appended) (appended .append .result) _ (appended .append .ensures)
-    (damaged-unwritten _ _ (c .enum-told2 .given .1))
+    (line-unwritten _ _ (c .enum-told2 .given .1))
+
+returns-4 : tie.Need-returns-4
+unfolding offer offerFrom
+returns-4 c =
+    let appended = c .before .before .before .before in
+    let a = appended .before .before .before .before .before .before .args in
+    extends-nothing (now (a .v)) (a .len) (offer appended) (appended .append .result) _ (appended .append .ensures)
+    (damaged-unwritten _ _ (c .enum-told3 .given .1))
 
 pub extend-spec : {M : Type 1} → statement M
 extend-spec =
@@ -73,8 +81,11 @@ extend-spec =
     (λ c. search needs)
     (λ c. search needs)
     (λ c. search needs)
+    (λ c. search needs)
     returns
     (λ c. search needs)
     returns-2
     (λ c. search needs)
-    returns-3)
+    returns-3
+    (λ c. search needs)
+    returns-4)

@@ -10,10 +10,10 @@ use Rattle.append.proofs.input.chances.Statement.{statement}
 use Rattle.append.proofs.input.chances.Tie as tie
 
 abbrev Inv-loop : tie.InvT-loop
-Inv-loop out₀ end i₀ count₀ out i count = (count ≤ length out) × (4 ≤ i) × (length out ≡ length out₀)
+Inv-loop from out₀ end i₀ count₀ out i count = (count ≤ length out) × (from ≤ i) × (length out ≡ length out₀)
 
 abbrev μ-loop : tie.MeasureT-loop
-μ-loop out₀ end i₀ count₀ out i count = end - i
+μ-loop from out₀ end i₀ count₀ out i count = end - i
 
 loop-again : tie.Need-loop-again Inv-loop μ-loop
 loop-again c = (c .before .before .store .ensures, omega arith, omega arith)
@@ -43,6 +43,7 @@ chances-spec =
     (λ c. omega arith)
     loop-again
     (λ c. search needs)
+    (λ c. omega arith)
     (λ c. omega arith)
     (λ c. omega arith)
     returns

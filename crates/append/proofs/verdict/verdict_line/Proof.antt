@@ -1,8 +1,9 @@
--- `verdict_line` puts the line of each of the three cases.
+-- `verdict_line` puts the line of each of the four cases.
 -- Assumes nothing.
 use borrow.Author.Needs.{needs}
 use Rattle.journal.specs.Answers.{appendMeaning}
-use Rattle.append.specs.Verdict.{wordExtended, wordDeclined, verdictLine}
+use Rattle.listing.specs.Listing.{wordDamaged, stateLine}
+use Rattle.append.specs.Verdict.{wordExtended, wordDeclined, wordLog, verdictLine}
 use Rattle.append.proofs.verdict.verdict_line.Statement.{statement}
 use Rattle.append.proofs.verdict.verdict_line.Tie as tie
 
@@ -15,8 +16,12 @@ unfolding verdictLine appendMeaning wordDeclined
 returns-2 c = rw (c .before .before .before .before .before .before .answer2 .given .1) (c .before .before .put-word2 .ensures)
 
 returns-3 : tie.Need-returns-3
-unfolding verdictLine appendMeaning
-returns-3 c = rw (c .before .before .before .before .before .answer3 .given .1) (c .before .before .put-damage .ensures)
+unfolding verdictLine appendMeaning wordLog
+returns-3 c = rw (c .before .before .before .before .before .before .before .answer3 .given .1) (c .before .before .put-words .ensures)
+
+returns-4 : tie.Need-returns-4
+unfolding verdictLine appendMeaning stateLine wordDamaged
+returns-4 c = rw (c .before .before .before .before .before .before .before .answer4 .given .1) (c .before .before .put-words2 .ensures)
 
 pub verdict-line-spec : {M : Type 1} → statement M
 verdict-line-spec =
@@ -30,10 +35,18 @@ verdict-line-spec =
     (λ c. search needs)
     (λ c κs. search needs)
     (λ c. search needs)
+    (λ c. search needs)
+    (λ c. search needs)
+    (λ c κs. search needs)
+    (λ c. search needs)
+    (λ c. search needs)
+    (λ c. search needs)
     (λ c κs. search needs)
     (λ c. search needs)
     returns
     (λ c. search needs)
     returns-2
     (λ c. search needs)
-    returns-3)
+    returns-3
+    (λ c. search needs)
+    returns-4)

@@ -18,6 +18,10 @@ returns-3 : tie.Need-returns-3
 unfolding appendWords appendMeaning
 returns-3 c = rw (c .before .before .before .a3 .given .1)
 
+returns-4 : tie.Need-returns-4
+unfolding appendWords appendMeaning
+returns-4 c = rw (c .before .before .before .a4 .given .1)
+
 pub put-words-spec : {M : Type 1} → statement M
 put-words-spec =
     tie.close
@@ -27,6 +31,9 @@ put-words-spec =
     (λ c. search needs)
     (λ c. search needs)
     (λ c. search needs)
+    (λ c. search needs)
+    (λ c. search needs)
     returns
     returns-2
-    returns-3)
+    returns-3
+    returns-4)

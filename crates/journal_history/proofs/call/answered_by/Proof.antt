@@ -17,6 +17,10 @@ returns-3 : tie.Need-returns-3
 unfolding resultSet appendMeaning lengthAfter
 returns-3 c = rw (c .before .before .before .a3 .given .1) (c .answer3 .ensures)
 
+returns-4 : tie.Need-returns-4
+unfolding resultSet appendMeaning lengthAfter
+returns-4 c = rw (c .before .before .before .a4 .given .1) (c .answer4 .ensures)
+
 pub answered-by-spec : {M : Type 1} → statement M
 answered-by-spec =
     tie.close
@@ -29,6 +33,10 @@ answered-by-spec =
     (λ c. search needs)
     (λ c. search needs)
     (λ c κs. search needs)
+    (λ c. search needs)
+    (λ c. search needs)
+    (λ c κs. search needs)
     returns
     returns-2
-    returns-3)
+    returns-3
+    returns-4)

@@ -4,13 +4,13 @@ use native.Mathlib.Omega.{arith}
 use borrow.Author.Needs.{needs}
 use lib.Seq.{length-take-le}
 use denote.Ref.{now}
-use Rattle.journal_history.specs.Call.{requestOf, appendCalled}
+use Rattle.journal_history.specs.Call.{requestOf, timesOffered, appendCalled}
 use Rattle.journal_history.proofs.Calls.{room-found, call-made, call-refused}
 use Rattle.journal_history.proofs.call.append.Statement.{statement}
 use Rattle.journal_history.proofs.call.append.Tie as tie
 
 returns : tie.Need-returns
-unfolding appendCalled requestOf
+unfolding appendCalled requestOf timesOffered
 returns c =
     let asked = c .before .before in
     let a = asked .before .before .before .before .before .before .before .args in
@@ -52,7 +52,7 @@ slice-aggregate-append-4 c =
     sym (length-take-le (a .s .offered .times) (now (a .times)) (room .times))
 
 returns-2 : tie.Need-returns-2
-unfolding appendCalled requestOf
+unfolding appendCalled requestOf timesOffered
 returns-2 c =
     let called = c .before .before .before in
     let asked = called .before .before .before .before .before .before in

@@ -8,7 +8,7 @@ use Rattle.journal_history.proofs.replay.replay.Tie as tie
 
 abbrev Inv-loop : tie.InvT-loop
 Inv-loop turn₀ v₀ expected₀ name₀ chances₀ times₀ turns₀ turn v expected name chances times turns =
-    (65568 ≡ length v) × (65568 ≡ length expected) × (40 ≡ length name) × (16 ≡ length chances) × (160 ≡ length times)
+    (65568 ≡ length v) × (65568 ≡ length expected) × (4136 ≡ length name) × (16 ≡ length chances) × (160 ≡ length times)
 
 abbrev μ-loop : tie.MeasureT-loop
 μ-loop turn₀ v₀ expected₀ name₀ chances₀ times₀ turns₀ turn v expected name chances times turns = turns
