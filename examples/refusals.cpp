@@ -30,6 +30,17 @@ struct Volume {
         return a;
     }
 
+    Answer append_log(const std::string &log)
+    {
+        const std::uint32_t chance = 500000;
+        Answer a;
+        journal_append_log(bytes.data(), bytes.size(), length, 5, reinterpret_cast<const std::uint8_t *>("A"), 1, &chance, 1,
+            reinterpret_cast<const std::uint8_t *>(log.c_str()), log.size(), a.word);
+        if (a.word[0] == JOURNAL_EXTENDED)
+            length = static_cast<std::size_t>(a.word[1]);
+        return a;
+    }
+
     Answer scan(std::size_t len) const
     {
         Answer a;
@@ -60,6 +71,17 @@ int main()
     say("times", volume.append(5, "A", 500000, 129).word[1], AWAQLLA_REFUSAL_TIMES);
     say("room", Volume(32).append(5, "A", 500000, 2).word[1], AWAQLLA_REFUSAL_ROOM);
     say("absent", journal_mark(volume.bytes.data(), volume.bytes.size(), volume.length, 1), AWAQLLA_REFUSAL_ABSENT);
+    Volume logs;
+    std::string lines;
+    for (int i = 0; i < 129; i++)
+        lines += "A 100\n";
+    say("a line of the log", logs.append_log("A 100\nA 0100\n").word[0], JOURNAL_DECLINED_AT);
+    say("its shape", logs.append_log("A 100\nA 0100\n").word[1], AWAQLLA_REFUSAL_LINE);
+    say("its place", logs.append_log("A 100\nA 0100\n").word[2], 6);
+    say("the 129th", logs.append_log(lines).word[1], AWAQLLA_REFUSAL_MANY);
+    say("its place", logs.append_log(lines).word[2], 768);
+    say("one line", logs.append_log("A 100\nB 100\n").word[1], AWAQLLA_REFUSAL_TIMES);
+    say("two lines", logs.append_log("A 100\nB 100\nA 100\n").word[1], 33);
     Volume forms;
     forms.append(5, "A", 500000, 2);
     forms.append(5, "A", 500000, 2);

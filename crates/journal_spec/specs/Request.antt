@@ -1,4 +1,5 @@
--- What a call of append is handed, what it answers, and what it leaves: the types alone, which append's definition and the model share.
+-- What a call of append is handed, what it answers, and what it leaves: types, and which times a request has, its log's among them.
+-- Append's definition and the model share them.
 use Prim.Native.Nat.{ℕ}
 use mathlib.Core.List.{List, []}
 use Rattle.journal_spec.specs.Log.{Gathered, gathered, misread, gatherOf}
