@@ -1,5 +1,5 @@
-// The arguments: whether a log is read, and those behind the file's name. More bytes of a name or more chances than a record holds are passed on, so that the library
-// declines them: there is room for one more than the format allows.
+// The arguments: whether a log is read, and those behind the file's name. More bytes of a name or more chances than a record holds are
+// passed on, so that the library declines them: there is room for one more than the format allows.
 ghost use mathlib.Core.Path.{_≡_};
 ghost use Prim.Native.Nat.{ℕ, _<_, _≤_, _^_};
 ghost use lib.ListN.{length};

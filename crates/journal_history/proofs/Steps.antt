@@ -49,15 +49,16 @@ module _ (l : Line) (s x : State) (v v′ e n c t : List ℕ) where
 
 -- a comparison
 pub line-compared : (l : Line) (s x : State) (v e n c t : List ℕ) → (l .letter ≡ 97 → ⊥) → (l .letter ≡ 65 → ⊥) → (l .letter ≡ 98 → ⊥)
-    → (l .letter ≡ 66 → ⊥) → l .letter ≡ 101 → x ≡ comparedOnce s (answeredWith s l && sameBytes v e) → memoryOf x v e n c t ≡ steppedBy l (memoryOf s v e n c t)
+    → (l .letter ≡ 66 → ⊥) → l .letter ≡ 101 → x ≡ comparedOnce s (answeredWith s l && sameBytes v e)
+    → memoryOf x v e n c t ≡ steppedBy l (memoryOf s v e n c t)
 unfolding steppedBy withState memoryOf
 line-compared l s x v e n c t f g i j h made =
     rw (ne-eqb (l .letter) 97 f, ne-eqb (l .letter) 65 g, ne-eqb (l .letter) 98 i, ne-eqb (l .letter) 66 j, eq-eqb (l .letter) 101 h, made) refl
 
 -- something stored
 pub line-stored : (l : Line) (s x : State) (v v′ e e′ n n′ c c′ t t′ : List ℕ) → (l .letter ≡ 97 → ⊥) → (l .letter ≡ 65 → ⊥)
-    → (l .letter ≡ 98 → ⊥) → (l .letter ≡ 66 → ⊥) → (l .letter ≡ 101 → ⊥) → x ≡ stateBy l s → v′ ≡ sliceBy l v → e′ ≡ expectedBy l e → n′ ≡ nameBy l n → c′ ≡ numbersBy l 99 c
-    → t′ ≡ numbersBy l 116 t → memoryOf x v′ e′ n′ c′ t′ ≡ steppedBy l (memoryOf s v e n c t)
+    → (l .letter ≡ 98 → ⊥) → (l .letter ≡ 66 → ⊥) → (l .letter ≡ 101 → ⊥) → x ≡ stateBy l s → v′ ≡ sliceBy l v → e′ ≡ expectedBy l e
+    → n′ ≡ nameBy l n → c′ ≡ numbersBy l 99 c → t′ ≡ numbersBy l 116 t → memoryOf x v′ e′ n′ c′ t′ ≡ steppedBy l (memoryOf s v e n c t)
 unfolding steppedBy stored memoryOf
 line-stored l s x v v′ e e′ n n′ c c′ t t′ f g p q h a b d i j k =
     rw (ne-eqb (l .letter) 97 f, ne-eqb (l .letter) 65 g, ne-eqb (l .letter) 98 p, ne-eqb (l .letter) 66 q, ne-eqb (l .letter) 101 h, a, b, d, i, j, k) refl

@@ -52,8 +52,9 @@ returns-2 c =
     let called = c .before .before .before in
     let asked = called .before .before .before .before .before .before in
     let a = asked .before .before .before .before .before .before .before .args in
+    let outcome = rw (log-part (a .l .z) (now (a .name))) at (called .append-log .ensures) in
     call-made (a .s) _ (now (a .v)) (asked .has-log .result) _ _ (asked .has-log .ensures) (called .append-log .result) _
-    (called .before .before .before .before .before .if1 .left) (rw (log-part (a .l .z) (now (a .name))) at (called .append-log .ensures)) (c .answered-by .ensures)
+    (called .before .before .before .before .before .if1 .left) outcome (c .answered-by .ensures)
 
 pub append-log-spec : {M : Type 1} → statement M
 append-log-spec =
