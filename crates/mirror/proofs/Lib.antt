@@ -2,6 +2,7 @@
 -- patterns in `Patterns`: `mirror-patterns`.
 pub mod Finer
 pub mod Sign
+pub mod Sides
 pub mod Mirror
 pub mod Patterns
 pub mod Cases

@@ -1,6 +1,6 @@
 -- Request 2026-13: for a double x strictly between 1 and 2 with 2 - x at least 0.1, 2 - x is exact, and the quantile at x has the bits of that at
--- 2 - x with the sign bit flipped. Both arguments give `erf_core` the same pair, and the last step multiplies its answer by -1 for x and by 1
--- for 2 - x; the answer is finite, so it is no NaN. Assumes nothing.
+-- 2 - x with the sign bit flipped. Both sides have the same pair, the same pieces at the same cuts, and above 1 the answer is multiplied by -1 last;
+-- it is finite, so it is no NaN. Assumes nothing.
 use mathlib.Core.Path.{_≡_, refl, sym, ap, _∙_}
 use mathlib.Core.Bool.{Bool, true, false, true≢false}
 use Prim.Native.Nat.{ℕ, _+_, _-_, _*_, _^_, _≤_, _<_}
@@ -15,12 +15,12 @@ use lib.Ieee.Fits.{add-fits}
 use lib.Ieee.Scale.{finite}
 use denote.Floats.{passes}
 use Rattle.pxfm.specs.declared.double_double.DoubleDouble.{DoubleDouble}
-use Rattle.pxfm.specs.DoubleDouble.{one, two, toF64}
-use Rattle.pxfm.specs.Argument.{zero, tenth, mirroredOf, complement, coreArgument}
-use Rattle.pxfm.specs.Inverfc.{erfCore, signOf, centralOf, fErfcinv}
+use Rattle.pxfm.specs.DoubleDouble.{one, two, newOf, fromFullExactSub, toF64}
+use Rattle.pxfm.specs.Argument.{zero, tenth, complement}
+use Rattle.pxfm.specs.Inverfc.{middleOf, tailOf, erfCore, centralOf, fErfcinv}
 use Rattle.pxfm.proofs.Value.{Gap, Val}
 use Rattle.pxfm.proofs.Units.{in-units, val-whole, val-whole-negative}
-use Rattle.pxfm.proofs.Order.{val-of-lt, val-of-le, val-of-eq, lt-of-val}
+use Rattle.pxfm.proofs.Order.{val-of-lt, val-of-le, val-of-eq}
 use Rattle.pxfm.proofs.Bits.{BelowTwo}
 use Rattle.pxfm.proofs.Ranges.{zero-val, one-val, two-val, tenth-val, tenthUnits, AboveOne, above-one}
 use Rattle.pxfm.proofs.Complement.{two-less, two-less-pair}
@@ -31,10 +31,12 @@ use Rattle.bounds.specs.Interval.{In}
 use Rattle.bounds.specs.Ranges.{argumentB}
 use Rattle.bounds.proofs.Operations.{counted-in, finite-of}
 use Rattle.bounds.proofs.Quantile.{quantile-in}
+use Rattle.mirror.specs.Sides.{lowerSide, upperSide}
 use Rattle.mirror.specs.Mirror.{flipSign, mirrorOf, Mirrored, Mirror}
 use Rattle.exact.proofs.Integers.{difference-unique, difference-less, scaled-difference}
 use Rattle.mirror.proofs.Finer.{val-finer}
-use Rattle.mirror.proofs.Sign.{mul-one-is, mul-minus-one-is, neg-bits}
+use Rattle.mirror.proofs.Sign.{mul-minus-one-is, neg-bits}
+use Rattle.mirror.proofs.Sides.{lower-fits, lower-side, upper-side}
 
 -- ---- the last branch of the quantile
 
@@ -86,7 +88,7 @@ mirror-exact x h =
     sum : (t a u : ℕ) → t * u + (0 * u + a * u) ≡ 1 * t * u + 0 * u + a * u
     sum t a u = omega arith
 
--- ---- the same argument for `erf_core`
+-- ---- the two sides
 
 module _ (x : Float) (h : Mirrored x) where
   abbrev y : Float
@@ -98,41 +100,20 @@ module _ (x : Float) (h : Mirrored x) where
   y-val : Val binary64 y (2 ^ 54) (2 * x-units .a) 1021
   y-val = two-less (x-units .val) (x-units .from) (x-units .to)
 
-  below-one : T (lt y one)
-  below-one =
-      let lo : 2 ^ 52 < x-units .a = x-units .from in
-      let hi : x-units .a < 2 ^ 53 = x-units .to in
-      lt-of-val y-val (one-val 53 1021 refl) (omega arith)
-
   not-above-one : lt one y ≡ false
   not-above-one =
       let lo : 2 ^ 52 < x-units .a = x-units .from in
       let hi : x-units .a < 2 ^ 53 = x-units .to in
       refuted (lt one y) (λ l. let z = val-of-lt (one-val 53 1021 refl) y-val (passes (lt one y) l) in omega arith)
 
-  argument-mirror : coreArgument x ≡ coreArgument y
-  unfolding coreArgument mirroredOf
-  argument-mirror =
-      rw (h .above-one, not-above-one)
-      (ap complement (two-less-pair (x-units .val) (x-units .from) (x-units .to) (passes (fits binary64 x) (h .double))))
+  pair-mirror : fromFullExactSub two x ≡ newOf zero y
+  pair-mirror = two-less-pair (x-units .val) (x-units .from) (x-units .to) (passes (fits binary64 x) (h .double))
 
-  -- What `erf_core` answers for both, as one double.
-  abbrev answer : Float
-  answer = toF64 (erfCore (coreArgument y))
-
-  answer-fits : T (fits binary64 answer)
-  unfolding toF64
-  answer-fits = add-fits binary64 (erfCore (coreArgument y) .lo) (erfCore (coreArgument y) .hi)
-
-  central-x : centralOf x ≡ neg answer
-  unfolding centralOf signOf
-  central-x =
-      rw (h .above-one)
-      (ap (λ (d : DoubleDouble). mul binary64 (toF64 (erfCore d)) (neg one)) argument-mirror ∙ mul-minus-one-is answer answer-fits)
-
-  central-y : centralOf y ≡ answer
-  unfolding centralOf signOf
-  central-y = rw not-above-one (mul-one-is answer answer-fits)
+  -- The same pair on both sides, the same pieces at the same cuts, and the sign last.
+  sides-mirror : upperSide x ≡ neg (lowerSide y)
+  unfolding upperSide lowerSide erfCore middleOf tailOf
+  sides-mirror =
+      ap (λ (d : DoubleDouble). mul binary64 (toF64 (erfCore (complement d))) (neg one)) pair-mirror ∙ mul-minus-one-is (lowerSide y) (lower-fits y)
 
   -- ---- neither is below 0.1
 
@@ -169,12 +150,12 @@ mirror-units x h = go (y-val x h .sign) (y-val x h .val) (y-val x h .gap)
 -- ---- the quantile at both
 
 module _ (x : Float) (h : Mirrored x) where
-  quantile-x : fErfcinv x ≡ neg (answer x h)
+  quantile-x : fErfcinv x ≡ upperSide x
   quantile-x =
       let u = upper x h in
       let lo : 2 ^ 52 < u .a = u .from in
       central-answer (u .val) (passes (fits binary64 x) (h .double)) (between x h) (omega arith) (λ e. absurd (omega arith)) (x-from-tenth x h)
-      ∙ central-x x h
+      ∙ upper-side x (h .above-one)
 
   mirror-fits : T (fits binary64 (mirrorOf x))
   unfolding sub
@@ -185,21 +166,22 @@ module _ (x : Float) (h : Mirrored x) where
       let u = mirror-units x h in
       record { a = u .m * 2 ^ 1021; val = u .val; high = shl-lt 54 1021 (omega (arith, u .to)) }
 
-  quantile-y : fErfcinv (mirrorOf x) ≡ answer x h
+  quantile-y : fErfcinv (mirrorOf x) ≡ lowerSide (mirrorOf x)
   quantile-y =
       let lo : 2 ^ 52 < upper x h .a = upper x h .from in
       let hi : upper x h .a < 2 ^ 53 = upper x h .to in
-      central-answer (y-val x h) mirror-fits mirror-below (omega arith) (λ e. absurd (omega arith)) (y-from-tenth x h) ∙ central-y x h
+      central-answer (y-val x h) mirror-fits mirror-below (omega arith) (λ e. absurd (omega arith)) (y-from-tenth x h)
+      ∙ lower-side (mirrorOf x) (not-above-one x h)
 
 -- ---- the mirror
 
 mirror-answer : (x : Float) → Mirrored x → fErfcinv x ≡ neg (fErfcinv (mirrorOf x))
-mirror-answer x h = quantile-x x h ∙ ap neg (sym (quantile-y x h))
+mirror-answer x h = quantile-x x h ∙ sides-mirror x h ∙ ap neg (sym (quantile-y x h))
 
 mirror-bits : (x : Float) → Mirrored x → isNan (fErfcinv (mirrorOf x)) ≡ false
     → toBits binary64 (fErfcinv x) ≡ flipSign (toBits binary64 (fErfcinv (mirrorOf x)))
 mirror-bits x h n =
-    let f : T (fits binary64 (fErfcinv (mirrorOf x))) = rw (quantile-y x h) (answer-fits x h) in
+    let f : T (fits binary64 (fErfcinv (mirrorOf x))) = rw (quantile-y x h) (lower-fits (mirrorOf x)) in
     ap (toBits binary64) (mirror-answer x h) ∙ neg-bits (fErfcinv (mirrorOf x)) f n
 
 -- ---- the request

@@ -1,2 +1,3 @@
 -- What the laws of this crate say.
+pub mod Sides
 pub mod Mirror
