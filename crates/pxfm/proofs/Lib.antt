@@ -23,4 +23,5 @@ pub mod Reduced
 pub mod ScaledValue
 pub mod FirstTests
 pub mod Answers
+pub mod Signs
 pub mod PositiveFinite
