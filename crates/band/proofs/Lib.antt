@@ -1,0 +1,2 @@
+-- Worked cases, and that no two answers have one meaning.
+pub mod Meaning
