@@ -1,7 +1,8 @@
-// The inputs that the programs share: random numbers, edge doubles, the doubles that matter to the quantile, and records of a journal.
+// The inputs that the programs share: random numbers, edge doubles, the doubles that matter to the quantile and to the inverse error function, and records of a journal.
 // Everything is the same on every run: a generator starts from a seed that its caller gives.
 
 pub mod doubles;
+pub mod inverse;
 pub mod journal;
 pub mod quantile;
 pub mod random;

@@ -24,4 +24,5 @@ pub mod ScaledValue
 pub mod FirstTests
 pub mod Answers
 pub mod Signs
+pub mod Odd
 pub mod PositiveFinite

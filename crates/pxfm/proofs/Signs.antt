@@ -1,13 +1,13 @@
 -- The size of a double by comparisons with 0, and where a size lies beside 1: what the tests of `f_erfinv` show. Assumes nothing.
 use mathlib.Core.Path.{_≡_, refl, sym, ap, _∙_}
 use mathlib.Core.Logic.{_⊎_, inl, inr}
-use mathlib.Core.Bool.{Bool, true, false, _||_, true≢false}
+use mathlib.Core.Bool.{true, false, true≢false}
 use Prim.Native.Nat.{ℕ, _+_, _*_, _≤_, _<_}
 use native.Mathlib.Nat.{zero-mul, lt-of-not-le}
 use native.Mathlib.Omega.{arith}
 use borrow.Author.Tests.{ltb-true, ltb-false, le-ltb, lt-ltb, eq-eqb}
 use lib.Ieee.Fits.{down-pos}
-use lib.Dec.{T, ltb, eqb}
+use lib.Dec.{T}
 use lib.Ieee.{Float, nan, inf, fin, binary64, up, down, isNan, fits, ofBits, level, neg, eq, lt}
 use Rattle.pxfm.specs.DoubleDouble.{one}
 use Rattle.pxfm.specs.Argument.{zero}

@@ -1,6 +1,6 @@
 -- `band` judges the share, then the times in one pass, as its definition does. The sums that the pass answers are plausible, since they are
 -- those of times in range. Assumes nothing.
-use mathlib.Core.Path.{_≡_, _∙_, sym, ap}
+use mathlib.Core.Path.{_≡_, _∙_, sym}
 use mathlib.Core.Bool.{true}
 use borrow.Author.Needs.{needs}
 use denote.Ref.{now}

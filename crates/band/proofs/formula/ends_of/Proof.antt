@@ -1,7 +1,7 @@
 -- `ends_of` is the definition's ends of its sums: plausible sums keep every product inside a u64 and every cast exact.
 -- Assumes nothing.
 use native.Mathlib.Omega.{arith}
-use Rattle.limit.specs.Formula.{sampleForm, spreadOf}
+use Rattle.limit.specs.Formula.{spreadOf}
 use Rattle.limit.proofs.Plausible.{Plausible, plausible-facts}
 use Rattle.limit.proofs.Scatter.{sum-square-small, squares-product-small, scatter-at-most}
 use Rattle.limit.proofs.Divisor.{divisor-sample}

@@ -39,8 +39,16 @@ unfolding fErfinv
 returns-3 c =
     let n = c .before .before .before in
     let s = n .before .before .before in
-    rw (c .with-sign2 .ensures, c .before .to-f64 .ensures, c .before .before .erf-core .ensures, n .new .ensures, s .size .ensures,
-    s .before .if1 .left, not-one (n .before .before), within (n .before))
+    rw (
+      c .with-sign2 .ensures,
+      c .before .to-f64 .ensures,
+      c .before .before .erf-core .ensures,
+      n .new .ensures,
+      s .size .ensures,
+      s .before .if1 .left,
+      not-one (n .before .before),
+      within (n .before),
+    )
 
 returns-4 : tie.Need-returns-4
 unfolding fErfinv div ofBits
