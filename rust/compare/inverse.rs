@@ -12,11 +12,17 @@ const REACH: u64 = 400;
 
 const SIGN: u64 = 1 << 63;
 
+/// The list's first lines.
+const HEAD: [&str; 3] = [
+    "# f_erfinv beside the Rust's err/inverf.rs (docs/DIFFERENCES.md). A line for each group of inputs: how many differ,",
+    "# and by how many units of the last place at the most. Below the edge doubles and the shares, w / 1000000, each input that",
+    "# differs, our answer, the Rust's.",
+];
+
 pub fn compare(options: &Options, totals: &mut Totals) -> Result<(), String> {
     let mut run = Run {
         totals,
-        lines: vec!["# group, inputs, how many differ from the Rust's err/inverf.rs, by how many units of the last place at the most;".into(),
-            "# below a group whose inputs are listed: each input that differs, our answer, the Rust's".into()],
+        lines: HEAD.map(String::from).to_vec(),
     };
     run.group("edge doubles", true, edges());
     run.group(
@@ -32,7 +38,7 @@ pub fn compare(options: &Options, totals: &mut Totals) -> Result<(), String> {
             .flat_map(|x| both_signs(around(x.to_bits(), REACH))),
     );
     run.group("logarithm's bins", false, both_signs(bin_edges()));
-    run.group("shares", true, SHARES.map(share));
+    run.group("shares, w / 1000000", true, SHARES.map(share));
     for range in &RANGES {
         let mut random = options.random(range.name);
         let count = options.times(1_000_000);
