@@ -117,5 +117,11 @@ int main()
     say("answered", limit[0], LIMIT_ANSWERED);
     limit_bits(2, times.data(), times.size(), 0, limit);
     say("refused", limit[0], LIMIT_REFUSED);
+    Answer band;
+    band_bits(times.data(), times.size(), 500000, band.word);
+    say("banded", band.word[0], BAND_ANSWERED);
+    band_bits(times.data(), times.size(), 0, band.word);
+    say("no band", band.word[0], BAND_REFUSED);
+    say("share", band.word[1], AWAQLLA_REFUSAL_SHARE);
     return 0;
 }

@@ -17,14 +17,15 @@ extern "C" {
 #define JOURNAL_MAX_RECORD 652   /* the most bytes of a record */
 #define JOURNAL_MAX_LINE 233     /* the most bytes of a line of the listing, with its line end */
 
-/* The first number of an answer: of the limit, of a scan, of an append, which may answer JOURNAL_DAMAGED too, and through
-   a log JOURNAL_DECLINED_AT, for a line of it; and of a merge. */
+/* The first number of an answer: of the limit, of the band, of a scan, of an append, which may answer JOURNAL_DAMAGED too, and
+   through a log JOURNAL_DECLINED_AT, for a line of it; and of a merge. */
 enum { LIMIT_ANSWERED = 0, LIMIT_REFUSED = 1 };
+enum { BAND_ANSWERED = 0, BAND_REFUSED = 1 };
 enum { JOURNAL_WHOLE = 0, JOURNAL_TORN = 1, JOURNAL_DAMAGED = 2 };
 enum { JOURNAL_EXTENDED = 0, JOURNAL_DECLINED = 1, JOURNAL_DECLINED_AT = 3 };
 enum { MERGE_DONE = 0, MERGE_DECLINED = 1, MERGE_INPUT_DAMAGED = 2, MERGE_INPUT_TORN = 3 };
 
-/* The refusals' numbers (docs/DEFINITION.md, section 10). 8 was that of a limit not finite, which there is none; it is not used again. */
+/* The refusals' numbers (docs/DEFINITION.md, section 10; SHARE 8.1). 8 was that of a limit not finite, which there is none; it is not used again. */
 enum {
     AWAQLLA_REFUSAL_LENGTH = 1,    /* the length is beyond the slice or JOURNAL_MAX_LENGTH */
     AWAQLLA_REFUSAL_FORM = 2,      /* a form other than 1 and 2 */
@@ -39,7 +40,8 @@ enum {
     AWAQLLA_REFUSAL_MANY = 12,     /* a 129th line of the name */
     AWAQLLA_REFUSAL_OLD_FORM = 13, /* form 1 after a record of form 2 */
     AWAQLLA_REFUSAL_TORN = 16,     /* an input of a merge ends torn */
-    AWAQLLA_REFUSAL_EVEN = 17      /* an offered chance above 500,000 in a million */
+    AWAQLLA_REFUSAL_EVEN = 17,     /* an offered chance above 500,000 in a million */
+    AWAQLLA_REFUSAL_SHARE = 18     /* a band's share, 1 to 999,999 in a million */
 };
 
 /* The square root, correctly rounded. */
@@ -48,10 +50,18 @@ uint64_t sqrt_bits(uint64_t x);
 /* The inverse of the complementary error function. */
 uint64_t f_erfcinv_bits(uint64_t x);
 
+/* The inverse of the error function. */
+uint64_t f_erfinv_bits(uint64_t x);
+
 /* The limit of n times in ticks of ten microseconds at a chance in a million, under a form (1: the spread's divisor is n * n; 2: n * (n - 1)):
    {LIMIT_ANSWERED, bits of the limit}, or {LIMIT_REFUSED, refusal}: FORM, CHANCES or TIMES, the first that holds.
    times points to n numbers; out to two places. */
 void limit_bits(uint32_t form, const uint32_t *times, size_t n, uint32_t chance, uint64_t out[2]);
+
+/* The band around the mean of n times with share links in a million inside, under the divisor n * (n - 1):
+   {BAND_ANSWERED, bits of the low end, bits of the high end}, or {BAND_REFUSED, refusal, 0}: SHARE or TIMES, the first that holds.
+   times points to n numbers; out to three places. */
+void band_bits(const uint32_t *times, size_t n, uint32_t share, uint64_t out[3]);
 
 /* The journal that fills the first len bytes of the size bytes at v. A len beyond size or JOURNAL_MAX_LENGTH is refused by LENGTH, at place 0.
    i counts the records from 0. The refusals' numbers are those of docs/DEFINITION.md, section 10. */

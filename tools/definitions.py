@@ -134,6 +134,7 @@ class Definitions:
             "reducedOf": lambda b: r.reduction(b)[1],
             "exponentOf": lambda b, _: r.reduction(b)[2],
             "fErfcinv": lambda x: r.quantile(x),
+            "fErfinv": lambda x: r.inverse(x),
             "binary64": None,
             "nan": None,
         }

@@ -117,6 +117,7 @@ class Blocks:
             root=lambda x: Double(r.root(x.bits)),
             double=lambda n: Double(r.double(n)),
             quantile=lambda x: Double(r.quantile(x.bits)),
+            inverse=lambda x: Double(r.inverse(x.bits)),
             reduction=lambda x: reduced(*r.reduction(x.bits)),
         )
         exec(translated(text), self.scope)
@@ -128,6 +129,10 @@ class Blocks:
 
     def limit(self, f, n, s, d, c):
         return plain(self.scope["limitOf"](f, n, s, d, c))
+
+    def end(self, name, n, s, d, w):
+        """The end of a band that the block of this name gives."""
+        return plain(self.scope[name](n, s, d, w))
 
     def divisor(self, f, n):
         return self.scope["divisor"](f, n)
@@ -148,7 +153,7 @@ class Symbols:
     operands in one turn, so that over many turns every branch is taken.
     """
 
-    OPERATIONS = ("add", "sub", "mul", "div", "root", "negated", "double", "quantile")
+    OPERATIONS = ("add", "sub", "mul", "div", "root", "negated", "double", "quantile", "inverse")
     TURNS = range(40)
 
     def __init__(self, r):

@@ -65,7 +65,7 @@ fn compare_random(options: &Options, limits: &mut Extremes, totals: &mut Totals)
     tally.close(totals);
 }
 
-fn random_times(random: &mut Random) -> Vec<u32> {
+pub fn random_times(random: &mut Random) -> Vec<u32> {
     let count = random.whole(2, 128);
     let low = random.whole(1, LAST_TIME);
     let spread = random.whole(1, LAST_TIME) >> random.below(20);

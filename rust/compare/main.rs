@@ -1,7 +1,9 @@
 // Compares our functions with the Rust's, and our journal with rust/reference's, all bits; exit status 1 if any result differs.
 // Scale N multiplies the numbers of random inputs; 1, the default, is the gate's size.
 
+mod band;
 mod functions;
+mod inverse;
 mod journal;
 mod limit;
 mod logarithms;
@@ -37,6 +39,13 @@ fn main() -> ExitCode {
         root::compare(&options, &mut totals);
         quantile::compare(&options, &mut totals);
         limit::compare(&options, &mut totals);
+    }
+    if options.runs("inverse") {
+        if let Err(message) = inverse::compare(&options, &mut totals) {
+            eprintln!("compare: {message}");
+            return ExitCode::from(2);
+        }
+        band::compare(&options, &mut totals);
     }
     journal::compare(&options, &mut totals);
     println!(

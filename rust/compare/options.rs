@@ -3,14 +3,17 @@
 
 use inputs::random::Random;
 
-pub const USAGE: &str = "usage: compare [--scale N] [--seed S] [--only numbers|reading|histories|merges]";
+pub const USAGE: &str =
+    "usage: compare [--scale N] [--seed S] [--only numbers|inverse|reading|histories|merges] [--beside FILE]";
 
-const PARTS: [&str; 4] = ["numbers", "reading", "histories", "merges"];
+const PARTS: [&str; 5] = ["numbers", "inverse", "reading", "histories", "merges"];
 
 pub struct Options {
     pub scale: u64,
     pub seed: u64,
     pub only: Option<String>,
+    /// Where the list of what differs from err/inverf.rs goes.
+    pub beside: Option<String>,
 }
 
 impl Options {
@@ -19,12 +22,14 @@ impl Options {
             scale: 1,
             seed: 1,
             only: None,
+            beside: None,
         };
         while let Some(word) = words.next() {
             let value = words.next().ok_or(USAGE)?;
             match word.as_str() {
                 "--scale" => options.scale = number(&value)?,
                 "--seed" => options.seed = number(&value)?,
+                "--beside" => options.beside = Some(value),
                 "--only" if PARTS.contains(&value.as_str()) => options.only = Some(value),
                 _ => return Err(format!("{USAGE}, not {word} {value}")),
             };

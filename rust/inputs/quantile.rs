@@ -28,7 +28,7 @@ pub struct InputRange {
     even_in_bits: bool,
 }
 
-const fn even(name: &'static str, range: Range<f64>) -> InputRange {
+pub(crate) const fn even(name: &'static str, range: Range<f64>) -> InputRange {
     InputRange {
         name,
         range,
@@ -36,12 +36,17 @@ const fn even(name: &'static str, range: Range<f64>) -> InputRange {
     }
 }
 
-pub const BELOW_ONE: [InputRange; 6] = [
+/// A range with many sizes.
+pub(crate) const fn of_sizes(name: &'static str, range: Range<f64>) -> InputRange {
     InputRange {
-        name: "[1e-300, 1e-4]",
-        range: 1e-300..1e-4,
+        name,
+        range,
         even_in_bits: true,
-    },
+    }
+}
+
+pub const BELOW_ONE: [InputRange; 6] = [
+    of_sizes("[1e-300, 1e-4]", 1e-300..1e-4),
     even("[1e-4, 0.1]", 1e-4..0.1),
     even("[0.1, 0.25]", 0.1..0.25),
     even("[0.25, 0.94]", 0.25..0.94),

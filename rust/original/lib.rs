@@ -17,6 +17,9 @@ mod common {
 mod double_double {
     include!(concat!(env!("PXFM_SRC"), "/double_double.rs"));
 }
+mod inverf {
+    include!(concat!(env!("PXFM_SRC"), "/err/inverf.rs"));
+}
 mod inverfc;
 #[allow(dead_code)]
 mod logs {
@@ -42,6 +45,7 @@ use stand_ins::{bits, dyadic_float, exponents, rounding};
 
 pub use inverfc::branch::{Branch, Way};
 pub use inverfc::steps;
+pub use inverfc::steps::erf_core_double;
 
 /// The one NaN that leaves either side.
 pub const NAN_BITS: u64 = 0x7ff8000000000000;
@@ -78,6 +82,11 @@ pub extern "C" fn f_erfcinv_bits(x: u64) -> u64 {
 /// The bits that the Rust's quantile itself leaves, a NaN's among them.
 pub fn f_erfcinv_raw(x: u64) -> u64 {
     inverfc::f_erfcinv(f64::from_bits(x)).to_bits()
+}
+
+/// The bits that the Rust's inverse error function (err/inverf.rs) itself leaves, a NaN's among them.
+pub fn f_erfinv_raw(x: u64) -> u64 {
+    inverf::f_erfinv(f64::from_bits(x)).to_bits()
 }
 
 /// The hardware's square root on bit patterns, called as ours is.

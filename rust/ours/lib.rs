@@ -11,6 +11,7 @@ pub type Step = extern "C" fn(number: u32, input: &[u64; 6], out: &mut [u64; 2])
 unsafe extern "C" {
     pub safe fn sqrt_bits(x: u64) -> u64;
     pub safe fn f_erfcinv_bits(x: u64) -> u64;
+    pub safe fn f_erfinv_bits(x: u64) -> u64;
     pub safe fn px_step(number: u32, input: &[u64; 6], out: &mut [u64; 2]);
 }
 
@@ -34,6 +35,17 @@ pub fn limit_bits(form: u32, times: &[u32], chance: u32) -> [u64; 2] {
     let mut out = [0; 2];
     // The pointer and the length are those of a slice, and out has its two places.
     unsafe { limit_bits(form, times.as_ptr(), times.len(), chance, &mut out) };
+    out
+}
+
+/// The band of some times at a share: {0, low, high} in bits, or {1, refusal, 0}.
+pub fn band_bits(times: &[u32], share: u32) -> [u64; 3] {
+    unsafe extern "C" {
+        fn band_bits(times: *const u32, n: usize, share: u32, out: *mut [u64; 3]);
+    }
+    let mut out = [u64::MAX; 3];
+    // The pointer and the length are those of a slice, and out has its three places.
+    unsafe { band_bits(times.as_ptr(), times.len(), share, &mut out) };
     out
 }
 

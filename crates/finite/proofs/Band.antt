@@ -1,35 +1,129 @@
--- What request 2026-11 takes from the bounds: both ends of the band are finite, under the sample divisor. Assumes nothing.
-use mathlib.Core.Path.{_≡_}
-use mathlib.Core.Bool.{true}
-use Prim.Native.Nat.{ℕ, _≤_}
+-- Request 2026-11: both ends of the band are finite, for every list of 2 to 128 times from 1 to 1,048,575 and every share from 1 to 999,999,
+-- under the sample divisor. w / 1000000 lies between 0 and 1, so that `f_erfinv` there is `erf_core`'s answer with a plus sign. Assumes nothing.
+use mathlib.Core.Path.{_≡_, refl, sym, ap, subst}
+use mathlib.Core.Bool.{Bool, true, false}
+use mathlib.Core.List.{List}
+use Prim.Native.Nat.{ℕ, _+_, _-_, _*_, _^_, _≤_, _<_}
+use native.Mathlib.Nat.{lt-of-lt-of-le, lt-of-le-of-lt}
 use native.Mathlib.Omega.{arith}
-use lib.Ieee.{Float, binary64, ofBits, div}
-use Rattle.pxfm.specs.DoubleDouble.{newOf, toF64}
+use denote.Floats.{passes}
+use lib.Dec.{lit<}
+use lib.Ieee.{Float, nan, inf, fin, binary64, ofBits, div, eq, lt}
+use lib.Ieee.Bits.{is-true}
+use lib.Ieee.Exact.{HasValue}
+use Rattle.pxfm.specs.DoubleDouble.{one, newOf, toF64}
 use Rattle.pxfm.specs.Argument.{zero}
 use Rattle.pxfm.specs.Inverfc.{erfCore}
-use Rattle.limit.specs.declared.sums.Sums.{Sums}
-use Rattle.limit.specs.Sums.{isPlausible}
-use Rattle.limit.specs.Formula.{double, sampleForm, meanOf, spreadOf}
-use Rattle.bounds.specs.Interval.{In}
+use Rattle.pxfm.specs.Inverf.{withSign, sizeOf, beyondOne, fErfinv}
+use Rattle.pxfm.proofs.Units.{val-whole}
+use Rattle.pxfm.proofs.Order.{val-of-lt, val-of-eq, lt-of-val}
+use Rattle.pxfm.proofs.Ranges.{zero-val, one-val}
+use Rattle.pxfm.proofs.FirstTests.{refuted}
+use Rattle.pxfm.proofs.Signs.{below-one-within}
+use Rattle.limit.specs.Times.{timesInRange}
+use Rattle.limit.specs.Sums.{sumsOf}
+use Rattle.limit.specs.Formula.{double, sampleForm, limitFrom}
+use Rattle.limit.proofs.InRange as range
+use Rattle.limit.proofs.Plausible.{times-plausible}
+use Rattle.band.specs.Band.{minShare, maxShare, million, shareInRange, inverseOf, endsFrom, endsOf, judge, bandOf}
+use Rattle.bounds.specs.Interval.{Interval, about, between, Holds, Inside, In}
 use Rattle.bounds.specs.Ranges.{coreB, coreLowB, quantileB}
-use Rattle.bounds.proofs.Operations.{widen}
-use Rattle.bounds.proofs.Estimate.{pairE, point, overE, toF64E}
+use Rattle.bounds.proofs.Operations.{widen, counted}
+use Rattle.bounds.proofs.Estimate.{pairE, point, given, overE, toF64E}
 use Rattle.bounds.proofs.Pairs.{known, settle}
 use Rattle.bounds.proofs.Whole.{wholeE}
 use Rattle.bounds.proofs.Core.{core-in}
-use Rattle.finite.specs.Finite.{Ends}
+use Rattle.finite.specs.Finite.{FiniteBand}
 use Rattle.finite.proofs.Formula.{form-within}
 
--- `erf_core` of w / 1000000 and low part 0, made a double
-abbrev inverseOf : ℕ → Float
-inverseOf w = toF64 (erfCore (newOf zero (div binary64 (double w) (double 1000000))))
+-- ---- `f_erfinv` of a number between 0 and 1
 
-inverse-in : (w : ℕ) → 1 ≤ w → w ≤ 999999 → In (inverseOf w) quantileB
-unfolding wholeE overE toF64E point ofBits
-inverse-in w a b =
-    let x = overE (wholeE w 1 999999 a b tt) (wholeE 1000000 1000000 1000000 (omega arith) (omega arith) tt) in
-    widen quantileB tt (toF64E (known (core-in _ (settle coreLowB coreB (pairE (point zero) x) tt))) .holds)
+size-itself : (x : Float) (n : ℕ) → HasValue x false n (2 ^ 1074) → sizeOf x ≡ x
+unfolding withSign
+size-itself nan n v = absurd v
+size-itself (inf s) n v = absurd v
+size-itself (fin s m e) n v = ap (λ (t : Bool). fin t m e) (sym (v .0))
 
-pub finite-band : (sums : Sums) (w : ℕ) → isPlausible sums ≡ true → 1 ≤ w → w ≤ 999999
-    → Ends (meanOf (sums .count) (sums .sum)) (spreadOf sampleForm (sums .count) (sums .sum) (sums .squares)) (inverseOf w)
-finite-band sums w p a b = form-within sums p sampleForm .ends (inverseOf w) (inverse-in w a b)
+-- These stand over variables: `omega` refuses the numeral 2 ^ 1074.
+not-both : (a b : ℕ) → a < b → a + 0 ≡ 1 * b + 0 → ⊥
+not-both a b h e = omega arith
+
+below-it : (a b : ℕ) → a < b → a + 0 < 1 * b + 0
+below-it a b h = omega arith
+
+module _ (x : Float) (n : ℕ) (v : HasValue x false n (2 ^ 1074)) (low : 0 < n) (high : n < 2 ^ 1074) where
+  not-zero : eq x zero ≡ false
+  not-zero = refuted (eq x zero) (λ h. let e = val-of-eq (val-whole v) (zero-val 0) (passes (eq x zero) h) in absurd (omega arith))
+
+  not-minus : lt x zero ≡ false
+  not-minus = refuted (lt x zero) (λ h. let e = val-of-lt (val-whole v) (zero-val 0) (passes (lt x zero) h) in absurd (omega arith))
+
+  not-one : eq x one ≡ false
+  not-one = refuted (eq x one) (λ h. not-both n (2 ^ 1074) high (val-of-eq (val-whole v) (one-val 1074 0 refl) (passes (eq x one) h)))
+
+  within-one : beyondOne x ≡ false
+  within-one = below-one-within x (is-true (lt x one) (lt-of-val (val-whole v) (one-val 1074 0 refl) (below-it n (2 ^ 1074) high)))
+
+  within-answer : fErfinv x ≡ withSign false (toF64 (erfCore (newOf zero x)))
+  unfolding fErfinv
+  within-answer = rw (size-itself x n v, not-zero, not-minus, not-one, within-one) refl
+
+-- ---- the sign changes no bound on the size
+
+size-held : (h m : ℕ) (s t : Bool) → Holds (about true h) s m → Holds (about true h) t m
+size-held h m true true p = p
+size-held h m false false p = p
+size-held h m true false p = record { low = omega arith; high = omega (arith, p .low) }
+size-held h m false true p = record { low = omega (arith, p .high); high = omega arith }
+
+signed-value : (x : Float) (s t : Bool) (m : ℕ) → HasValue x s m (2 ^ 1074) → HasValue (withSign t x) t m (2 ^ 1074)
+unfolding withSign
+signed-value nan s t m v = absurd v
+signed-value (inf r) s t m v = absurd v
+signed-value (fin r k e) s t m v = (refl, v .1)
+
+signed-in : (x : Float) (h : ℕ) (t : Bool) → In x (about true h) → In (withSign t x) (about true h)
+signed-in x h t p = record { at = λ o. go (p .at o) }
+  where
+    go : Inside x (about true h) → Inside (withSign t x) (about true h)
+    go i =
+        record {
+          s = t;
+          m = i .m;
+          val = signed-value x (i .s) t (i .m) (i .val);
+          holds = size-held h (i .m) (i .s) t (i .holds);
+        }
+
+-- ---- the inverse error function of a share
+
+-- from 2 ^ -20 to 1 - 33 * 2 ^ -25
+abbrev shareB : Interval
+shareB = between (2 ^ 1054) (2 ^ 1074 - 33 * 2 ^ 1049)
+
+module _ (w : ℕ) (a : 1 ≤ w) (b : w ≤ 999999) where
+  abbrev x : Float
+  x = div binary64 (double w) (double million)
+
+  share-in : In x shareB
+  unfolding wholeE overE
+  share-in = widen shareB tt (overE (wholeE w 1 999999 a b tt) (wholeE million 1000000 1000000 (omega arith) (omega arith) tt) .holds)
+
+  core-answer-in : In (toF64 (erfCore (newOf zero x))) quantileB
+  unfolding toF64E point ofBits
+  core-answer-in = widen quantileB tt (toF64E (known (core-in _ (settle coreLowB coreB (pairE (point zero) (given share-in)) tt))) .holds)
+
+  inverse-in : In (inverseOf w) quantileB
+  unfolding inverseOf
+  inverse-in =
+      let c = counted (2 ^ 1054) (2 ^ 1074 - 33 * 2 ^ 1049) (lit< tt) share-in in
+      let e = within-answer x (c .n) (c .val) (lt-of-lt-of-le (lit< tt) (c .low)) (lt-of-le-of-lt (c .high) (lit< tt)) in
+      subst (λ (y : Float). In y quantileB) (sym e) (signed-in (toF64 (erfCore (newOf zero x))) (2 ^ 1576) false core-answer-in)
+
+-- ---- the band
+
+pub finite-band : (ts : List ℕ) (w : ℕ) → timesInRange ts ≡ true → shareInRange w ≡ true → FiniteBand ts w
+unfolding sumsOf shareInRange bandOf judge endsOf endsFrom limitFrom
+finite-band ts w r h =
+    let i = inverse-in w (range.at-least minShare maxShare w h) (range.at-most minShare maxShare w h) in
+    let e = form-within (sumsOf ts) (times-plausible ts r) sampleForm .ends (inverseOf w) i in
+    record { low = e .below; high = e .above; given = rw (h, r) refl }

@@ -1,4 +1,4 @@
--- `Formula` bounds mean, spread and both ends for any divisor, `Limits` has request 2026-06's theorem, `Band` what request 2026-11 takes from it.
+-- `Formula` bounds mean, spread and both ends for any divisor, `Limits` has request 2026-06's theorem, `Band` request 2026-11's of the band.
 pub mod Formula
 pub mod Limits
 pub mod Band

@@ -1,4 +1,5 @@
--- Request 2026-06, said of every allowed set of times and every allowed chance: mean, spread, quantile and limit are finite. Definitions only.
+-- Request 2026-06, said of every allowed set of times and every allowed chance: mean, spread, quantile and limit are finite; and request
+-- 2026-11's band, of every allowed share: both ends are. Definitions only.
 use Prim.Native.Nat.{ℕ}
 use mathlib.Core.Path.{_≡_}
 use mathlib.Core.List.{List}
@@ -10,6 +11,8 @@ use Rattle.limit.specs.Times.{sumOf, squaresOf}
 use Rattle.limit.specs.Formula.{rootTwo, meanOf, spreadOf, quantileOf, limitFrom, formulaOf}
 use Rattle.limit.specs.Answer.{limited}
 use Rattle.limit.specs.Limit.{limitOf}
+use Rattle.band.specs.Answer.{banded}
+use Rattle.band.specs.Band.{endsOf, bandOf}
 
 -- under a form, for n times with sum s and sum of squares q, at the chance c
 pub record FiniteUnder (form n s q c : ℕ) : Type 0 where
@@ -27,3 +30,9 @@ pub record FiniteLimits (form : ℕ) (ts : List ℕ) (c : ℕ) : Type 0 where
 pub record Ends (mean spread e : Float) : Type 0 where
   pub above : T (finite (limitFrom mean spread e))
   pub below : T (finite (sub binary64 mean (mul binary64 (mul binary64 spread rootTwo) e)))
+
+-- of a list of times and a share w: both ends of the band are finite, and they are what the band gives
+pub record FiniteBand (ts : List ℕ) (w : ℕ) : Type 0 where
+  pub low : T (finite (endsOf (length ts) (sumOf ts) (squaresOf ts) w .low))
+  pub high : T (finite (endsOf (length ts) (sumOf ts) (squaresOf ts) w .high))
+  pub given : bandOf ts w ≡ banded (endsOf (length ts) (sumOf ts) (squaresOf ts) w)

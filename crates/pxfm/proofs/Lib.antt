@@ -23,4 +23,6 @@ pub mod Reduced
 pub mod ScaledValue
 pub mod FirstTests
 pub mod Answers
+pub mod Signs
+pub mod Odd
 pub mod PositiveFinite

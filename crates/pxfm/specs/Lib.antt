@@ -9,5 +9,6 @@ pub mod Bins
 pub mod Rationals
 pub mod Argument
 pub mod Inverfc
+pub mod Inverf
 pub mod Checked
 pub mod Steps

@@ -81,3 +81,8 @@ macro_rules! define {
 }
 
 with_functions!(define);
+
+/// `erf_core` of a pair with a high part below 1, made a double.
+pub fn erf_core_double(lo: f64, hi: f64) -> f64 {
+    erf_core(Pair::new(lo, hi)).to_f64()
+}

@@ -1,0 +1,42 @@
+-- The ends of the ranges, the order of the refusals, and a band that is known: equal times have no spread, so both ends are their time.
+-- Computed.
+use mathlib.Core.Path.{_≡_, refl}
+use mathlib.Core.List.{[], _∷_}
+use lib.Ieee.{binary64, ofBits, toBits, ofInt, isNan, eq, lt, le, neg, add, sub, mul, div, round}
+use Rattle.sqrt.specs.Sqrt.{isqrt, roundRoot, roundSqrt, sqrtIn}
+use Rattle.pxfm.specs.DoubleDouble.{fromBitPair, splitOf, fromExactMult, fromFullExactAdd, fullAddF64, quickMult, quickMultF64, mulAdd, mulF64Add, toF64}
+use Rattle.pxfm.specs.Common.{fFmla}
+use Rattle.pxfm.specs.Inverfc.{taylor, taylor4Of, erfCore}
+use Rattle.pxfm.specs.Inverf.{withSign, fErfinv}
+use Rattle.limit.specs.Times.{inRange, timeInRange, allInRange, timesInRange, sumOf, squaresOf}
+use Rattle.limit.specs.Formula.{meanOf, spreadBy, divisorOf, spreadOf}
+use Rattle.limit.specs.Answer.{timesRefusal}
+use Rattle.band.specs.Answer.{banded, refused, shareRefusal}
+use Rattle.band.specs.Band.{shareInRange, inverseOf, endsFrom, endsOf, judge, bandOf}
+
+pub record BandCases : Type 0 where
+  pub share-zero : bandOf (100 ∷ 100 ∷ []) 0 ≡ refused shareRefusal
+  pub share-million : bandOf (100 ∷ 100 ∷ []) 1_000_000 ≡ refused shareRefusal
+  pub no-times : bandOf [] 1 ≡ refused timesRefusal
+  pub one-time : bandOf (100 ∷ []) 999_999 ≡ refused timesRefusal
+  pub time-beyond : bandOf (1_048_576 ∷ 100 ∷ []) 1 ≡ refused timesRefusal
+  pub share-first : bandOf [] 0 ≡ refused shareRefusal
+  pub equal-times : bandOf (100 ∷ 100 ∷ []) 1
+      ≡ banded (record { low = ofBits binary64 0x4059_0000_0000_0000; high = ofBits binary64 0x4059_0000_0000_0000 })
+
+pub band-cases : BandCases
+unfolding ofBits toBits ofInt isNan eq lt le neg add sub mul div round isqrt roundRoot roundSqrt sqrtIn
+    fromBitPair splitOf fromExactMult fromFullExactAdd fullAddF64 quickMult quickMultF64 mulAdd mulF64Add toF64 fFmla
+    taylor taylor4Of erfCore withSign fErfinv
+    inRange timeInRange allInRange timesInRange sumOf squaresOf meanOf spreadBy divisorOf spreadOf
+    shareInRange inverseOf endsFrom endsOf judge bandOf
+band-cases =
+    record {
+      share-zero = refl;
+      share-million = refl;
+      no-times = refl;
+      one-time = refl;
+      time-beyond = refl;
+      share-first = refl;
+      equal-times = refl;
+    }
