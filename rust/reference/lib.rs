@@ -1,10 +1,11 @@
-// Document 01's limit, record, survey, reading and book with document 02's forms, log and merge, written from the papers and apart from the Rattle code.
+// Document 01's limit, record, survey, reading and book with document 02's forms, log, profile and merge, written from the papers and apart from the Rattle code.
 // The quantile is the Rust's, the formula is worked in f64. The names are the repository's: journal for volume, record for leaf, scan for survey.
 
 pub mod limit;
 pub mod log;
 pub mod merge;
 pub mod model;
+pub mod profile;
 pub mod record;
 pub mod samples;
 pub mod scan;
