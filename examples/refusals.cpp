@@ -82,6 +82,18 @@ int main()
     say("its place", logs.append_log(lines).word[2], 768);
     say("one line", logs.append_log("A 100\nB 100\n").word[1], AWAQLLA_REFUSAL_TIMES);
     say("two lines", logs.append_log("A 100\nB 100\nA 100\n").word[1], 33);
+    Volume controllers;
+    const std::vector<std::uint32_t> sheet = {1, 10, 100, 1000};
+    const std::vector<std::uint32_t> links(32, 100);
+    Answer p;
+    journal_append_with(controllers.bytes.data(), controllers.bytes.size(), 0, 5, reinterpret_cast<const std::uint8_t *>("A"), 1, sheet.data(),
+        sheet.size(), links.data(), 31, JOURNAL_MAX_RECORD, JOURNAL_PROFILE, p.word);
+    say("profile", p.word[1], AWAQLLA_REFUSAL_PROFILE);
+    journal_append_with(controllers.bytes.data(), controllers.bytes.size(), 0, 5, reinterpret_cast<const std::uint8_t *>("A"), 1, sheet.data(),
+        sheet.size(), links.data(), 32, JOURNAL_MAX_RECORD, JOURNAL_PROFILE, p.word);
+    say("a record of the profile", p.word[1], 189);
+    journal_profile_scan(volume.bytes.data(), volume.bytes.size(), volume.length, p.word);
+    say("a standing record", p.word[1], AWAQLLA_REFUSAL_PROFILE);
     Volume forms;
     forms.append(5, "A", 500000, 2);
     forms.append(5, "A", 500000, 2);

@@ -41,7 +41,8 @@ enum {
     AWAQLLA_REFUSAL_OLD_FORM = 13, /* form 1 after a record of form 2 */
     AWAQLLA_REFUSAL_TORN = 16,     /* an input of a merge ends torn */
     AWAQLLA_REFUSAL_EVEN = 17,     /* an offered chance above 500,000 in a million */
-    AWAQLLA_REFUSAL_SHARE = 18     /* a band's share, 1 to 999,999 in a million */
+    AWAQLLA_REFUSAL_SHARE = 18,    /* a band's share, 1 to 999,999 in a million */
+    AWAQLLA_REFUSAL_PROFILE = 19   /* a record breaks the profile for safety controllers */
 };
 
 /* The square root, correctly rounded. */
@@ -77,6 +78,12 @@ void journal_part(const uint8_t *v, size_t size, size_t len, size_t i, uint64_t 
    the number of records. Every refusal is below 'A'. */
 uint64_t journal_mark(const uint8_t *v, size_t size, size_t len, size_t i);
 
+/* The same by the profile for safety controllers: a whole record that has another form than 2, other chances than 1, 10, 100 and 1,000, or fewer
+   than 32 times is refused by PROFILE, at the place of its first byte. What these accept the others accept with the same records. */
+void journal_profile_scan(const uint8_t *v, size_t size, size_t len, uint64_t out[3]);
+void journal_profile_part(const uint8_t *v, size_t size, size_t len, size_t i, uint64_t out[2]);
+uint64_t journal_profile_mark(const uint8_t *v, size_t size, size_t len, size_t i);
+
 /* Append on the journal that fills the first len bytes of the size bytes at v: the record of what is offered, of form 2, is written from the
    committed length on, over a torn tail. Its limits are worked out from the times. {JOURNAL_EXTENDED, length after the call, 0}; {JOURNAL_DECLINED,
    refusal, 0}: DAY, NAME, CHANCES, EVEN, TIMES or ROOM, the first that holds; or {JOURNAL_DAMAGED, refusal, place} as scan's. Only an
@@ -96,6 +103,17 @@ void journal_append_log(uint8_t *v, size_t size, size_t len, uint16_t day, const
 
 void journal_append_log_upto(uint8_t *v, size_t size, size_t len, uint16_t day, const uint8_t *name, size_t name_len,
     const uint32_t *chances, size_t chances_len, const uint8_t *log, size_t log_len, size_t budget, uint64_t out[3]);
+
+/* The same two calls with all that an append may be handed. options: JOURNAL_PROFILE asks for the profile: the journal is judged as by
+   journal_profile_scan, and an offered record that breaks the profile is declined by PROFILE, after TIMES and before ROOM; 0 asks for none. Other
+   options are not looked at. A budget beyond the record is all of it. */
+enum { JOURNAL_PROFILE = 2 };
+
+void journal_append_with(uint8_t *v, size_t size, size_t len, uint16_t day, const uint8_t *name, size_t name_len,
+    const uint32_t *chances, size_t chances_len, const uint32_t *times, size_t times_len, size_t budget, uint32_t options, uint64_t out[3]);
+
+void journal_append_log_with(uint8_t *v, size_t size, size_t len, uint16_t day, const uint8_t *name, size_t name_len,
+    const uint32_t *chances, size_t chances_len, const uint8_t *log, size_t log_len, size_t budget, uint32_t options, uint64_t out[3]);
 
 /* Line i, counted from 0, of the listing of the journal that is all of the len bytes at v: a line for each record, then the end state's, each
    with its line end. As much of it as there is room for is written to the size bytes at out; the answer is how many bytes those are,

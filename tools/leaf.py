@@ -1,5 +1,5 @@
-"""Document 01's Limit, Leaf and mark, with document 02's two forms and its order of the marks, for the tools that make volumes: written from
-the papers alone, and not from our code.
+"""Document 01's Limit, Leaf and mark, with document 02's two forms, its order of the marks and its profile, for the tools that make volumes:
+written from the papers alone, and not from our code.
 
 The quantile is not worked out here. Its bits come from the Rust: tools/journal_quantiles has those of ten chances, and the
 list crates/quantile_vectors/stdin, which tools/quantile-vectors makes, those of some more. The rest of a limit is worked out in
@@ -52,6 +52,7 @@ assert quantiles_stored().items() <= BITS.items(), "the two lists of quantiles d
 QUANTILE = {chance: double_of(bits) for chance, bits in BITS.items()}
 EIGHT = [1, 2, 1000, 250000, 500000, 750000, 999998, 999999]  # over the whole range that a reader takes
 OFFERED = [1, 10, 100, 1000, 10000, 100000, 250000, 500000]  # eight that append takes (document 02, 2026-10)
+PROFILE = (1, 10, 100, 1000)  # those of a leaf of the profile, exactly (document 02, 2026-14)
 STORED = sorted(quantiles_stored())  # those of the stored list of the quantile
 
 
@@ -77,6 +78,11 @@ def mark_of(times):
     if len(times) < 8:
         return "S"
     return "F" if len(set(times)) == 1 else "N"
+
+
+def in_profile(form, chances, times):
+    """A leaf of the profile for safety controllers (document 02, 2026-14)."""
+    return form == NEW and tuple(chances) == PROFILE and len(times) >= 32
 
 
 class Leaf:

@@ -39,6 +39,46 @@ pub const CHANCES: [u32; 9] = [
 pub const TIME_COUNTS: [u16; 7] = [0, 1, 2, 128, 129, 0x200, u16::MAX];
 pub const TIMES: [u32; 6] = [0, 1, 1_048_575, 1_048_576, 0x1_000_000, u32::MAX];
 
+/// The chances of the profile (document 02, 2026-14), the fewest times of it, and chances that are nearly those.
+pub const PROFILE: [u32; 4] = [1, 10, 100, 1_000];
+pub const PROFILE_TIMES: usize = 32;
+pub const NEARLY_PROFILE: [&[u32]; 9] = [
+    &[1],
+    &[1, 10, 100],
+    &[10, 100, 1_000],
+    &[1, 10, 1_000],
+    &[2, 10, 100, 1_000],
+    &[1, 11, 100, 1_000],
+    &[1, 10, 100, 1_001],
+    &[1, 10, 100, 1_000, 1_001],
+    &[1, 2, 10, 100, 1_000],
+];
+
+/// A record of the profile, in form 2.
+pub fn profile_record(random: &mut Random, day: u16) -> Fields {
+    let name = random.whole(1, 8) as usize;
+    let times = match random.below(3) {
+        0 => *random.pick(&[PROFILE_TIMES, PROFILE_TIMES + 1, 128]),
+        _ => random.whole(PROFILE_TIMES as u64, 48) as usize,
+    };
+    let fields = sized(random, day, [name, 1, times], OFFERED);
+    Fields {
+        chances: PROFILE.to_vec(),
+        ..fields
+    }
+}
+
+/// The same with one thing that breaks the profile: its chances, or too few times.
+pub fn profile_broken(random: &mut Random, fields: &mut Fields) {
+    match random.below(3) {
+        0 => fields.chances = random.pick(&NEARLY_PROFILE).to_vec(),
+        1 => fields.times.truncate(PROFILE_TIMES - 1),
+        _ => fields
+            .times
+            .truncate(random.whole(2, PROFILE_TIMES as u64 - 1) as usize),
+    }
+}
+
 /// A record in range with chances up to `last`, mostly a small one.
 pub fn record(random: &mut Random, day: u16, last: u64) -> Fields {
     let (name, chances, times) = match random.below(8) {

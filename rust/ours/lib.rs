@@ -49,35 +49,57 @@ pub fn band_bits(times: &[u32], share: u32) -> [u64; 3] {
     out
 }
 
-/// The scan of the first `len` bytes of a slice: {0 whole or 1 torn, records, committed} or {2, number, place}.
-pub fn journal_scan(v: &[u8], len: usize) -> [u64; 3] {
-    unsafe extern "C" {
-        fn journal_scan(v: *const u8, size: usize, len: usize, out: *mut [u64; 3]);
-    }
-    let mut out = [u64::MAX; 3];
-    // The pointer and the size are those of a slice, and out has its three places.
-    unsafe { journal_scan(v.as_ptr(), v.len(), len, &mut out) };
-    out
+/// A C function of scan and the two of reading, plain or by the profile.
+macro_rules! reading {
+    ($(#[$said:meta])* $scan:ident, $(#[$part_said:meta])* $part:ident, $(#[$mark_said:meta])* $mark:ident) => {
+        $(#[$said])*
+        pub fn $scan(v: &[u8], len: usize) -> [u64; 3] {
+            unsafe extern "C" {
+                fn $scan(v: *const u8, size: usize, len: usize, out: *mut [u64; 3]);
+            }
+            let mut out = [u64::MAX; 3];
+            // The pointer and the size are those of a slice, and out has its three places.
+            unsafe { $scan(v.as_ptr(), v.len(), len, &mut out) };
+            out
+        }
+
+        $(#[$part_said])*
+        pub fn $part(v: &[u8], len: usize, i: usize) -> [u64; 2] {
+            unsafe extern "C" {
+                fn $part(v: *const u8, size: usize, len: usize, i: usize, out: *mut [u64; 2]);
+            }
+            let mut out = [u64::MAX; 2];
+            // The pointer and the size are those of a slice, and out has its two places.
+            unsafe { $part(v.as_ptr(), v.len(), len, i, &mut out) };
+            out
+        }
+
+        $(#[$mark_said])*
+        pub fn $mark(v: &[u8], len: usize, i: usize) -> u64 {
+            unsafe extern "C" {
+                fn $mark(v: *const u8, size: usize, len: usize, i: usize) -> u64;
+            }
+            // The pointer and the size are those of a slice.
+            unsafe { $mark(v.as_ptr(), v.len(), len, i) }
+        }
+    };
 }
 
-/// The part of record i: {start, length}.
-pub fn journal_part(v: &[u8], len: usize, i: usize) -> [u64; 2] {
-    unsafe extern "C" {
-        fn journal_part(v: *const u8, size: usize, len: usize, i: usize, out: *mut [u64; 2]);
-    }
-    let mut out = [u64::MAX; 2];
-    // The pointer and the size are those of a slice, and out has its two places.
-    unsafe { journal_part(v.as_ptr(), v.len(), len, i, &mut out) };
-    out
+reading! {
+    /// The scan of the first `len` bytes of a slice: {0 whole or 1 torn, records, committed} or {2, number, place}.
+    journal_scan,
+    /// The part of record i: {start, length}.
+    journal_part,
+    /// The letter of record i's mark, or the refusal's number.
+    journal_mark
 }
-
-/// The letter of record i's mark, or the refusal's number.
-pub fn journal_mark(v: &[u8], len: usize, i: usize) -> u64 {
-    unsafe extern "C" {
-        fn journal_mark(v: *const u8, size: usize, len: usize, i: usize) -> u64;
-    }
-    // The pointer and the size are those of a slice.
-    unsafe { journal_mark(v.as_ptr(), v.len(), len, i) }
+reading! {
+    /// The same by the profile.
+    journal_profile_scan,
+    /// The same by the profile.
+    journal_profile_part,
+    /// The same by the profile.
+    journal_profile_mark
 }
 
 /// What an append offers.
@@ -88,16 +110,23 @@ pub struct Offer<'a> {
     pub times: &'a [u32],
 }
 
-/// A C function of append over an offer, with a log in place of its times or not, and with a budget or not.
+/// What `journal_append_with` and `journal_append_log_with` are asked besides: to go by the profile.
+pub const PROFILE: u32 = 2;
+
+/// A C function of append over an offer: with a log in place of its times or not, with a budget or not, with options or not.
 macro_rules! append {
-    ($(#[$said:meta])* $name:ident($offer:ident $(, $log:ident)? $(; $budget:ident)?), $times:expr => $item:ty) => {
+    (
+        $(#[$said:meta])*
+        $name:ident($offer:ident $(, $log:ident)? $(; $budget:ident $(, $options:ident)?)?),
+        $times:expr => $item:ty
+    ) => {
         $(#[$said])*
         pub fn $name(
             v: &mut [u8],
             len: usize,
             $offer: Offer,
             $($log: &[u8],)?
-            $($budget: usize)?
+            $($budget: usize, $($options: u32)?)?
         ) -> [u64; 3] {
             unsafe extern "C" {
                 fn $name(
@@ -111,7 +140,7 @@ macro_rules! append {
                     chances_len: usize,
                     times: *const $item,
                     times_len: usize,
-                    $($budget: usize,)?
+                    $($budget: usize, $($options: u32,)?)?
                     out: *mut [u64; 3],
                 );
             }
@@ -131,7 +160,7 @@ macro_rules! append {
                     chances.len(),
                     times.as_ptr(),
                     times.len(),
-                    $($budget,)?
+                    $($budget, $($options,)?)?
                     &mut out,
                 )
             };
@@ -149,12 +178,20 @@ append! {
     journal_append_upto(offer; budget), offer.times => u32
 }
 append! {
+    /// The same with options.
+    journal_append_with(offer; budget, options), offer.times => u32
+}
+append! {
     /// The append through a log: as above, or {3, number, place in the log}. The offer's times are not looked at.
     journal_append_log(offer, log), log => u8
 }
 append! {
     /// The same up to a budget.
     journal_append_log_upto(offer, log; budget), log => u8
+}
+append! {
+    /// The same with options.
+    journal_append_log_with(offer, log; budget, options), log => u8
 }
 
 /// Two journals, each a slice and its length in it, merged into a third buffer: {0, length, 0, 0}, {1, 9, 0, 0}, {1, 13, place, 0},

@@ -2,6 +2,7 @@
 // one list behind the other and sorted by day, equal days in their sequence.
 
 use crate::limit::Form;
+use crate::profile::Rule;
 use crate::scan::{scan_all, Entry, Status, MAX_LENGTH};
 use std::collections::HashSet;
 
@@ -42,7 +43,7 @@ struct Input<'a> {
 
 impl Input<'_> {
     fn of((slice, len): (&[u8], usize), whose: Whose) -> Input<'_> {
-        let (status, entries) = scan_all(slice, len);
+        let (status, entries) = scan_all(Rule::Plain, slice, len);
         Input {
             slice,
             status,

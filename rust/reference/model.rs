@@ -1,9 +1,10 @@
 // Document 01, Book of demand 3: what a list of calls should have made, fed the calls' arguments and the slice's length alone;
 // and append on any slice, which surveys it first. New records are form 2 and have chances up to 500,000 (document 02, 2026-04, 2026-10);
-// their times may come from a log, which is judged before all else (2026-01).
+// their times may come from a log, which is judged before all else (2026-01), and a profile call takes profile volumes and leaves alone (2026-14).
 
 use crate::limit::{chance_fits, count_fits, time_fits, Form, LAST_OFFERED};
 use crate::log::{gather, Refused};
+use crate::profile::{Rule, BREAKS};
 use crate::record::{name_fits, Record};
 use crate::scan::{scan_all, Entry, Status, MAX_LENGTH};
 
@@ -16,12 +17,14 @@ pub struct Offer {
     pub times: Vec<u32>,
 }
 
-/// What a call is handed besides the journal: an offer, a log that has its times where there is one, and k, all where there is none.
+/// What a call is handed besides the journal: an offer, a log that has its times where there is one, k, all where there is none, and the rule
+/// that it goes by.
 #[derive(Clone, Debug, Default)]
 pub struct Request {
     pub offer: Offer,
     pub log: Option<Vec<u8>>,
     pub budget: Option<usize>,
+    pub rule: Rule,
 }
 
 impl Request {
@@ -77,6 +80,7 @@ impl Model {
             form: Form::of(record.form.into()).expect("form 1 or 2"),
             day: record.day,
             mark: record.mark(),
+            in_profile: record.in_profile(),
         });
         self.records.push(bytes);
         self.tail.clear();
@@ -102,8 +106,14 @@ impl Model {
             Ok(offer) => offer,
             Err(refused) => return Answer::DeclinedAt(refused),
         };
+        if let Some(place) = self.fault(request.rule) {
+            return Answer::Damaged {
+                number: BREAKS,
+                place,
+            };
+        }
         let (committed, last_day) = (self.committed(), self.entries.last().map(|e| e.day));
-        let record = match record_of(&offer, last_day, committed, slice_len) {
+        let record = match record_of(&offer, request.rule, last_day, committed, slice_len) {
             Ok(record) => record,
             Err(number) => return Answer::Declined(number),
         };
@@ -117,10 +127,19 @@ impl Model {
         Answer::Length(self.len())
     }
 
-    /// What survey answers.
-    pub fn status(&self) -> Status {
+    /// The first byte of the first record that stands and breaks the rule.
+    fn fault(&self, rule: Rule) -> Option<usize> {
+        let broken = |entry: &&Entry| !rule.takes(entry.in_profile);
+        self.entries.iter().find(broken).map(|entry| entry.start)
+    }
+
+    /// What survey answers by a rule.
+    pub fn status(&self, rule: Rule) -> Status {
         let (records, committed) = (self.records.len(), self.committed());
-        if self.tail.is_empty() {
+        if let Some(place) = self.fault(rule) {
+            let number = BREAKS;
+            Status::Damaged { number, place }
+        } else if self.tail.is_empty() {
             Status::Whole { records, committed }
         } else {
             Status::Torn { records, committed }
@@ -136,6 +155,7 @@ impl Model {
 /// The record that an offer makes, or the first refusal that holds.
 fn record_of(
     offer: &Offer,
+    rule: Rule,
     last_day: Option<u16>,
     committed: usize,
     slice_len: usize,
@@ -162,6 +182,9 @@ fn record_of(
         &offer.chances,
         &offer.times,
     );
+    if !rule.takes(record.in_profile()) {
+        return Err(BREAKS);
+    }
     if committed + record.bytes().len() > slice_len.min(MAX_LENGTH) {
         return Err(9);
     }
@@ -179,13 +202,13 @@ pub fn append(slice: &mut [u8], len: usize, request: &Request) -> Answer {
         Ok(offer) => offer,
         Err(refused) => return Answer::DeclinedAt(refused),
     };
-    let (status, entries) = scan_all(slice, len);
+    let (status, entries) = scan_all(request.rule, slice, len);
     let committed = match status {
         Status::Damaged { number, place } => return Answer::Damaged { number, place },
         Status::Whole { committed, .. } | Status::Torn { committed, .. } => committed,
     };
     let last_day = entries.last().map(|entry| entry.day);
-    match record_of(&offer, last_day, committed, slice.len()) {
+    match record_of(&offer, request.rule, last_day, committed, slice.len()) {
         Err(number) => Answer::Declined(number),
         Ok(record) => {
             let bytes = record.bytes();

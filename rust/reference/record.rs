@@ -2,6 +2,7 @@
 // A record here may break every rule: the encoding takes it as it is, so that wrong ones can be made too.
 
 use crate::limit::{Form, Sums};
+use crate::profile::in_profile;
 
 #[derive(Clone, Debug, Default, PartialEq, Eq)]
 pub struct Record {
@@ -69,6 +70,12 @@ impl Record {
         bytes.extend(limits.to_le_bytes());
         bytes.extend(self.limits.iter().flat_map(|x| x.to_le_bytes()));
         bytes
+    }
+
+    /// Whether it is one of the profile; its form is one of the two.
+    pub fn in_profile(&self) -> bool {
+        let form = Form::of(self.form.into()).expect("form 1 or 2");
+        in_profile(form, &self.chances, self.times.len())
     }
 
     /// The letter of its mark.

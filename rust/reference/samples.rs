@@ -1,10 +1,11 @@
-// Valid journals made of random records: of form 1 up to a place, of form 2 from there on.
+// Valid journals made of random records: of form 1 up to a place, of form 2 from there on; or of the profile, or nearly so.
 // The records' fields are drawn in rust/inputs, their bytes made here.
 
 use crate::limit::Form;
 use crate::record::Record;
 use crate::scan::MAX_LENGTH;
-use inputs::journal::{record, record_of_size, Fields, LARGEST, READ, SMALLEST};
+use inputs::journal::{profile_broken, profile_record, record, record_of_size, Fields};
+use inputs::journal::{LARGEST, READ, SMALLEST};
 use inputs::random::Random;
 
 fn encoded(form: Form, fields: &Fields) -> Record {
@@ -43,6 +44,23 @@ fn records_with(random: &mut Random, count: usize, old: usize) -> Vec<Record> {
     for i in 0..count {
         records.push(encoded(form_at(i, old), &record(random, day, READ)));
         day = day.saturating_add(random.below(3) as u16);
+    }
+    records
+}
+
+/// So many records of the profile; of every second list one record breaks it, the first perhaps by its form.
+pub fn profile_records(random: &mut Random, count: usize) -> Vec<Record> {
+    let mut day = random.below(100) as u16;
+    let broken = random.below(2 * count as u64) as usize;
+    let mut records = Vec::new();
+    for i in 0..count {
+        let mut fields = profile_record(random, day);
+        let old = i == broken && i == 0 && random.below(2) == 0;
+        if i == broken && !old {
+            profile_broken(random, &mut fields);
+        }
+        records.push(encoded(form_at(0, old.into()), &fields));
+        day += random.below(3) as u16;
     }
     records
 }

@@ -1,7 +1,8 @@
-// Document 01's survey and reading with document 02's forms, over any bytes: the fields in byte order, each judged when its last byte stands.
-// One pass keeps every record's part and mark; it allocates only where a caller asks for them.
+// Document 01's survey and reading with document 02's forms, over any bytes: the fields in byte order, each judged when its last byte stands,
+// and by the profile (2026-14) each record when it is whole. One pass keeps every record's part and mark; it allocates only where a caller asks.
 
 use crate::limit::{chance_fits, Form, Sums, LAST_TIME};
+use crate::profile::{in_profile, Rule, BREAKS};
 use crate::record::mark;
 
 pub const MAX_LENGTH: usize = 65_536;
@@ -24,6 +25,7 @@ pub struct Entry {
     pub form: Form,
     pub day: u16,
     pub mark: u8,
+    pub in_profile: bool,
 }
 
 /// Why a record is not read to its end.
@@ -34,20 +36,20 @@ enum Stop {
 
 /// The survey of the first `len` bytes of a slice.
 pub fn scan(slice: &[u8], len: usize) -> Status {
-    scan_each(slice, len, |_| ())
+    scan_each(Rule::Plain, slice, len, |_| ())
 }
 
-/// The survey, and every record that stands; none where the journal is damaged.
-pub fn scan_all(slice: &[u8], len: usize) -> (Status, Vec<Entry>) {
+/// The survey by a rule, and every record that stands; none where the journal is damaged.
+pub fn scan_all(rule: Rule, slice: &[u8], len: usize) -> (Status, Vec<Entry>) {
     let mut entries = Vec::new();
-    let status = scan_each(slice, len, |entry| entries.push(entry));
+    let status = scan_each(rule, slice, len, |entry| entries.push(entry));
     if let Status::Damaged { .. } = status {
         entries.clear();
     }
     (status, entries)
 }
 
-fn scan_each(slice: &[u8], len: usize, mut tell: impl FnMut(Entry)) -> Status {
+fn scan_each(rule: Rule, slice: &[u8], len: usize, mut tell: impl FnMut(Entry)) -> Status {
     if len > slice.len() || len > MAX_LENGTH {
         return Status::Damaged {
             number: 1,
@@ -61,6 +63,12 @@ fn scan_each(slice: &[u8], len: usize, mut tell: impl FnMut(Entry)) -> Status {
     let (mut records, mut committed, mut before) = (0, 0, None);
     loop {
         match cursor.record(before) {
+            Ok(entry) if !rule.takes(entry.in_profile) => {
+                return Status::Damaged {
+                    number: BREAKS,
+                    place: entry.start,
+                }
+            }
             Ok(entry) => {
                 tell(entry);
                 records += 1;
@@ -120,6 +128,7 @@ impl Cursor<'_> {
             form,
             day,
             mark: mark(equal, sums.n as usize),
+            in_profile: in_profile(form, chances, sums.n as usize),
         })
     }
 

@@ -7,6 +7,7 @@ use native.Mathlib.Omega.{arith}
 use lib.ListN.{take, drop}
 use lib.Seq.{take-take}
 use Rattle.journal_spec.specs.Record.{recordBytes}
+use Rattle.journal_spec.specs.Profile.{Rule}
 use Rattle.journal_spec.specs.Scan.{scanOf}
 use Rattle.journal_spec.specs.Request.{Offer, extended, Outcome}
 use Rattle.journal_spec.specs.Append.{offered}
@@ -17,13 +18,13 @@ use Rattle.append.specs.declared.extend.Extension.{Extension}
 use Rattle.append.specs.Extension.{committedIn, startIn, endIn, partIn, appendAll, Extends}
 use Rattle.append.proofs.WrittenPart.{Extended, append-extended, offered-length, Unwritten, empty}
 
-module _ (slice : List ℕ) (len : ℕ) (o : Offer) (r : Extension) (after : List ℕ) (x : Extends slice len o r after) where
+module _ (slice : List ℕ) (len : ℕ) (rule : Rule) (o : Offer) (r : Extension) (after : List ℕ) (x : Extends slice len rule o r after) where
   -- ---- where the append extends the journal
-  module _ (n : ℕ) (told : appendAll slice len o .answer ≡ extended n) where
-    all : Extended slice len o n (appendAll slice len o .journal .slice)
-    all = append-extended slice len o n told
+  module _ (n : ℕ) (told : appendAll slice len rule o .answer ≡ extended n) where
+    all : Extended slice len rule o n (appendAll slice len rule o .journal .slice)
+    all = append-extended slice len rule o n told
 
-    pub part-starts : r .start ≡ committedIn (scanOf slice len)
+    pub part-starts : r .start ≡ committedIn (scanOf rule slice len)
     unfolding startIn
     part-starts = x .starts ∙ rw told refl
 
@@ -43,12 +44,12 @@ module _ (slice : List ℕ) (len : ℕ) (o : Offer) (r : Extension) (after : Lis
     pub file-after : take (r .start) (take len slice) ++ take (r .end - r .start) (drop (r .start) after) ≡ take n after
     unfolding outcomeOf
     file-after =
-        let same : after ≡ appendAll slice len o .journal .slice = ap (λ (y : Outcome). y .journal .slice) (x .outcome) in
+        let same : after ≡ appendAll slice len rule o .journal .slice = ap (λ (y : Outcome). y .journal .slice) (x .outcome) in
         rw (part-is-record, part-starts, take-take _ _ slice (all .kept), same ∙ all .bytes, all .place)
         (sym (written-take slice _ (recordBytes (offered o)) (omega (arith, all .place, all .room))))
 
   -- ---- where it is declined or the journal is damaged
-  pub nothing-written : Unwritten (appendAll slice len o .answer) → (r .start ≡ r .end) × (after ≡ slice)
+  pub nothing-written : Unwritten (appendAll slice len rule o .answer) → (r .start ≡ r .end) × (after ≡ slice)
   nothing-written u =
-      let none = empty (scanOf slice len) o (appendAll slice len o .answer) u in
+      let none = empty (scanOf rule slice len) o (appendAll slice len rule o .answer) u in
       (x .starts ∙ none .starts ∙ sym (x .ends ∙ none .ends), x .rest ∙ rw (none .part) (written-nil slice (r .start)))

@@ -8,11 +8,13 @@ use borrow.Author.Tests.{leb-true}
 use lib.Dec.{leb}
 use lib.ListN.{length, take, length-map}
 use lib.Seq.{take-all}
-use Rattle.journal_spec.specs.Record.{Last, lastOf, recordBytes}
-use Rattle.journal_spec.specs.Scan.{maxLength, recordsOf, Contents, standing, faulty, contentsOf, ScanResult, statusOf, scanOf}
-use Rattle.journal_spec.specs.Request.{Journal, all, Offer, gatherBy, timesOf, timesIn, offerOf, allowed, AppendResult, extended, declined, declinedAt}
+use Rattle.journal_spec.specs.Refusals.{firstOf}
+use Rattle.journal_spec.specs.Record.{recordBytes}
+use Rattle.journal_spec.specs.Profile.{Rule}
+use Rattle.journal_spec.specs.Scan.{maxLength, Placed, Contents, standing, faulty, contentsOf, ScanResult, statusOf, scanOf}
+use Rattle.journal_spec.specs.Request.{Journal, Offer, gatherBy, timesOf, timesIn, offerOf, allowed, AppendResult, extended, declined, declinedAt}
 use Rattle.journal_spec.specs.Request.{damaged, Outcome}
-use Rattle.journal_spec.specs.Append.{limitsOf, offered, judgeRoom, appendRefusal, written, unchanged, extend, settle, appendTo, appendWith, appendOf}
+use Rattle.journal_spec.specs.Append.{limitsOf, offered, judgeRoom, appendRefusals, written, unchanged, extend, settle, appendTo, appendWith, appendOf}
 use Rattle.journal_spec.proofs.Judging.{none-at, unless-none}
 use Rattle.journal_spec.proofs.Records.{length-record}
 use Rattle.journal_spec.proofs.Writing.{written-nil}
@@ -21,7 +23,7 @@ use Rattle.journal.specs.Answers.{appendMeaning, outcomeOf}
 use Rattle.journal.specs.declared.Fault.{Fault}
 use Rattle.journal.specs.declared.Appended.{Appended}
 use Rattle.journal.specs.declared.Appended.the-variants as A
-use Rattle.append.specs.Extension.{committedIn, startIn, endIn, partIn, appendAll, Extends}
+use Rattle.append.specs.Extension.{committedIn, startIn, endIn, partIn, allOf, appendAll, Extends}
 use Rattle.append.proofs.Committed.{committed-inside, committed-found}
 
 -- ---- an append that extends the journal
@@ -33,18 +35,18 @@ unfolding offered limitsOf
 offered-length o = length-record (offered o) ∙ rw length-map refl
 
 -- it answers n: the record ends there, inside the slice and the longest journal, and is written from the committed length on
-pub record Extended (slice : List ℕ) (len : ℕ) (o : Offer) (n : ℕ) (after : List ℕ) : Type 0 where
-  pub kept : committedIn (scanOf slice len) ≤ len
-  pub place : n ≡ committedIn (scanOf slice len) + length (recordBytes (offered o))
+pub record Extended (slice : List ℕ) (len : ℕ) (rule : Rule) (o : Offer) (n : ℕ) (after : List ℕ) : Type 0 where
+  pub kept : committedIn (scanOf rule slice len) ≤ len
+  pub place : n ≡ committedIn (scanOf rule slice len) + length (recordBytes (offered o))
   pub room : n ≤ min (length slice) maxLength
-  pub bytes : after ≡ written slice (committedIn (scanOf slice len)) (recordBytes (offered o))
+  pub bytes : after ≡ written slice (committedIn (scanOf rule slice len)) (recordBytes (offered o))
 
 -- an offer that nothing refuses has room
-room-found : (room : ℕ) (last : Last) (c : ℕ) (o : Offer) → appendRefusal room last c o ≡ 0
+room-found : (room : ℕ) (ps : List Placed) (c : ℕ) (rule : Rule) (o : Offer) → firstOf (appendRefusals room ps c (allOf rule o)) ≡ 0
     → c + length (recordBytes (offered o)) ≤ min room maxLength
-unfolding appendRefusal judgeRoom
-room-found room last c o h =
-    leb-true _ _ (unless-none (leb (c + length (recordBytes (offered o))) (min room maxLength)) 8 (none-at _ h 5))
+unfolding appendRefusals judgeRoom offerOf timesOf gatherBy timesIn
+room-found room ps c rule o h =
+    leb-true _ _ (unless-none (leb (c + length (recordBytes (offered o))) (min room maxLength)) 8 (none-at _ h 6))
 
 -- an offer that is taken was not refused
 record Taken (refusal : ℕ) (slice : List ℕ) (c : ℕ) (new : List ℕ) (n : ℕ) (after : List ℕ) : Type 0 where
@@ -58,26 +60,26 @@ unfolding settle extend unchanged
 taken zero j c new n e = record { none = refl; place = cc; bytes = refl }
 taken (suc refusal) j c new n e = let z : _≡_ {A = ℕ} 0 1 = cc in absurd (omega arith)
 
-pub append-extended : (slice : List ℕ) (len : ℕ) (o : Offer) (n : ℕ) → appendAll slice len o .answer ≡ extended n
-    → Extended slice len o n (appendAll slice len o .journal .slice)
+pub append-extended : (slice : List ℕ) (len : ℕ) (rule : Rule) (o : Offer) (n : ℕ) → appendAll slice len rule o .answer ≡ extended n
+    → Extended slice len rule o n (appendAll slice len rule o .journal .slice)
 unfolding appendOf appendWith timesOf gatherBy timesIn offerOf appendTo allowed unchanged scanOf
-append-extended slice len o n = go (contentsOf slice len) refl
+append-extended slice len rule o n = go (contentsOf rule slice len) refl
   where
     bytes : List ℕ
     bytes = recordBytes (offered o)
 
-    go : (x : Contents) → contentsOf slice len ≡ x → appendTo x (record { slice = slice; len = len }) o all .answer ≡ extended n
-        → Extended slice len o n (appendTo x (record { slice = slice; len = len }) o all .journal .slice)
+    go : (x : Contents) → contentsOf rule slice len ≡ x → appendTo x (record { slice = slice; len = len }) (allOf rule o) .answer ≡ extended n
+        → Extended slice len rule o n (appendTo x (record { slice = slice; len = len }) (allOf rule o) .journal .slice)
     go (faulty m p) h e = let z : _≡_ {A = ℕ} 0 1 = cc in absurd (omega arith)
     go (standing ps c) h e =
-        let t = taken (appendRefusal (length slice) (lastOf (recordsOf ps)) c o) (record { slice = slice; len = len }) c (take (length bytes) bytes) n e in
+        let t = taken (firstOf (appendRefusals (length slice) ps c (allOf rule o))) (record { slice = slice; len = len }) c (take (length bytes) bytes) n e in
         let all : take (length bytes) bytes ≡ bytes = take-all (length bytes) bytes (omega arith) in
-        let found : committedIn (statusOf len (contentsOf slice len)) ≡ c = rw h (committed-found len ps c) in
+        let found : committedIn (statusOf len (contentsOf rule slice len)) ≡ c = rw h (committed-found len ps c) in
         let ends : n ≡ c + length bytes = t .place ∙ rw all refl in
         record {
-          kept = omega (arith, found, committed-inside slice len ps c h);
+          kept = omega (arith, found, committed-inside rule slice len ps c h);
           place = omega (arith, found, ends);
-          room = omega (arith, ends, room-found (length slice) (lastOf (recordsOf ps)) c o (t .none));
+          room = omega (arith, ends, room-found (length slice) ps c rule o (t .none));
           bytes = t .bytes ∙ rw (all, found) refl;
         }
 
@@ -93,12 +95,12 @@ unfolding settle extend unchanged
 settled-unwritten zero j c new u = absurd (u _ refl)
 settled-unwritten (suc refusal) j c new u = refl
 
-pub append-unwritten : (slice : List ℕ) (len : ℕ) (o : Offer) → Unwritten (appendAll slice len o .answer) → appendAll slice len o .journal .slice ≡ slice
+pub append-unwritten : (slice : List ℕ) (len : ℕ) (rule : Rule) (o : Offer) → Unwritten (appendAll slice len rule o .answer) → appendAll slice len rule o .journal .slice ≡ slice
 unfolding appendOf appendWith timesOf gatherBy timesIn offerOf appendTo unchanged
-append-unwritten slice len o = go (contentsOf slice len)
+append-unwritten slice len rule o = go (contentsOf rule slice len)
   where
-    go : (x : Contents) → Unwritten (appendTo x (record { slice = slice; len = len }) o all .answer)
-        → appendTo x (record { slice = slice; len = len }) o all .journal .slice ≡ slice
+    go : (x : Contents) → Unwritten (appendTo x (record { slice = slice; len = len }) (allOf rule o) .answer)
+        → appendTo x (record { slice = slice; len = len }) (allOf rule o) .journal .slice ≡ slice
     go (faulty n p) u = refl
     go (standing ps c) u = settled-unwritten _ _ c _ u
 
@@ -133,32 +135,32 @@ empty s o (damaged n p) u = record { starts = refl; ends = refl; part = refl }
 abbrev pub Lendable : ℕ → ℕ → List ℕ → Type 0
 Lendable start end after = (start ≤ end) × (end ≤ length after) × (start ≤ maxLength)
 
-module _ (slice : List ℕ) (len : ℕ) (o : Offer) (answer : Appended) (after : List ℕ) (e : outcomeOf len answer after ≡ appendAll slice len o) where
-  said : appendMeaning answer ≡ appendAll slice len o .answer
+module _ (slice : List ℕ) (len : ℕ) (rule : Rule) (o : Offer) (answer : Appended) (after : List ℕ) (e : outcomeOf len answer after ≡ appendAll slice len rule o) where
+  said : appendMeaning answer ≡ appendAll slice len rule o .answer
   unfolding outcomeOf
   said = ap (λ (x : Outcome). x .answer) e
 
-  left : after ≡ appendAll slice len o .journal .slice
+  left : after ≡ appendAll slice len rule o .journal .slice
   unfolding outcomeOf
   left = ap (λ (x : Outcome). x .journal .slice) e
 
-  pub extended-said : (n : ℕ) → answer ≡ A.Extended n → Extended slice len o n after
+  pub extended-said : (n : ℕ) → answer ≡ A.Extended n → Extended slice len rule o n after
   unfolding appendMeaning
-  extended-said n h = rw left (append-extended slice len o n (sym said ∙ rw h refl))
+  extended-said n h = rw left (append-extended slice len rule o n (sym said ∙ rw h refl))
 
   -- the record is as long as the code takes it, so that it starts that long before its end
   pub extends-record : (n start : ℕ) → answer ≡ A.Extended n
       → start ≡ n - (12 + length (o .name) + 4 * length (o .chances) + 4 * length (o .times) + 8 * length (o .chances))
       → length after ≡ length slice
-      → Extends slice len o (record { start = start; end = n; answer = A.Extended n }) after × Lendable start n after
+      → Extends slice len rule o (record { start = start; end = n; answer = A.Extended n }) after × Lendable start n after
   unfolding startIn endIn partIn appendMeaning
   extends-record n start h s same =
       let x = extended-said n h in
-      let told : appendAll slice len o .answer ≡ extended n = sym said ∙ rw h refl in
+      let told : appendAll slice len rule o .answer ≡ extended n = sym said ∙ rw h refl in
       let size = offered-length o in
-      let c : start ≡ committedIn (scanOf slice len) = omega (arith, x .place, size, s) in
+      let c : start ≡ committedIn (scanOf rule slice len) = omega (arith, x .place, size, s) in
       let span : n - start ≡ length (recordBytes (offered o)) = omega (arith, x .place, c) in
-      let fits : committedIn (scanOf slice len) + length (recordBytes (offered o)) ≤ length slice = omega (arith, x .place, x .room) in (
+      let fits : committedIn (scanOf rule slice len) + length (recordBytes (offered o)) ≤ length slice = omega (arith, x .place, x .room) in (
         record {
           outcome = rw h at e;
           starts = rw told c;
@@ -170,15 +172,15 @@ module _ (slice : List ℕ) (len : ℕ) (o : Offer) (answer : Appended) (after :
       )
 
   pub extends-nothing : Unwritten (appendMeaning answer)
-      → Extends slice len o (record { start = 0; end = 0; answer = answer }) after × Lendable 0 0 after
+      → Extends slice len rule o (record { start = 0; end = 0; answer = answer }) after × Lendable 0 0 after
   extends-nothing u =
-      let none = empty (scanOf slice len) o (appendAll slice len o .answer) (rw said at u) in (
+      let none = empty (scanOf rule slice len) o (appendAll slice len rule o .answer) (rw said at u) in (
         record {
           outcome = e;
           starts = sym (none .starts);
           ends = sym (none .ends);
           part = sym (none .part);
-          rest = rw (none .part) (left ∙ append-unwritten slice len o (rw said at u) ∙ sym (written-nil slice 0));
+          rest = rw (none .part) (left ∙ append-unwritten slice len rule o (rw said at u) ∙ sym (written-nil slice 0));
         },
         (omega arith, omega arith, omega arith),
       )

@@ -5,8 +5,9 @@ use Prim.Native.Nat.{ℕ, _-_}
 use mathlib.Core.List.{List, []}
 use lib.ListN.{take, drop}
 use Rattle.journal_spec.specs.Record.{recordBytes}
+use Rattle.journal_spec.specs.Profile.{Rule}
 use Rattle.journal_spec.specs.Scan.{ScanResult, whole, torn, damaged, scanOf}
-use Rattle.journal_spec.specs.Request.{all, Offer, AppendResult, extended, declined, Outcome}
+use Rattle.journal_spec.specs.Request.{all, Request, Offer, AppendResult, extended, declined, Outcome}
 use Rattle.journal_spec.specs.Request as Request
 use Rattle.journal_spec.specs.Append.{offered, written, appendOf}
 use Rattle.journal.specs.Answers.{outcomeOf}
@@ -39,17 +40,25 @@ partIn o (declined n) = []
 partIn o (Request.declinedAt n p) = []
 partIn o (Request.damaged n p) = []
 
--- what an append of all of the record comes to
-abbrev pub appendAll : List ℕ → ℕ → Offer → Outcome
-appendAll slice len o =
-    appendOf (record { slice = slice; len = len })
-    (record { day = o .day; name = o .name; chances = o .chances; source = Request.times (o .times); budget = all })
+-- the request of all of an offered record by a rule, and what an append of it comes to
+abbrev pub allOf : Rule → Offer → Request
+allOf rule o = record {
+  day = o .day;
+  name = o .name;
+  chances = o .chances;
+  source = Request.times (o .times);
+  budget = all;
+  rule = rule;
+}
+
+abbrev pub appendAll : List ℕ → ℕ → Rule → Offer → Outcome
+appendAll slice len rule o = appendOf (record { slice = slice; len = len }) (allOf rule o)
 
 -- The answer and the slice after it are append's; start and end are those of the written part; the part of the slice after from start to
 -- end is the record's bytes, or none; and the slice after is the slice before with these bytes there and no other byte changed.
-pub record Extends (slice : List ℕ) (len : ℕ) (o : Offer) (r : Extension) (after : List ℕ) : Type 0 where
-  pub outcome : outcomeOf len (r .answer) after ≡ appendAll slice len o
-  pub starts : r .start ≡ startIn (scanOf slice len) (appendAll slice len o .answer)
-  pub ends : r .end ≡ endIn (appendAll slice len o .answer)
-  pub part : take (r .end - r .start) (drop (r .start) after) ≡ partIn o (appendAll slice len o .answer)
-  pub rest : after ≡ written slice (r .start) (partIn o (appendAll slice len o .answer))
+pub record Extends (slice : List ℕ) (len : ℕ) (rule : Rule) (o : Offer) (r : Extension) (after : List ℕ) : Type 0 where
+  pub outcome : outcomeOf len (r .answer) after ≡ appendAll slice len rule o
+  pub starts : r .start ≡ startIn (scanOf rule slice len) (appendAll slice len rule o .answer)
+  pub ends : r .end ≡ endIn (appendAll slice len rule o .answer)
+  pub part : take (r .end - r .start) (drop (r .start) after) ≡ partIn o (appendAll slice len rule o .answer)
+  pub rest : after ≡ written slice (r .start) (partIn o (appendAll slice len rule o .answer))

@@ -3,9 +3,11 @@
 ghost use Prim.Native.Nat.{_≤_};
 ghost use lib.ListN.{length};
 ghost use Rattle.journal_spec.specs.Scan.{maxLength};
-ghost use Rattle.journal.specs.Handed.{offerFrom};
+ghost use Rattle.journal.specs.Handed.{asRule, offerFrom};
 ghost use Rattle.append.specs.Extension.{Extends};
 use journal::Appended;
+use journal::Budget;
+use journal::Rule;
 
 // Where the written part starts and ends, both 0 where nothing is written, and the answer.
 pub struct Extension {
@@ -14,7 +16,7 @@ pub struct Extension {
     pub answer: Appended,
 }
 
-// Appends to the journal of a length in a slice. The part's start is worked out from its end, so that the journal is scanned once.
+// Appends to the journal of a length in a slice, by a rule. The part's start is worked out from its end, so that the journal is scanned once.
 // The second clause says what lending the part asks.
 pub fn extend(
     v: &mut [u8],
@@ -23,12 +25,13 @@ pub fn extend(
     name: &[u8],
     chances: &[u32],
     times: &[u32],
+    rule: Rule,
 ) -> Extension
-    ensures { λ r. ⌜ Extends (now (v .entry)) len (offerFrom day (now (name .entry)) (now (chances .entry)) (now (times .entry)))
+    ensures { λ r. ⌜ Extends (now (v .entry)) len (asRule rule) (offerFrom day (now (name .entry)) (now (chances .entry)) (now (times .entry)))
         r (now (v .exit)) ⌝ }
     ensures { λ r. ⌜ (r .start ≤ r .end) × (r .end ≤ length (now (v .exit))) × (r .start ≤ maxLength) ⌝ }
 {
-    let answer = journal::append(v, len, day, name, chances, times);
+    let answer = journal::append_with(v, len, day, name, chances, times, Budget::All, rule);
     match answer {
         Appended::Extended(end) => {
             // The record's length: it has as many limits as chances.

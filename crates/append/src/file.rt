@@ -7,9 +7,17 @@ use crate::output::complain;
 use crate::output::fail_file;
 use crate::output::print_verdict;
 use crate::output::refuse_file;
+use journal::Rule;
 
 // Appends to the file that the argument at a place names.
-pub(crate) fn append_to_file(at: usize, day: u16, name: &[u8], chances: &[u32], ticks: &[u32]) {
+pub(crate) fn append_to_file(
+    at: usize,
+    day: u16,
+    name: &[u8],
+    chances: &[u32],
+    ticks: &[u32],
+    rule: Rule,
+) {
     if !arguments::streams_are_open(b"append: ") {
         return;
     }
@@ -19,16 +27,16 @@ pub(crate) fn append_to_file(at: usize, day: u16, name: &[u8], chances: &[u32], 
         complain(b"FILE: an empty name, or one of more than 4096 bytes");
         return;
     }
-    append_at(&path[..size], day, name, chances, ticks);
+    append_at(&path[..size], day, name, chances, ticks, rule);
 }
 
 // Reads the file, or takes a missing one as empty.
-fn append_at(path: &[u8], day: u16, name: &[u8], chances: &[u32], ticks: &[u32]) {
+fn append_at(path: &[u8], day: u16, name: &[u8], chances: &[u32], ticks: &[u32], rule: Rule) {
     let fd = os::open_update(path);
     let mut room = arguments::input_room();
     if fd < 0 {
         if os::errno() == libc::ENOENT {
-            append_read(path, fd, &mut room, 0, day, name, chances, ticks);
+            append_read(path, fd, &mut room, 0, day, name, chances, ticks, rule);
         } else {
             fail_file(path);
         }
@@ -43,7 +51,17 @@ fn append_at(path: &[u8], day: u16, name: &[u8], chances: &[u32], ticks: &[u32])
         fail_file(path);
         return;
     }
-    append_read(path, fd, &mut room, read.size, day, name, chances, ticks);
+    append_read(
+        path,
+        fd,
+        &mut room,
+        read.size,
+        day,
+        name,
+        chances,
+        ticks,
+        rule,
+    );
 }
 
 // Whether a position can be set, as in a regular file: a pipe and a terminal refuse it, and such devices as /dev/null stay at their start.
@@ -65,8 +83,9 @@ fn append_read(
     name: &[u8],
     chances: &[u32],
     ticks: &[u32],
+    rule: Rule,
 ) {
-    let e = extend(v, len, day, name, chances, ticks);
+    let e = extend(v, len, day, name, chances, ticks, rule);
     let start = e.start;
     let end = e.end;
     let answer = e.answer;

@@ -1,4 +1,4 @@
-// The arguments: whether a log is read, and those behind the file's name. More bytes of a name or more chances than a record holds are
+// The arguments: the words before the file's name, and what stands behind it. More bytes of a name or more chances than a record holds are
 // passed on, so that the library declines them: there is room for one more than the format allows.
 ghost use mathlib.Core.Path.{_≡_};
 ghost use Prim.Native.Nat.{ℕ, _<_, _≤_, _^_};
@@ -6,6 +6,7 @@ ghost use lib.ListN.{length};
 ghost use Rattle.io.specs.Counts.{Counts};
 ghost use Rattle.arguments.specs.declared.digit.Number.the-variants as N;
 use arguments::Number;
+use journal::Rule;
 
 // The largest day.
 const MAX_DAY: u32 = 65_535;
@@ -16,16 +17,40 @@ pub(crate) struct Counted {
     pub(crate) wrong: usize,
 }
 
-// The place of the file's name: 2 behind the word `--log`, and else 1.
-pub(crate) fn first() -> usize
-    ensures { λ r. ⌜ r ≤ 2 ⌝ }
+// The place of the file's name, whether a log is read, and the rule.
+pub(crate) struct Options {
+    pub(crate) from: usize,
+    pub(crate) log: bool,
+    pub(crate) rule: Rule,
+}
+
+// What the words before the file's name ask for: `--profile`, then `--log`, each or none.
+pub(crate) fn asked() -> Options
+    ensures { λ r. ⌜ r .from ≤ 3 ⌝ }
 {
-    let mut word = [0u8; 32];
-    let size = os::arg(1, &mut word);
-    if hex::same(&word[..size], b"--log") {
-        return 2;
+    if arguments::is_argument(1, b"--profile") {
+        return asked_from(2, Rule::Profile);
     }
-    1
+    asked_from(1, Rule::Plain)
+}
+
+// The same from a place on, by a rule.
+fn asked_from(at: usize, rule: Rule) -> Options
+    requires { ⌜ at ≤ 2 ⌝ }
+    ensures { λ r. ⌜ r .from ≤ 3 ⌝ }
+{
+    if arguments::is_argument(at, b"--log") {
+        return Options {
+            from: at + 1,
+            log: true,
+            rule,
+        };
+    }
+    Options {
+        from: at,
+        log: false,
+        rule,
+    }
 }
 
 // The day at a place.

@@ -1,5 +1,5 @@
-// Appends a record to a journal file, document 01's volume: append [--log] FILE DAY NAME CHANCE.. with the ticks on standard input, or
-// request 2026-01's log. The last line of the output is the verdict; what is wrong with the arguments, the input or the file is said on
+// Appends a record to a journal file, document 01's volume: append [--profile] [--log] FILE DAY NAME CHANCE.. with the ticks on standard
+// input, or request 2026-01's log; with --profile by request 2026-14's rule. The last line of the output is the verdict; what is wrong with the arguments, the input or the file is said on
 // standard error.
 ghost use Prim.Native.Nat.{_≤_};
 
@@ -11,18 +11,21 @@ mod output;
 mod verdict;
 
 use arguments::Number;
+use input::Options;
+use journal::Rule;
 
 // The most bytes of the ticks' text.
 const MAX_TEXT: usize = 65_536;
 
 fn main() {
-    let from = input::first();
+    let o = input::asked();
+    let from = o.from;
     if os::arg_count() < from + 3 {
         output::usage();
         return;
     }
     match input::day(from + 1) {
-        Number::Value(day) => append_on(from, day as u16),
+        Number::Value(day) => append_on(o, day as u16),
         Number::Nothing => output::complain(
             b"DAY: not a decimal number from 0 to 65535 without leading zeros",
         ),
@@ -30,9 +33,11 @@ fn main() {
 }
 
 // The other arguments, where the day is one.
-fn append_on(from: usize, day: u16)
-    requires { ⌜ from ≤ 2 ⌝ }
+fn append_on(o: Options, day: u16)
+    requires { ⌜ o .from ≤ 3 ⌝ }
 {
+    let from = o.from;
+    let rule = o.rule;
     let mut name = [0u8; 33];
     let name_size = input::name(from + 2, &mut name);
     let mut chances = [0u32; 9];
@@ -42,15 +47,15 @@ fn append_on(from: usize, day: u16)
         output::malformed(b"CHANCE", read.wrong);
         return;
     }
-    if from == 2 {
-        logs::append_log(day, &name[..name_size], &chances[..count]);
+    if o.log {
+        logs::append_log(from, day, &name[..name_size], &chances[..count], rule);
         return;
     }
-    append_ticks(day, &name[..name_size], &chances[..count]);
+    append_ticks(from, day, &name[..name_size], &chances[..count], rule);
 }
 
 // The ticks' text, where the arguments are as they should be.
-fn append_ticks(day: u16, name: &[u8], chances: &[u32]) {
+fn append_ticks(from: usize, day: u16, name: &[u8], chances: &[u32], rule: Rule) {
     let mut text = arguments::input_room();
     let read = arguments::read_input(0, &mut text);
     let size = read.size;
@@ -62,17 +67,17 @@ fn append_ticks(day: u16, name: &[u8], chances: &[u32]) {
         output::complain(b"standard input: more than 65536 bytes");
         return;
     }
-    append_text(day, name, chances, &text[..size]);
+    append_text(from, day, name, chances, &text[..size], rule);
 }
 
 // The ticks of a text.
-fn append_text(day: u16, name: &[u8], chances: &[u32], text: &[u8]) {
+fn append_text(from: usize, day: u16, name: &[u8], chances: &[u32], text: &[u8], rule: Rule) {
     let mut ticks = input::ticks_room();
     let read = arguments::read_numbers(text, u32::MAX, &mut ticks);
     let count = read.count;
     let pending = read.pending;
     match pending {
-        Number::Value(_) => file::append_to_file(1, day, name, chances, &ticks[..count]),
+        Number::Value(_) => file::append_to_file(from, day, name, chances, &ticks[..count], rule),
         Number::Nothing => output::malformed_tick(count),
     }
 }

@@ -14,6 +14,7 @@ pub use files::complain;
 pub use files::fail_file;
 pub use files::streams_are_open;
 pub use files::sync_folder;
+pub use help::is_argument;
 pub use help::is_help;
 pub use input::Input;
 pub use input::input_room;

@@ -5,6 +5,7 @@ use mathlib.Core.Bool.{true}
 use Prim.Native.Nat.{ℕ, zero, suc, _-_, _<_}
 use mathlib.Core.List.{List, []}
 use native.Mathlib.Omega.{arith}
+use Rattle.journal_spec.specs.Profile.{plain}
 use Rattle.listing.specs.Lines.{Position, endOf, noLine, step, startOf}
 use Rattle.capi.specs.Line.{positionAfter, lineAt}
 
@@ -23,7 +24,7 @@ none-after (suc k) p b e = none-after k (step p b .position) b (rw e)
 
 -- the line that all of i lines lead to, where `left` of them are left
 pub record Going (i : ℕ) (b : List ℕ) (left : ℕ) (p : Position) : Type 0 where
-  pub same : positionAfter i (startOf b) b ≡ positionAfter left p b
+  pub same : positionAfter i (startOf plain b) b ≡ positionAfter left p b
 
 pub going-next : (i : ℕ) (b : List ℕ) (left : ℕ) (p q : Position) → 0 < left → q ≡ step p b .position → Going i b left p → Going i b (left - 1) q
 going-next i b left p q h e g = record { same = g .same ∙ after-next left p b h ∙ ap (λ (x : Position). positionAfter (left - 1) x b) (sym e) }

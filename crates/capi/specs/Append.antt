@@ -1,7 +1,10 @@
--- Append's answer as the C interface gives it: three words.
+-- Append's answer as the C interface gives it, three words; and what its options mean.
 -- The first says which case it is, the others hold its values, 0 where there is none.
-use Prim.Native.Nat.{ℕ}
+use Prim.Native.Nat.{ℕ, _/_, _%_}
 use mathlib.Core.List.{List, [], _∷_}
+use mathlib.Core.Bool.{cond}
+use lib.Dec.{eqb}
+use Rattle.journal_spec.specs.Profile.{Rule, plain, profile}
 use Rattle.journal_spec.specs.Request.{AppendResult, extended, declined, declinedAt, damaged}
 
 -- 0 and the journal's length after the call; 1 and the number by which it is declined; 2, the fault's number and place; or 3, the number by
@@ -11,3 +14,7 @@ appendWords (extended len) = 0 ∷ len ∷ 0 ∷ []
 appendWords (declined number) = 1 ∷ number ∷ 0 ∷ []
 appendWords (declinedAt number place) = 3 ∷ number ∷ place ∷ []
 appendWords (damaged number place) = 2 ∷ number ∷ place ∷ []
+
+-- options: the 2 in them asks for the profile
+unfoldable pub ruleOf : ℕ → Rule
+ruleOf options = cond (eqb (options / 2 % 2) 1) profile plain

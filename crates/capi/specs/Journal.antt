@@ -1,5 +1,5 @@
 -- The journal's answers as the C interface gives them: scan's in three words, a part's in two, a mark's in one.
--- No mark's letter is a refusal's number: those are 1 to 10.
+-- No mark's letter is a refusal's number: those are below 0x41.
 use Prim.Native.Nat.{ℕ}
 use mathlib.Core.List.{List, [], _∷_}
 use Rattle.journal_spec.specs.Scan.{ScanResult, whole, torn, damaged}

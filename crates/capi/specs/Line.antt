@@ -2,6 +2,7 @@
 -- Lines follow as crate listing defines them.
 use Prim.Native.Nat.{ℕ, zero, suc}
 use mathlib.Core.List.{List}
+use Rattle.journal_spec.specs.Profile.{plain}
 use Rattle.listing.specs.Lines.{Position, startOf, step}
 
 -- where a listing stands after so many lines more
@@ -11,4 +12,4 @@ positionAfter (suc i) p b = positionAfter i (step p b .position) b
 
 -- line i of the listing of some bytes; empty behind the line of the end state
 unfoldable pub lineAt : ℕ → List ℕ → List ℕ
-lineAt i b = step (positionAfter i (startOf b) b) b .text
+lineAt i b = step (positionAfter i (startOf plain b) b) b .text

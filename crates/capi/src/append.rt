@@ -1,6 +1,7 @@
 // Append and the call with a budget, an append cut after so many bytes, each with its answer in three words.
 // `v` is the slice, `len` the journal's length in it.
 ghost use mathlib.Core.Path.{_≡_};
+ghost use Rattle.journal_spec.specs.Profile.{plain};
 ghost use Rattle.journal_spec.specs.Request.{all, upTo};
 ghost use Rattle.journal_spec.specs.Request as Request;
 ghost use Rattle.journal_spec.specs.Append.{appendOf};
@@ -20,11 +21,11 @@ pub extern "C" fn journal_append(
 )
     ensures { λ r. ⌜ now (v .exit)
         ≡ appendOf (record { slice = now (v .entry); len = len })
-        (record { day = day; name = now (name .entry); chances = now (chances .entry); source = Request.times (now (times .entry)); budget = all })
+        (record { day = day; name = now (name .entry); chances = now (chances .entry); source = Request.times (now (times .entry)); budget = all; rule = plain })
         .journal .slice ⌝ }
     ensures { λ r. ⌜ now (out .exit) ≡ appendWords
         (appendOf (record { slice = now (v .entry); len = len })
-        (record { day = day; name = now (name .entry); chances = now (chances .entry); source = Request.times (now (times .entry)); budget = all })
+        (record { day = day; name = now (name .entry); chances = now (chances .entry); source = Request.times (now (times .entry)); budget = all; rule = plain })
         .answer) ⌝ }
 {
     let a = journal::append(v, len, day, name, chances, times);
@@ -44,11 +45,11 @@ pub extern "C" fn journal_append_upto(
 )
     ensures { λ r. ⌜ now (v .exit)
         ≡ appendOf (record { slice = now (v .entry); len = len })
-        (record { day = day; name = now (name .entry); chances = now (chances .entry); source = Request.times (now (times .entry)); budget = upTo budget })
+        (record { day = day; name = now (name .entry); chances = now (chances .entry); source = Request.times (now (times .entry)); budget = upTo budget; rule = plain })
         .journal .slice ⌝ }
     ensures { λ r. ⌜ now (out .exit) ≡ appendWords
         (appendOf (record { slice = now (v .entry); len = len })
-        (record { day = day; name = now (name .entry); chances = now (chances .entry); source = Request.times (now (times .entry)); budget = upTo budget })
+        (record { day = day; name = now (name .entry); chances = now (chances .entry); source = Request.times (now (times .entry)); budget = upTo budget; rule = plain })
         .answer) ⌝ }
 {
     let a = journal::append_upto(v, len, day, name, chances, times, budget);

@@ -2,6 +2,7 @@
 // a slice is a pointer and a length, and an answer of several words goes into an array that the caller lends.
 pub mod append;
 pub mod append_log;
+pub mod append_with;
 pub mod bands;
 pub mod journals;
 pub mod limits;

@@ -4,6 +4,7 @@ ghost use mathlib.Core.Path.{_≡_};
 ghost use Rattle.hex.specs.Text.{Put};
 ghost use Rattle.listing.specs.Lines.{positionOf, step};
 ghost use Rattle.capi.specs.Line.{lineAt};
+use journal::Rule;
 use listing::Cursor;
 
 // Writes line i, counted from 0, as much of it as there is room for, and answers how many bytes that is: 0 where there is no such line.
@@ -20,7 +21,7 @@ pub extern "C" fn journal_line(v: &[u8], i: usize, out: &mut [u8]) -> usize
 fn cursor_before(v: &[u8], i: usize) -> Cursor
     ensures { λ r. ⌜ step (positionOf r) (now (v .entry)) .text ≡ lineAt i (now (v .entry)) ⌝ }
 {
-    let mut cursor = listing::start(v);
+    let mut cursor = listing::start(v, Rule::Plain);
     let mut left = i;
     while left > 0 {
         if cursor.ended {

@@ -9,11 +9,12 @@ use lib.ListN.{length, take}
 use lib.Dec.{eqb}
 use Rattle.journal_spec.specs.Refusals.{lengthRefusal, absentRefusal}
 use Rattle.journal_spec.specs.Record.{Last, lastOf}
+use Rattle.journal_spec.specs.Profile.{Rule}
 use Rattle.journal_spec.specs.Scan.{maxLength, Placed, recordsOf, standing, faulty, contentsOf, whole, torn, damaged, statusOf, scanOf}
 use Rattle.journal_spec.specs.Scan as Scan
 use Rattle.journal_spec.specs.Read.{noPart, partAt, partOf, partPlace, marked, unmarked, markFrom, markOf, markAt, markIn, readMark}
 use Rattle.journal_spec.specs.Log.{gathered}
-use Rattle.journal_spec.specs.Request.{Request, timesOf, offerOf, Outcome}
+use Rattle.journal_spec.specs.Request.{Request, timesOf, Outcome}
 use Rattle.journal_spec.specs.Append.{unchanged, appendTo, appendOf}
 use Rattle.journal_spec.proofs.Scanning.{contents-long}
 use Rattle.journal_spec.proofs.Logs.{append-read}
@@ -30,15 +31,15 @@ use Rattle.journal.specs.Answers.{appendMeaning, lengthAfter, outcomeOf}
 
 -- ---- the length
 
-pub contents-beyond : (v : List ℕ) (len i : ℕ) → min (length v) maxLength < len
-    → C.Damaged (record { number = lengthRefusal; place = 0 }) ≡ contentsRead i (contentsOf v len)
+pub contents-beyond : (rule : Rule) (v : List ℕ) (len i : ℕ) → min (length v) maxLength < len
+    → C.Damaged (record { number = lengthRefusal; place = 0 }) ≡ contentsRead i (contentsOf rule v len)
 unfolding contentsRead
-contents-beyond v len i h = rw (contents-long v len h)
+contents-beyond rule v len i h = rw (contents-long rule v len h)
 
-pub contents-within : (v : List ℕ) (len i : ℕ) → len ≤ length v → len ≤ maxLength
-    → recordsRead i (take len v) ≡ contentsRead i (contentsOf v len)
+pub contents-within : (rule : Rule) (v : List ℕ) (len i : ℕ) → len ≤ length v → len ≤ maxLength
+    → recordsRead i rule (take len v) ≡ contentsRead i (contentsOf rule v len)
 unfolding recordsRead
-contents-within v len i h k = ap (contentsRead i) (sym (contents-part v len h k))
+contents-within rule v len i h k = ap (contentsRead i) (sym (contents-part rule v len h k))
 
 -- ---- the answer, taken back
 
@@ -98,55 +99,55 @@ last-kept : (l : Last) → asLast (headOf l) ≡ l
 unfolding asLast headOf
 last-kept l = refl
 
-module _ (v : List ℕ) (len i : ℕ) (x : Contents) (read : x ≡ contentsRead i (contentsOf v len)) where
+module _ (rule : Rule) (v : List ℕ) (len i : ℕ) (x : Contents) (read : x ≡ contentsRead i (contentsOf rule v len)) where
   module _ (records committed : ℕ) (last : Head) (shown : Shown) (told : x ≡ C.Stands records committed last shown) where
-    stood : Stood (contentsOf v len) i records committed last shown
-    stood = stands-stood (contentsOf v len) i records committed last shown (sym told ∙ read)
+    stood : Stood (contentsOf rule v len) i records committed last shown
+    stood = stands-stood (contentsOf rule v len) i records committed last shown (sym told ∙ read)
 
-    pub scan-stands : cond (eqb committed len) (whole records committed) (torn records committed) ≡ scanOf v len
+    pub scan-stands : cond (eqb committed len) (whole records committed) (torn records committed) ≡ scanOf rule v len
     unfolding scanOf
     scan-stands = scan-placed (stood .ps) records committed len (stood .count) ∙ ap (statusOf len) (sym (stood .is))
 
-    pub part-stands : record { start = shown .start; size = shown .size } ≡ partPlace v len i
+    pub part-stands : record { start = shown .start; size = shown .size } ≡ partPlace rule v len i
     unfolding partPlace partOf
     part-stands = part-placed (stood .ps) i shown (stood .seen) ∙ ap (λ k. partOf k i) (sym (stood .is))
 
-    pub mark-stands : i < records → marked (markFrom (shown .flat) (shown .times)) ≡ readMark v len i
+    pub mark-stands : i < records → marked (markFrom (shown .flat) (shown .times)) ≡ readMark rule v len i
     unfolding readMark markIn
     mark-stands h =
         mark-placed (stood .ps) i shown (stood .seen) (omega (arith, stood .count)) ∙ ap (λ k. markIn k i) (sym (stood .is))
 
-    pub mark-absent : records ≤ i → unmarked absentRefusal ≡ readMark v len i
+    pub mark-absent : records ≤ i → unmarked absentRefusal ≡ readMark rule v len i
     unfolding readMark markIn
     mark-absent h = sym (mark-beyond (stood .ps) i (omega (arith, stood .count))) ∙ ap (λ k. markIn k i) (sym (stood .is))
 
     -- what becomes of a request whose times are read goes on from what stands
-    pub append-stands : (q : Request) (ts : List ℕ) → timesOf q ≡ gathered ts → (out : Outcome)
+    pub append-stands : (q : Request) (ts : List ℕ) → q .rule ≡ rule → timesOf q ≡ gathered ts → (out : Outcome)
         → ((ps : List Placed) → asLast last ≡ lastOf (recordsOf ps)
-        → out ≡ appendTo (standing ps committed) (record { slice = v; len = len }) (offerOf q) (q .budget))
+        → out ≡ appendTo (standing ps committed) (record { slice = v; len = len }) q)
         → out ≡ appendOf (record { slice = v; len = len }) q
-    append-stands q ts e out h =
+    append-stands q ts by e out h =
         h (stood .ps) (ap asLast (stood .ends) ∙ last-kept (lastOf (recordsOf (stood .ps))))
-        ∙ ap (λ k. appendTo k (record { slice = v; len = len }) (offerOf q) (q .budget)) (sym (stood .is))
+        ∙ ap (λ k. appendTo k (record { slice = v; len = len }) q) (sym (rw by (stood .is)))
         ∙ append-read (record { slice = v; len = len }) q ts e
 
   module _ (f : Fault) (told : x ≡ C.Damaged f) where
-    is : contentsOf v len ≡ faulty (f .number) (f .place)
-    is = damaged-faulty (contentsOf v len) i f (sym told ∙ read)
+    is : contentsOf rule v len ≡ faulty (f .number) (f .place)
+    is = damaged-faulty (contentsOf rule v len) i f (sym told ∙ read)
 
-    pub scan-damaged : damaged (f .number) (f .place) ≡ scanOf v len
+    pub scan-damaged : damaged (f .number) (f .place) ≡ scanOf rule v len
     unfolding scanOf statusOf
     scan-damaged = rw is
 
-    pub part-damaged : noPart ≡ partPlace v len i
+    pub part-damaged : noPart ≡ partPlace rule v len i
     unfolding partPlace partOf
     part-damaged = rw is
 
-    pub mark-damaged : unmarked (f .number) ≡ readMark v len i
+    pub mark-damaged : unmarked (f .number) ≡ readMark rule v len i
     unfolding readMark markIn
     mark-damaged = rw is
 
-    pub append-damaged : (q : Request) (ts : List ℕ) → timesOf q ≡ gathered ts
+    pub append-damaged : (q : Request) (ts : List ℕ) → q .rule ≡ rule → timesOf q ≡ gathered ts
         → outcomeOf len (A.Damaged f) v ≡ appendOf (record { slice = v; len = len }) q
     unfolding appendTo outcomeOf appendMeaning lengthAfter unchanged
-    append-damaged q ts e = rw (← append-read (record { slice = v; len = len }) q ts e, is)
+    append-damaged q ts by e = rw (← append-read (record { slice = v; len = len }) q ts e, by, is)

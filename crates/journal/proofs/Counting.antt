@@ -8,18 +8,20 @@ use native.Mathlib.Omega.{arith}
 use lib.ListN.{length, drop, length-append}
 use lib.Dec.{eqb}
 use borrow.Author.Tests.{eqb-true, eqb-false}
-use Rattle.journal_spec.specs.Reader.{Found, found, fault, short, run}
-use Rattle.journal_spec.specs.Record.{Record, lastOf, recordReader}
-use Rattle.journal_spec.specs.Scan.{Placed, recordsOf}
+use Rattle.journal_spec.specs.Reader.{Found, found, fault, short}
+use Rattle.journal_spec.specs.Record.{Record, lastOf}
+use Rattle.journal_spec.specs.Scan.{Placed, recordsOf, recordAt}
 use Rattle.journal_spec.proofs.RecordsLoop.{Going, going-start, going-short, going-fault, going-found, last-placed}
 use Rattle.journal.specs.declared.Fault.{Fault}
+use Rattle.journal.specs.declared.profile.Rule.{Rule}
 use Rattle.journal.specs.declared.record.Head.{Head}
 use Rattle.journal.specs.declared.record.Entry.{Entry}
 use Rattle.journal.specs.declared.record.RecordRead.{RecordRead}
 use Rattle.journal.specs.declared.record.RecordRead.the-variants as R
 use Rattle.journal.specs.declared.contents.Shown.{Shown}
 use Rattle.journal.specs.declared.contents.Contents.the-variants as C
-use Rattle.journal.specs.Records.{asLast, entryOf, recordRead, recordAt}
+use Rattle.journal.specs.Handed.{asRule}
+use Rattle.journal.specs.Records.{asLast, entryOf, recordRead, recordBy}
 use Rattle.journal.specs.Contents.{headOf, shownOf, noneShown, shownAt, shownNext, contentsRead, recordsRead}
 
 -- ---- the record's answer, taken back
@@ -76,49 +78,49 @@ shown-by ps r at next i false e = sym (shown-other ps (record { content = r; sta
 -- ---- the loop
 
 -- the pass has read the records ps, which take the bytes up to the place `at`
-pub record Counting (b : List ℕ) (i records at : ℕ) (last : Head) (shown : Shown) : Type 0 where
+pub record Counting (rule : Rule) (b : List ℕ) (i records at : ℕ) (last : Head) (shown : Shown) : Type 0 where
   pub ps : List Placed
-  pub going : Going b ps at
+  pub going : Going (asRule rule) b ps at
   pub count : records ≡ length ps
   pub head : last ≡ headOf (lastOf (recordsOf ps))
   pub seen : shown ≡ shownAt ps i
 
-pub counting-start : (b : List ℕ) (i : ℕ)
-    → Counting b i 0 0 (record { form = 0; day = 0 }) (record { start = 0; size = 0; flat = false; times = 0 })
+pub counting-start : (rule : Rule) (b : List ℕ) (i : ℕ)
+    → Counting rule b i 0 0 (record { form = 0; day = 0 }) (record { start = 0; size = 0; flat = false; times = 0 })
 unfolding headOf lastOf recordsOf shownAt noneShown
-counting-start b i = record { ps = []; going = going-start b; count = refl; head = refl; seen = refl }
+counting-start rule b i = record { ps = []; going = going-start (asRule rule) b; count = refl; head = refl; seen = refl }
 
 -- after one record more
-pub record Counted (b : List ℕ) (i records at : ℕ) (shown : Shown) (e : Entry) : Type 0 where
+pub record Counted (rule : Rule) (b : List ℕ) (i records at : ℕ) (shown : Shown) (e : Entry) : Type 0 where
   pub later : at < e .next
   pub there : e .next ≤ length b
-  pub counting : Counting b i (records + 1) (e .next) (record { form = e .form; day = e .day }) (shownNext shown (eqb records i) at e)
+  pub counting : Counting rule b i (records + 1) (e .next) (record { form = e .form; day = e .day }) (shownNext shown (eqb records i) at e)
 
-module _ (b : List ℕ) (i records at : ℕ) (last : Head) (shown : Shown) (g : Counting b i records at last shown)
-    (x : RecordRead) (read : x ≡ recordAt last at b) where
-  ran : x ≡ recordRead (run (recordReader (lastOf (recordsOf (g .ps)))) at (drop at b))
-  unfolding recordAt asLast headOf
-  ran = read ∙ ap (λ (h : Head). recordRead (run (recordReader (asLast h)) at (drop at b))) (g .head)
+module _ (rule : Rule) (b : List ℕ) (i records at : ℕ) (last : Head) (shown : Shown) (g : Counting rule b i records at last shown)
+    (x : RecordRead) (read : x ≡ recordBy rule last at b) where
+  ran : x ≡ recordRead (recordAt (asRule rule) (lastOf (recordsOf (g .ps))) at (drop at b))
+  unfolding recordBy asLast headOf
+  ran = read ∙ ap (λ (h : Head). recordRead (recordAt (asRule rule) (asLast h) at (drop at b))) (g .head)
 
-  pub counting-short : x ≡ R.Short → C.Stands records at last shown ≡ recordsRead i b
+  pub counting-short : x ≡ R.Short → C.Stands records at last shown ≡ recordsRead i (asRule rule) b
   unfolding recordsRead contentsRead
   counting-short told =
-      let e = going-short b (g .ps) at (g .going) (short-found (run (recordReader (lastOf (recordsOf (g .ps)))) at (drop at b)) (sym told ∙ ran)) in
+      let e = going-short (asRule rule) b (g .ps) at (g .going) (short-found (recordAt (asRule rule) (lastOf (recordsOf (g .ps))) at (drop at b)) (sym told ∙ ran)) in
       rw (e, g .count, g .head, g .seen)
 
-  pub counting-refused : (f : Fault) → x ≡ R.Refused f → C.Damaged f ≡ recordsRead i b
+  pub counting-refused : (f : Fault) → x ≡ R.Refused f → C.Damaged f ≡ recordsRead i (asRule rule) b
   unfolding recordsRead contentsRead
   counting-refused f told =
-      let e = going-fault b (g .ps) at (g .going) (f .number) (f .place)
-      (refused-found (run (recordReader (lastOf (recordsOf (g .ps)))) at (drop at b)) f (sym told ∙ ran)) in
+      let e = going-fault (asRule rule) b (g .ps) at (g .going) (f .number) (f .place)
+      (refused-found (recordAt (asRule rule) (lastOf (recordsOf (g .ps))) at (drop at b)) f (sym told ∙ ran)) in
       rw e
 
   -- a record of this content and place after it
   counted-record : (r : Record) (next : ℕ) (rest : List ℕ)
-      → run (recordReader (lastOf (recordsOf (g .ps)))) at (drop at b) ≡ found r next rest → Counted b i records at shown (entryOf r next)
+      → recordAt (asRule rule) (lastOf (recordsOf (g .ps))) at (drop at b) ≡ found r next rest → Counted rule b i records at shown (entryOf r next)
   unfolding entryOf headOf
   counted-record r next rest h =
-      let f = going-found b (g .ps) at (g .going) r next rest h in
+      let f = going-found (asRule rule) b (g .ps) at (g .going) r next rest h in
       let p : Placed = record { content = r; start = at; size = next - at } in
       record {
         later = f .later;
@@ -132,7 +134,7 @@ module _ (b : List ℕ) (i records at : ℕ) (last : Head) (shown : Shown) (g : 
         };
       }
 
-  pub counting-more : (e : Entry) → x ≡ R.Read e → Counted b i records at shown e
+  pub counting-more : (e : Entry) → x ≡ R.Read e → Counted rule b i records at shown e
   counting-more e told =
-      let f = read-found (run (recordReader (lastOf (recordsOf (g .ps)))) at (drop at b)) e (sym told ∙ ran) in
+      let f = read-found (recordAt (asRule rule) (lastOf (recordsOf (g .ps))) at (drop at b)) e (sym told ∙ ran) in
       rw (f .entry) (counted-record (f .content) (f .next) (f .rest) (f .ran))

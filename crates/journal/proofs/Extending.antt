@@ -12,8 +12,8 @@ use borrow.Author.Tests.{not-true, not-false, leb-true}
 use Rattle.journal_spec.specs.Refusals.{roomRefusal, firstOf}
 use Rattle.journal_spec.specs.Record.{Record, Last, lastOf, recordBytes}
 use Rattle.journal_spec.specs.Scan.{maxLength, Placed, recordsOf, standing}
-use Rattle.journal_spec.specs.Request.{Journal, Budget, Offer, allowed}
-use Rattle.journal_spec.specs.Append.{limitsOf, offered, judgeRoom, appendRefusal, written, unchanged, extend, settle, appendTo}
+use Rattle.journal_spec.specs.Request.{Journal, Budget, Request, Offer, offerOf, allowed}
+use Rattle.journal_spec.specs.Append.{limitsOf, offered, judgeRoom, appendRefusals, written, unchanged, extend, settle, appendTo}
 use Rattle.journal_spec.proofs.Judging.{unless-true, unless-false}
 use Rattle.journal_spec.proofs.Reading.{by-order}
 use Rattle.journal_spec.proofs.Writing.{written-lent}
@@ -88,28 +88,31 @@ offered-record day name chances times limits e = rw e refl
 
 -- ---- append to what stands
 
-module _ (last : Last) (committed : ℕ) (o : Offer) (b : Budget) (j : Journal) (ps : List Placed) (is : last ≡ lastOf (recordsOf ps)) where
+module _ (last : Last) (committed : ℕ) (q : Request) (j : Journal) (ps : List Placed) (is : last ≡ lastOf (recordsOf ps)) where
+  abbrev o : Offer
+  o = offerOf q
+
   -- the rows of append's refusals: those of the offer, then the room
-  refusals : appendRefusal (length (j .slice)) (lastOf (recordsOf ps)) committed o
-      ≡ firstOf (offerRefusals last o ++ judgeRoom (length (j .slice)) committed (length (recordBytes (offered o))) ∷ [])
-  unfolding appendRefusal offerRefusals
+  refusals : firstOf (appendRefusals (length (j .slice)) ps committed q)
+      ≡ firstOf (offerRefusals (q .rule) last o ++ judgeRoom (length (j .slice)) committed (length (recordBytes (offered o))) ∷ [])
+  unfolding appendRefusals offerRefusals
   refusals = rw is refl
 
   -- declined by the check that needs no room
-  pub offer-declined : (r : ℕ) → 0 < r → r ≡ firstOf (offerRefusals last o)
-      → outcomeOf (j .len) (A.Declined r) (j .slice) ≡ appendTo (standing ps committed) j o b
+  pub offer-declined : (r : ℕ) → 0 < r → r ≡ firstOf (offerRefusals (q .rule) last o)
+      → outcomeOf (j .len) (A.Declined r) (j .slice) ≡ appendTo (standing ps committed) j q
   unfolding appendTo
-  offer-declined r h e = settled-refused _ r j committed _ h (first-front r (offerRefusals last o) _ h e ∙ sym refusals)
+  offer-declined r h e = settled-refused _ r j committed _ h (first-front r (offerRefusals (q .rule) last o) _ h e ∙ sym refusals)
 
   -- else the room decides
-  pub offer-settled : (r : Record) → firstOf (offerRefusals last o) ≡ 0 → r ≡ offered o
+  pub offer-settled : (r : Record) → firstOf (offerRefusals (q .rule) last o) ≡ 0 → r ≡ offered o
       → settle (judgeRoom (length (j .slice)) committed (length (recordBytes r))) j committed
-      (take (allowed b (length (recordBytes r))) (recordBytes r))
-      ≡ appendTo (standing ps committed) j o b
+      (take (allowed (q .budget) (length (recordBytes r))) (recordBytes r))
+      ≡ appendTo (standing ps committed) j q
   unfolding appendTo
   offer-settled r z e =
       ap (λ (x : Record).
-      settle (judgeRoom (length (j .slice)) committed (length (recordBytes x))) j committed (take (allowed b (length (recordBytes x))) (recordBytes x)))
+      settle (judgeRoom (length (j .slice)) committed (length (recordBytes x))) j committed (take (allowed (q .budget) (length (recordBytes x))) (recordBytes x)))
       e
-      ∙ ap (λ (n : ℕ). settle n j committed (take (allowed b (length (recordBytes (offered o)))) (recordBytes (offered o))))
-      (sym (refusals ∙ first-back (offerRefusals last o) _ z ∙ first-alone _))
+      ∙ ap (λ (n : ℕ). settle n j committed (take (allowed (q .budget) (length (recordBytes (offered o)))) (recordBytes (offered o))))
+      (sym (refusals ∙ first-back (offerRefusals (q .rule) last o) _ z ∙ first-alone _))

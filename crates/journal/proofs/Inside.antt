@@ -6,12 +6,13 @@ use mathlib.Core.List.{List, [], _∷_, _++_}
 use native.Mathlib.Omega.{arith}
 use native.Mathlib.Nat.{add-sub-cancel-left}
 use lib.ListN.{length, take, drop, length-take, length-drop, length-append}
-use Rattle.journal_spec.specs.Reader.{Found, found, fault, short, run}
+use Rattle.journal_spec.specs.Reader.{Found, found, fault, short}
 use Rattle.journal_spec.specs.Record.{Record, lastOf, recordReader}
-use Rattle.journal_spec.specs.Scan.{maxLength, Placed, recordsOf, Contents, standing, faulty, contentsFrom, contentsOf}
+use Rattle.journal_spec.specs.Profile.{Rule}
+use Rattle.journal_spec.specs.Scan.{maxLength, Placed, recordsOf, Contents, standing, faulty, recordAt, contentsFrom, contentsOf}
 use Rattle.journal_spec.specs.Read.{noPart, partAt, partOf, partPlace, partBytes, readPart}
 use Rattle.journal_spec.proofs.Reading.{by-order, run-left}
-use Rattle.journal_spec.proofs.Scanning.{turn-short, turn-fault, turn-found, contents-fits, contents-long}
+use Rattle.journal_spec.proofs.Scanning.{found-at, turn-short, turn-fault, turn-found, contents-fits, contents-long}
 use Rattle.journal_spec.proofs.RecordsLoop.{part-before, part-this, part-beyond}
 use Rattle.journal.specs.declared.Part.{Part}
 use Rattle.journal.specs.Answers.{partMeaning}
@@ -48,45 +49,45 @@ unfolding partOf noPart
 faulty-inside k n p end i e = rw e (omega arith)
 
 -- one turn: a record more, with what follows it inside, or the end
-turn-inside : (more : ℕ) (ps : List Placed) (at : ℕ) (bs : List ℕ) (end i : ℕ) → Inside ps at → at + length bs ≤ end
+turn-inside : (rule : Rule) (more : ℕ) (ps : List Placed) (at : ℕ) (bs : List ℕ) (end i : ℕ) → Inside ps at → at + length bs ≤ end
     → ((qs : List Placed) (next : ℕ) (rest : List ℕ) → Inside qs next → next + length rest ≤ end
-    → endOf (contentsFrom more qs next rest) i ≤ end)
-    → (f : Found Record) → run (recordReader (lastOf (recordsOf ps))) at bs ≡ f → endOf (contentsFrom (suc more) ps at bs) i ≤ end
-turn-inside more ps at bs end i g h again (found r next rest) e =
-    let l = run-left (recordReader (lastOf (recordsOf ps))) at bs r next rest e in
+    → endOf (contentsFrom rule more qs next rest) i ≤ end)
+    → (f : Found Record) → recordAt rule (lastOf (recordsOf ps)) at bs ≡ f → endOf (contentsFrom rule (suc more) ps at bs) i ≤ end
+turn-inside rule more ps at bs end i g h again (found r next rest) e =
+    let l = run-left (recordReader (lastOf (recordsOf ps))) at bs r next rest (found-at rule (lastOf (recordsOf ps)) at bs r next rest e .0) in
     let p : Placed = record { content = r; start = at; size = next - at } in
     let place : at + (next - at) ≡ next = omega (arith, l .later) in
     let left : length rest ≡ length bs - (next - at) = ap length (l .same) ∙ length-drop (next - at) bs in
     let n : suc more - 1 ≡ more = omega arith in
-    rw (turn-found (suc more) ps at bs r next rest e (omega arith), n)
+    rw (turn-found rule (suc more) ps at bs r next rest e (omega arith), n)
     (again (ps ++ p ∷ []) next rest (rw place at (inside-more ps p at g (omega arith))) (omega (arith, l .later, l .there)))
-turn-inside more ps at bs end i g h again (fault n p) e = faulty-inside _ n p end i (turn-fault (suc more) ps at bs n p e (omega arith))
-turn-inside more ps at bs end i g h again short e = standing-inside _ ps at end i (turn-short (suc more) ps at bs e) g (omega arith)
+turn-inside rule more ps at bs end i g h again (fault n p) e = faulty-inside _ n p end i (turn-fault rule (suc more) ps at bs n p e (omega arith))
+turn-inside rule more ps at bs end i g h again short e = standing-inside _ ps at end i (turn-short rule (suc more) ps at bs e) g (omega arith)
 
 -- the records of some bytes after others that end where the bytes start
-contents-inside : (more : ℕ) (ps : List Placed) (at : ℕ) (bs : List ℕ) (end i : ℕ) → Inside ps at → at + length bs ≤ end
-    → endOf (contentsFrom more ps at bs) i ≤ end
-contents-inside zero ps at bs end i g h =
-    standing-inside (contentsFrom zero ps at bs) ps at end i (unfold contentsFrom in refl) g (omega arith)
-contents-inside (suc more) ps at bs end i g h =
-    turn-inside more ps at bs end i g h (λ qs next rest. contents-inside more qs next rest end i) _ refl
+contents-inside : (rule : Rule) (more : ℕ) (ps : List Placed) (at : ℕ) (bs : List ℕ) (end i : ℕ) → Inside ps at → at + length bs ≤ end
+    → endOf (contentsFrom rule more ps at bs) i ≤ end
+contents-inside rule zero ps at bs end i g h =
+    standing-inside (contentsFrom rule zero ps at bs) ps at end i (unfold contentsFrom in refl) g (omega arith)
+contents-inside rule (suc more) ps at bs end i g h =
+    turn-inside rule more ps at bs end i g h (λ qs next rest. contents-inside rule more qs next rest end i) _ refl
 
-pub part-inside : (slice : List ℕ) (len i : ℕ) → partPlace slice len i .start + partPlace slice len i .size ≤ length slice
+pub part-inside : (rule : Rule) (slice : List ℕ) (len i : ℕ) → partPlace rule slice len i .start + partPlace rule slice len i .size ≤ length slice
 unfolding partPlace
-part-inside slice len i =
+part-inside rule slice len i =
     by-order len (min (length slice) maxLength)
-    (λ h. rw (contents-fits slice len (omega arith) (omega arith))
-    (contents-inside len [] 0 (take len slice) (length slice) i inside-none (rw length-take (omega arith))))
-    (λ h. faulty-inside (contentsOf slice len) 1 0 (length slice) i (contents-long slice len h))
+    (λ h. rw (contents-fits rule slice len (omega arith) (omega arith))
+    (contents-inside rule len [] 0 (take len slice) (length slice) i inside-none (rw length-take (omega arith))))
+    (λ h. faulty-inside (contentsOf rule slice len) 1 0 (length slice) i (contents-long rule slice len h))
 
 -- ---- the part as the code holds it
 
-module _ (v : List ℕ) (len i : ℕ) (p : Part) (is : partMeaning p ≡ partPlace v len i) where
+module _ (rule : Rule) (v : List ℕ) (len i : ℕ) (p : Part) (is : partMeaning p ≡ partPlace rule v len i) where
   pub place-inside : p .start + p .size ≤ length v
   unfolding partMeaning
-  place-inside = rw (← is) at (part-inside v len i)
+  place-inside = rw (← is) at (part-inside rule v len i)
 
   -- its bytes, from its first place to the place after it
-  pub read-part : take (p .start + p .size - p .start) (drop (p .start) v) ≡ readPart v len i
+  pub read-part : take (p .start + p .size - p .start) (drop (p .start) v) ≡ readPart rule v len i
   unfolding readPart partBytes partMeaning
   read-part = rw (← is) (ap (λ (n : ℕ). take n (drop (p .start) v)) (add-sub-cancel-left (p .start) (p .size)))

@@ -18,6 +18,7 @@ pub mod Heads
 pub mod Equal
 -- the pass over the records, and the answers
 pub mod Counting
+pub mod InProfile
 pub mod Inside
 pub mod Answering
 -- writing

@@ -3,12 +3,13 @@
 use mathlib.Core.Path.{_≡_, refl, sym, ap, ap₂, _∙_}
 use Prim.Native.Nat.{ℕ, _+_, _*_, _-_, _<_}
 use mathlib.Core.List.{List, []}
-use mathlib.Core.Bool.{true}
+use mathlib.Core.Bool.{Bool, true, _&&_}
 use native.Mathlib.Omega.{arith}
 use lib.ListN.{length, drop, getD}
-use lib.Dec.{eqb}
+use lib.Dec.{leb, eqb}
 use borrow.Author.Tests.{eqb-true}
 use Rattle.limit.specs.declared.sums.Sums.{Sums}
+use Rattle.limit.specs.Formula.{sampleForm}
 use Rattle.limit.specs.Times.{timesInRange}
 use Rattle.limit.specs.Sums.{sumsOf}
 use Rattle.limit.specs.Limit.{limitOf, limitOfSums}
@@ -17,6 +18,8 @@ use Rattle.journal_spec.specs.Refusals.{limitRefusal, unless}
 use Rattle.journal_spec.specs.Reader.{Reader, field, Found, found, fault, short, run}
 use Rattle.journal_spec.specs.Section.{items, section}
 use Rattle.journal_spec.specs.Record.{limitSection, judgeLimit}
+use Rattle.journal_spec.specs.Tests.{same}
+use Rattle.journal_spec.specs.Profile.{profileChances, profileTimes, inProfile}
 use Rattle.journal_spec.specs.Stages.{limitStage}
 use Rattle.journal_spec.proofs.Judging.{unless-none}
 use Rattle.journal_spec.proofs.Reading.{after, run-then}
@@ -118,11 +121,12 @@ module _ (b : List ℕ) (chances n form : ℕ) (sums : Sums) (list times : List 
           ∙ ap (after _) (refused-found (run (section (limitSection form list times)) at (drop at b)) f (sym told ∙ ran))))
 
       pub limits-part-read : (next : ℕ) → x ≡ L.Next next
-          → R.Read (record { next = next; form = form; day = day; flat = eqb (sums .count * sums .squares) (sums .sum * sums .sum); times = sums .count })
+          → (here : Bool) → here ≡ eqb form sampleForm && same list profileChances && leb profileTimes (sums .count)
+          → R.Read (record { next = next; form = form; day = day; flat = eqb (sums .count * sums .squares) (sums .sum * sums .sum); times = sums .count; in_profile = here })
           ≡ recordRead (run (limitStage form day name list times) at (drop at b))
-      unfolding limitStage after recordRead entryOf run sumsOf
-      limits-part-read next told =
+      unfolding limitStage after recordRead entryOf inProfile run sumsOf
+      limits-part-read next told here is =
           let f = next-found (run (section (limitSection form list times)) at (drop at b)) next (sym told ∙ ran) in
-          rw (total, flat-exactly times)
+          rw (is, total, flat-exactly times)
           (ap recordRead
           (sym (run-then (section (limitSection form list times)) _ at (drop at b) ∙ ap (after _) (f .ran))))

@@ -20,7 +20,7 @@ use Rattle.journal_spec.proofs.Judging.{outside-none}
 use Rattle.journal_spec.proofs.Reading.{field-found, after, run-then}
 use Rattle.journal_spec.proofs.SectionAt.{SectionAt, section-at}
 use Rattle.journal.specs.declared.Fault.{Fault}
-use Rattle.journal.specs.declared.section.Rule.{Rule}
+use Rattle.journal.specs.declared.section.SectionRule.{SectionRule}
 use Rattle.journal.specs.declared.section.SectionRead.{SectionRead}
 use Rattle.journal.specs.declared.section.SectionRead.the-variants as S
 use Rattle.journal.specs.Rules.{ruled}
@@ -60,7 +60,7 @@ refused-found short x h = let z : _≡_ {A = ℕ} 0 1 = cc in absurd (omega arit
 
 -- ---- what follows a section
 
-module _ {B : Type 0} (k : List ℕ → Reader B) (s : Section) (r : Rule) (same : ruled r ≡ s) (at : ℕ) (b : List ℕ)
+module _ {B : Type 0} (k : List ℕ → Reader B) (s : Section) (r : SectionRule) (same : ruled r ≡ s) (at : ℕ) (b : List ℕ)
     (x : SectionRead) (read : x ≡ sectionAt r at b) where
   ran : x ≡ sectionRead (run (section s) at (drop at b))
   unfolding sectionAt

@@ -16,7 +16,7 @@ use Rattle.journal_spec.specs.Record.{nameSection, chanceSection, timeSection}
 use Rattle.journal.specs.declared.Fault.{Fault}
 use Rattle.journal.specs.declared.field.FieldRead.{FieldRead}
 use Rattle.journal.specs.declared.field.FieldRead.the-variants as F
-use Rattle.journal.specs.declared.section.Rule.{Rule}
+use Rattle.journal.specs.declared.section.SectionRule.{SectionRule}
 use Rattle.journal.specs.declared.section.SectionRead.the-variants as S
 use Rattle.journal.specs.Rules.{leastNext, leastAfter, itemRefusal, ruled, nameRule, chanceRule, timeRule}
 use Rattle.journal.specs.Found.{fieldAt, sectionRead, numbersAt, sectionAt}
@@ -25,7 +25,7 @@ use Rattle.journal.proofs.Fields.{afterField, by-field}
 
 -- ---- by the count
 
-module _ (r : Rule) (at : ℕ) (b : List ℕ) (f : FieldRead) (read : f ≡ fieldAt 2 (r .least) (r .most) (r .refusal) at b) where
+module _ (r : SectionRule) (at : ℕ) (b : List ℕ) (f : FieldRead) (read : f ≡ fieldAt 2 (r .least) (r .most) (r .refusal) at b) where
   -- what the section's reader finds, by the answer of its count
   by-count : run (section (ruled r)) at (drop at b)
       ≡ afterField (λ n. items (r .width) (itemRefusal (r .rising) (r .low) (r .high) (r .refusal)) n []) 2 at b f

@@ -5,6 +5,7 @@ use mathlib.Core.List.{List, [], _∷_}
 use mathlib.Core.Bool.{Bool, false, cond}
 use lib.ListN.{length}
 use Rattle.journal_spec.specs.Record.{Last, lastOf}
+use Rattle.journal_spec.specs.Profile.{Rule}
 use Rattle.journal_spec.specs.Scan.{Placed, recordsOf, standing, faulty, contentsFrom}
 use Rattle.journal_spec.specs.Scan as Scan
 use Rattle.journal_spec.specs.Read.{areEqual}
@@ -47,6 +48,6 @@ unfoldable pub contentsRead : ℕ → Scan.Contents → Contents
 contentsRead i (standing ps committed) = C.Stands (length ps) committed (headOf (lastOf (recordsOf ps))) (shownAt ps i)
 contentsRead i (faulty n p) = C.Damaged (record { number = n; place = p })
 
--- the answer for a journal that takes all of its bytes
-unfoldable pub recordsRead : ℕ → List ℕ → Contents
-recordsRead i b = contentsRead i (contentsFrom (length b) [] 0 b)
+-- the answer for a journal that takes all of its bytes, by a rule
+unfoldable pub recordsRead : ℕ → Rule → List ℕ → Contents
+recordsRead i rule b = contentsRead i (contentsFrom rule (length b) [] 0 b)

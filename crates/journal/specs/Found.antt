@@ -13,7 +13,7 @@ use Rattle.journal_spec.specs.Reader.{Found, done, field, found, fault, short, 
 use Rattle.journal_spec.specs.Section.{Section, section, items}
 use Rattle.limit.specs.Sums.{sumsOf}
 use Rattle.journal.specs.Rules.{itemRefusal, ruled}
-use Rattle.journal.specs.declared.section.Rule.{Rule}
+use Rattle.journal.specs.declared.section.SectionRule.{SectionRule}
 use Rattle.journal.specs.declared.section.SectionRead.{SectionRead}
 use Rattle.journal.specs.declared.section.SectionRead.the-variants as S
 use Rattle.journal.specs.declared.limits.LimitsRead.{LimitsRead}
@@ -42,11 +42,11 @@ sectionRead (fault n p) = S.Refused (record { number = n; place = p })
 sectionRead short = S.Short
 
 -- the n numbers of a rule's section at a place
-unfoldable pub numbersAt : Rule → ℕ → ℕ → List ℕ → SectionRead
+unfoldable pub numbersAt : SectionRule → ℕ → ℕ → List ℕ → SectionRead
 numbersAt r n at b = sectionRead (run (items (r .width) (itemRefusal (r .rising) (r .low) (r .high) (r .refusal)) n []) at (drop at b))
 
 -- the section of a rule at a place
-unfoldable pub sectionAt : Rule → ℕ → List ℕ → SectionRead
+unfoldable pub sectionAt : SectionRule → ℕ → List ℕ → SectionRead
 sectionAt r at b = sectionRead (run (section (ruled r)) at (drop at b))
 
 -- ---- limits

@@ -4,10 +4,11 @@
 -- the public functions' answers in document 01's words, and a number in bytes
 pub mod Answers
 pub mod Numbers
+-- what a call is handed, as the definitions take it: budget and rule; behind them what the check of an offer says
+pub mod Handed
 -- the step of the call with k
 pub mod Stepped
--- for private contracts (and the program `append`): what a call is handed, as the definitions take it
-pub mod Handed
+-- for private contracts:
 -- the rules of sections, fields and sections, the record, the pass over the records
 pub mod Rules
 pub mod Found

@@ -1,5 +1,5 @@
--- What the reading of a record answers, by what the record's reader finds: the place after it, its form and day, and of its times
--- what the mark needs.
+-- What the reading of a record answers, by what the record's reader finds: the place after it, its form and day, of its times what the
+-- mark needs, and whether it is one of the profile's.
 use mathlib.Core.Path.{_≡_}
 use Prim.Native.Nat.{ℕ, _+_, _*_, _<_}
 use mathlib.Core.List.{List}
@@ -7,7 +7,11 @@ use lib.ListN.{length, getD, drop}
 use Rattle.journal_spec.specs.Bytes.{numberAt}
 use Rattle.journal_spec.specs.Reader.{Found, found, fault, short, run}
 use Rattle.journal_spec.specs.Record.{Record, Last, recordReader}
+use Rattle.journal_spec.specs.Profile.{inProfile}
+use Rattle.journal_spec.specs.Scan as Scan
 use Rattle.journal_spec.specs.Read.{areEqual}
+use Rattle.journal.specs.Handed.{asRule}
+use Rattle.journal.specs.declared.profile.Rule.{Rule}
 use Rattle.journal.specs.declared.record.Head.{Head}
 use Rattle.journal.specs.declared.record.Entry.{Entry}
 use Rattle.journal.specs.declared.record.RecordRead.{RecordRead}
@@ -25,6 +29,7 @@ entryOf r next = record {
   day = r .day;
   flat = areEqual (r .times);
   times = length (r .times);
+  in_profile = inProfile r;
 }
 
 -- the answer
@@ -36,6 +41,10 @@ recordRead short = R.Short
 -- the record at a place, after the record `last`
 unfoldable pub recordAt : Head → ℕ → List ℕ → RecordRead
 recordAt last at b = recordRead (run (recordReader (asLast last)) at (drop at b))
+
+-- the same by a rule
+unfoldable pub recordBy : Rule → Head → ℕ → List ℕ → RecordRead
+recordBy rule last at b = recordRead (Scan.recordAt (asRule rule) (asLast last) at (drop at b))
 
 -- n numbers of 4 bytes that stand from a place on, as chances that were read do
 pub record Stands (b : List ℕ) (at n : ℕ) (xs : List ℕ) : Type 0 where

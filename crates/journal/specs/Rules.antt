@@ -9,7 +9,7 @@ use Rattle.limit.specs.Answer.{chanceRefusal, timesRefusal}
 use Rattle.journal_spec.specs.Refusals.{nameRefusal, outside}
 use Rattle.journal_spec.specs.Section.{Section}
 use Rattle.journal_spec.specs.Record.{minName, maxName, minByte, maxByte, minChances, maxChances}
-use Rattle.journal.specs.declared.section.Rule.{Rule}
+use Rattle.journal.specs.declared.section.SectionRule.{SectionRule}
 
 -- the least number that may follow x
 unfoldable pub leastNext : Bool → ℕ → ℕ → ℕ
@@ -25,7 +25,7 @@ unfoldable pub itemRefusal : Bool → ℕ → ℕ → ℕ → List ℕ → ℕ �
 itemRefusal rising low high n before = outside (leastAfter rising low before) high n
 
 -- the section that a rule stands for
-unfoldable pub ruled : Rule → Section
+unfoldable pub ruled : SectionRule → Section
 ruled r = record {
   width = r .width;
   count = outside (r .least) (r .most) (r .refusal);
@@ -33,7 +33,7 @@ ruled r = record {
 }
 
 -- What every rule here keeps: its numbers are in the range of times and no more than there are times, so that their sums are exact.
-pub record RuleFits (r : Rule) : Type 0 where
+pub record RuleFits (r : SectionRule) : Type 0 where
   pub narrow : r .width ≤ 4
   pub refuses : 0 < r .refusal
   pub few : r .most ≤ maxCount
@@ -43,7 +43,7 @@ pub record RuleFits (r : Rule) : Type 0 where
 -- ---- the rules of the format's sections
 
 -- the name: 1 to 32 bytes, each 21 to 7e
-unfoldable pub nameRule : Rule
+unfoldable pub nameRule : SectionRule
 nameRule = record {
   width = 1;
   least = minName;
@@ -55,7 +55,7 @@ nameRule = record {
 }
 
 -- the chances: 1 to 8, in range, rising strictly
-unfoldable pub chanceRule : Rule
+unfoldable pub chanceRule : SectionRule
 chanceRule = record {
   width = 4;
   least = minChances;
@@ -67,7 +67,7 @@ chanceRule = record {
 }
 
 -- the times: 2 to 128, in range
-unfoldable pub timeRule : Rule
+unfoldable pub timeRule : SectionRule
 timeRule = record {
   width = 4;
   least = minCount;

@@ -1,14 +1,16 @@
-// What a journal holds up to a length: its records one after the other, until the bytes end or a field is refused.
+// What a journal holds up to a length, by a rule: its records one after the other, until the bytes end or a field or a record is refused.
 // One pass serves scan, reading and append: besides the count it keeps what is asked of record i.
 ghost use mathlib.Core.Path.{_≡_};
 ghost use Prim.Native.Nat.{_≤_};
 ghost use Rattle.journal_spec.specs.Scan.{contentsOf};
+ghost use Rattle.journal.specs.Handed.{asRule};
 ghost use Rattle.journal.specs.Contents.{contentsRead, recordsRead, shownNext};
 use crate::Fault;
+use crate::profile::Rule;
 use crate::record::Entry;
 use crate::record::Head;
 use crate::record::RecordRead;
-use crate::record::record_at;
+use crate::record::record_by;
 
 // The longest journal, in bytes.
 pub const MAX_LENGTH: usize = 65_536;
@@ -41,8 +43,8 @@ pub(crate) enum Contents {
 }
 
 // The journal of a length in a slice.
-pub(crate) fn contents_of(v: &[u8], len: usize, i: usize) -> Contents
-    ensures { λ r. ⌜ r ≡ contentsRead i (contentsOf (now (v .entry)) len) ⌝ }
+pub(crate) fn contents_of(v: &[u8], len: usize, i: usize, rule: Rule) -> Contents
+    ensures { λ r. ⌜ r ≡ contentsRead i (contentsOf (asRule rule) (now (v .entry)) len) ⌝ }
 {
     if v.len() < len {
         return Contents::Damaged(LENGTH_FAULT);
@@ -50,12 +52,12 @@ pub(crate) fn contents_of(v: &[u8], len: usize, i: usize) -> Contents
     if MAX_LENGTH < len {
         return Contents::Damaged(LENGTH_FAULT);
     }
-    records_of(&v[..len], i)
+    records_of(&v[..len], i, rule)
 }
 
 // The records of a journal that takes all of a slice.
-fn records_of(b: &[u8], i: usize) -> Contents
-    ensures { λ r. ⌜ r ≡ recordsRead i (now (b .entry)) ⌝ }
+fn records_of(b: &[u8], i: usize, rule: Rule) -> Contents
+    ensures { λ r. ⌜ r ≡ recordsRead i (asRule rule) (now (b .entry)) ⌝ }
 {
     let mut records: usize = 0;
     let mut at: usize = 0;
@@ -67,7 +69,7 @@ fn records_of(b: &[u8], i: usize) -> Contents
         times: 0,
     };
     loop {
-        let x = record_at(b, at, last);
+        let x = record_by(b, at, last, rule);
         match x {
             RecordRead::Read(e) => {
                 shown = shown_next(shown, records == i, at, e);

@@ -12,13 +12,14 @@ ghost use Rattle.journal_spec.specs.Request.{allowed};
 ghost use Rattle.journal_spec.specs.Request as Request;
 ghost use Rattle.journal_spec.specs.Append.{judgeRoom, settle, appendTo, appendOf};
 ghost use Rattle.journal.specs.Records.{asLast};
-ghost use Rattle.journal.specs.Handed.{offerFrom, asBudget, bytesFrom};
+ghost use Rattle.journal.specs.Handed.{requestFrom, asBudget, asRule, bytesFrom};
 ghost use Rattle.journal.specs.Answers.{outcomeOf};
 use crate::Appended;
 use crate::contents::Contents;
 use crate::contents::MAX_LENGTH;
 use crate::contents::contents_of;
 use crate::offer::offer_refusal;
+use crate::profile::Rule;
 use crate::record::Head;
 use crate::write::put_record;
 
@@ -32,13 +33,13 @@ const MAX_CHANCES: usize = 8;
 pub const FIXED_SIZE: usize = 12;
 
 // How much of the record a call may write: all of it, or document 01's k bytes.
-pub(crate) enum Budget {
+pub enum Budget {
     All,
     UpTo(usize),
 }
 
-// Every append: the journal's faults, then the offer after what stands.
-pub(crate) fn append_with(
+// Every append of times, by a budget and a rule: the journal's faults, then the offer after what stands.
+pub fn append_with(
     v: &mut [u8],
     len: usize,
     day: u16,
@@ -46,6 +47,7 @@ pub(crate) fn append_with(
     chances: &[u32],
     times: &[u32],
     budget: Budget,
+    rule: Rule,
 ) -> Appended
     ensures { λ r. ⌜ outcomeOf len r (now (v .exit))
         ≡ appendOf (record { slice = now (v .entry); len = len })
@@ -55,22 +57,23 @@ pub(crate) fn append_with(
           chances = now (chances .entry);
           source = Request.times (now (times .entry));
           budget = asBudget budget;
+          rule = asRule rule;
         }) ⌝ }
 {
-    let x = contents_of(v, len, 0);
+    let x = contents_of(v, len, 0, rule);
     match x {
         Contents::Stands {
             records: _,
             committed,
             last,
             shown: _,
-        } => extend_by(v, committed, last, day, name, chances, times, budget),
+        } => extend_by(v, committed, last, day, name, chances, times, budget, rule),
         Contents::Damaged(f) => Appended::Damaged(f),
     }
 }
 
 // The offer after the records `ps`, whose last is `last`, in a journal of that committed length.
-pub(crate) fn extend_by(
+fn extend_by(
     v: &mut [u8],
     committed: usize,
     last: Head,
@@ -79,13 +82,14 @@ pub(crate) fn extend_by(
     chances: &[u32],
     times: &[u32],
     budget: Budget,
+    rule: Rule,
 ) -> Appended
     ensures { λ r. ⌜ ((len : ℕ) (ps : List Placed) → asLast last ≡ lastOf (recordsOf ps)
         → outcomeOf len r (now (v .exit)) ≡ appendTo (standing ps committed) (record { slice = now (v .entry); len = len })
-        (offerFrom day (now (name .entry)) (now (chances .entry)) (now (times .entry))) (asBudget budget)) ⌝ }
+        (requestFrom day (now (name .entry)) (now (chances .entry)) (now (times .entry)) (asBudget budget) (asRule rule))) ⌝ }
 {
     let mut bits: [u64; MAX_CHANCES] = [0; MAX_CHANCES];
-    let refusal = offer_refusal(last, day, name, chances, times, &mut bits);
+    let refusal = offer_refusal(last, day, name, chances, times, rule, &mut bits);
     if 0 < refusal {
         return Appended::Declined(refusal);
     }

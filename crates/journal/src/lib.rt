@@ -1,20 +1,15 @@
 // The journal: scan, document 01's survey; reading's two calls, the part of a record and its mark; append, and the call with a budget, each
-// of times or through a log.
+// of times or through a log; and each of them by a rule, request 2026-14's profile calls among them.
 // Each goes over the journal's bytes once; nothing is assumed of the slice, the length or what is offered.
 ghost use mathlib.Core.Path.{_≡_};
+ghost use Rattle.journal_spec.specs.Profile.{plain};
 ghost use Rattle.journal_spec.specs.Scan.{scanOf};
 ghost use Rattle.journal_spec.specs.Read.{partPlace, readPart, readMark};
 ghost use Rattle.journal_spec.specs.Request.{all, upTo};
 ghost use Rattle.journal_spec.specs.Request as Request;
 ghost use Rattle.journal_spec.specs.Append.{appendOf};
 ghost use Rattle.journal.specs.Answers.{meaning, partMeaning, markMeaning, outcomeOf};
-use crate::contents::Contents;
-use crate::contents::contents_of;
-use crate::extend::Budget;
-use crate::extend::append_with;
-use crate::log::append_log_with;
 use crate::marks::Mark;
-use crate::marks::mark_from;
 
 mod byte;
 mod contents;
@@ -25,15 +20,22 @@ mod log;
 pub mod marks;
 mod number;
 mod offer;
+mod profile;
+mod reading;
 mod record;
 mod section;
 mod write;
 
+pub use extend::Budget;
 pub use extend::FIXED_SIZE;
+pub use extend::append_with;
+pub use log::append_log_with;
 pub use number::number_in;
-
-// Document 01's number for an i that is not below the number of records.
-pub const ABSENT_REFUSAL: u32 = 10;
+pub use profile::Rule;
+pub use reading::mark_by;
+pub use reading::part_place_by;
+pub use reading::read_by;
+pub use reading::scan_by;
 
 // A refusal's number, and the place of what is refused: a field's first byte in the journal, or a line's in the log.
 pub struct Fault {
@@ -72,74 +74,30 @@ pub enum Appended {
 
 // Document 01's survey of the journal of a length in a slice.
 pub fn scan(v: &[u8], len: usize) -> Status
-    ensures { λ r. ⌜ meaning r ≡ scanOf (now (v .entry)) len ⌝ }
+    ensures { λ r. ⌜ meaning r ≡ scanOf plain (now (v .entry)) len ⌝ }
 {
-    let x = contents_of(v, len, 0);
-    match x {
-        Contents::Stands {
-            records,
-            committed,
-            last: _,
-            shown: _,
-        } => {
-            if committed == len {
-                Status::Whole { records, committed }
-            } else {
-                Status::Torn { records, committed }
-            }
-        }
-        Contents::Damaged(f) => Status::Damaged(f),
-    }
+    scan_by(v, len, Rule::Plain)
 }
 
 // Reading's first call: the bytes of record i, an empty part where refused.
 pub fn read<'a>(v: &'a [u8], len: usize, i: usize) -> &'a [u8]
-    ensures { λ r. ⌜ now r ≡ readPart (now (v .entry)) len i ⌝ }
+    ensures { λ r. ⌜ now r ≡ readPart plain (now (v .entry)) len i ⌝ }
 {
-    let p = part_place(v, len, i);
-    let start = p.start;
-    let end = start + p.size;
-    &v[start..end]
+    read_by(v, len, i, Rule::Plain)
 }
 
 // Where that part stands.
 pub fn part_place(v: &[u8], len: usize, i: usize) -> Part
-    ensures { λ r. ⌜ partMeaning r ≡ partPlace (now (v .entry)) len i ⌝ }
+    ensures { λ r. ⌜ partMeaning r ≡ partPlace plain (now (v .entry)) len i ⌝ }
 {
-    let x = contents_of(v, len, i);
-    match x {
-        Contents::Stands {
-            records: _,
-            committed: _,
-            last: _,
-            shown,
-        } => Part {
-            start: shown.start,
-            size: shown.size,
-        },
-        Contents::Damaged(_) => Part { start: 0, size: 0 },
-    }
+    part_place_by(v, len, i, Rule::Plain)
 }
 
 // Reading's second call: the mark of record i, or the refusal's number.
 pub fn mark(v: &[u8], len: usize, i: usize) -> Marked
-    ensures { λ r. ⌜ markMeaning r ≡ readMark (now (v .entry)) len i ⌝ }
+    ensures { λ r. ⌜ markMeaning r ≡ readMark plain (now (v .entry)) len i ⌝ }
 {
-    let x = contents_of(v, len, i);
-    match x {
-        Contents::Stands {
-            records,
-            committed: _,
-            last: _,
-            shown,
-        } => {
-            if records <= i {
-                return Marked::Refused(ABSENT_REFUSAL);
-            }
-            Marked::As(mark_from(shown.flat, shown.times))
-        }
-        Contents::Damaged(f) => Marked::Refused(f.number),
-    }
+    mark_by(v, len, i, Rule::Plain)
 }
 
 // Appends a record of what is offered, its limits worked out from the times. Where it answers a length that is the journal's new length,
@@ -154,9 +112,9 @@ pub fn append(
 ) -> Appended
     ensures { λ r. ⌜ outcomeOf len r (now (v .exit))
         ≡ appendOf (record { slice = now (v .entry); len = len })
-        (record { day = day; name = now (name .entry); chances = now (chances .entry); source = Request.times (now (times .entry)); budget = all }) ⌝ }
+        (record { day = day; name = now (name .entry); chances = now (chances .entry); source = Request.times (now (times .entry)); budget = all; rule = plain }) ⌝ }
 {
-    append_with(v, len, day, name, chances, times, Budget::All)
+    append_with(v, len, day, name, chances, times, Budget::All, Rule::Plain)
 }
 
 // Document 01's call with k: after append's checks it stops when `budget` bytes of the record are written. A budget beyond the record is
@@ -172,9 +130,10 @@ pub fn append_upto(
 ) -> Appended
     ensures { λ r. ⌜ outcomeOf len r (now (v .exit))
         ≡ appendOf (record { slice = now (v .entry); len = len })
-        (record { day = day; name = now (name .entry); chances = now (chances .entry); source = Request.times (now (times .entry)); budget = upTo budget }) ⌝ }
+        (record { day = day; name = now (name .entry); chances = now (chances .entry); source = Request.times (now (times .entry)); budget = upTo budget; rule = plain }) ⌝ }
 {
-    append_with(v, len, day, name, chances, times, Budget::UpTo(budget))
+    let cut = Budget::UpTo(budget);
+    append_with(v, len, day, name, chances, times, cut, Rule::Plain)
 }
 
 // Request 2026-01: append with the times of the name in a build server's log, in file order. A line of the log that is refused is judged
@@ -189,9 +148,9 @@ pub fn append_log(
 ) -> Appended
     ensures { λ r. ⌜ outcomeOf len r (now (v .exit))
         ≡ appendOf (record { slice = now (v .entry); len = len })
-        (record { day = day; name = now (name .entry); chances = now (chances .entry); source = Request.log (now (log .entry)); budget = all }) ⌝ }
+        (record { day = day; name = now (name .entry); chances = now (chances .entry); source = Request.log (now (log .entry)); budget = all; rule = plain }) ⌝ }
 {
-    append_log_with(v, len, day, name, chances, log, Budget::All)
+    append_log_with(v, len, day, name, chances, log, Budget::All, Rule::Plain)
 }
 
 // The same with document 01's k.
@@ -206,7 +165,8 @@ pub fn append_log_upto(
 ) -> Appended
     ensures { λ r. ⌜ outcomeOf len r (now (v .exit))
         ≡ appendOf (record { slice = now (v .entry); len = len })
-        (record { day = day; name = now (name .entry); chances = now (chances .entry); source = Request.log (now (log .entry)); budget = upTo budget }) ⌝ }
+        (record { day = day; name = now (name .entry); chances = now (chances .entry); source = Request.log (now (log .entry)); budget = upTo budget; rule = plain }) ⌝ }
 {
-    append_log_with(v, len, day, name, chances, log, Budget::UpTo(budget))
+    let cut = Budget::UpTo(budget);
+    append_log_with(v, len, day, name, chances, log, cut, Rule::Plain)
 }

@@ -1,4 +1,4 @@
-// The check of an offered record, in the papers' order: 3, 4, 5, 17, 6. A refusal is its number, 0 for none.
+// The check of an offered record, in the papers' order: 3, 4, 5, 17, 6, 19. A refusal is its number, 0 for none.
 // Where there is none the limits are worked out, for the writer.
 ghost use mathlib.Core.Path.{_≡_};
 ghost use Prim.Native.Nat.{_≤_};
@@ -10,7 +10,11 @@ ghost use Rattle.journal_spec.specs.Section.{sectionRefusal};
 ghost use Rattle.journal_spec.specs.Record.{nameSection, chanceSection, maxChances};
 ghost use Rattle.journal_spec.specs.Append.{judgeEven, limitBits};
 ghost use Rattle.journal.specs.Records.{asLast};
-ghost use Rattle.journal.specs.Handed.{offerFrom, limitsFrom, OfferChecked};
+ghost use Rattle.journal.specs.Handed.{asRule, offerFrom, limitsFrom, RuleChecked, OfferChecked};
+use crate::profile::PROFILE_REFUSAL;
+use crate::profile::Rule;
+use crate::profile::kept_by;
+use crate::profile::offer_in_profile;
 use crate::record::CHANCES;
 use crate::record::DAY_REFUSAL;
 use crate::record::Head;
@@ -33,10 +37,11 @@ pub(crate) fn offer_refusal(
     name: &[u8],
     chances: &[u32],
     times: &[u32],
+    rule: Rule,
     bits: &mut [u64],
 ) -> u32
     requires { ⌜ length (now bits) ≡ maxChances ⌝ }
-    ensures { λ r. ⌜ OfferChecked (asLast last) (offerFrom day (now (name .entry)) (now (chances .entry)) (now (times .entry)))
+    ensures { λ r. ⌜ OfferChecked (asRule rule) (asLast last) (offerFrom day (now (name .entry)) (now (chances .entry)) (now (times .entry)))
         r (now (bits .exit)) ⌝ }
 {
     if (day as u64) < last.day {
@@ -56,10 +61,7 @@ pub(crate) fn offer_refusal(
     }
     let g = limit::sums::gather(times);
     match g {
-        Gathered::Within(sums) => {
-            work_out(sums, chances, bits);
-            0
-        }
+        Gathered::Within(sums) => rule_refusal(sums, chances, rule, bits),
         Gathered::Outside => TIMES_REFUSAL,
     }
 }
@@ -131,6 +133,19 @@ fn range_refusal(low: u64, high: u64, refusal: u32, x: u64) -> u32
     if high < x {
         return refusal;
     }
+    0
+}
+
+// The refusal of an offer whose fields are in range, by the rule. Where there is none the limits are worked out.
+fn rule_refusal(sums: Sums, chances: &[u32], rule: Rule, bits: &mut [u64]) -> u32
+    requires { ⌜ (length (now chances) ≤ maxChances) × (length (now bits) ≡ maxChances) ⌝ }
+    ensures { λ r. ⌜ RuleChecked (asRule rule) sums (now (chances .entry)) r (now (bits .exit)) ⌝ }
+{
+    let in_profile = offer_in_profile(chances, sums.count);
+    if !kept_by(rule, in_profile) {
+        return PROFILE_REFUSAL;
+    }
+    work_out(sums, chances, bits);
     0
 }
 

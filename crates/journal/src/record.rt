@@ -10,14 +10,18 @@ ghost use Rattle.limit.specs.Times.{timesInRange};
 ghost use Rattle.limit.specs.Sums.{sumsOf, isPlausible};
 ghost use Rattle.journal_spec.specs.Reader.{run};
 ghost use Rattle.journal_spec.specs.Stages.{dayStage, nameStage, chanceStage, timeStage, limitStage};
-ghost use Rattle.journal.specs.Records.{asLast, recordRead, recordAt, Stands};
+ghost use Rattle.journal.specs.Records.{asLast, recordRead, recordAt, recordBy, Stands};
 use crate::Fault;
 use crate::field::FieldRead;
 use crate::field::field_at;
 use crate::limits::LimitsRead;
 use crate::limits::limit_section_at;
-use crate::section::Rule;
+use crate::profile::PROFILE_REFUSAL;
+use crate::profile::Rule;
+use crate::profile::kept_by;
+use crate::profile::record_in_profile;
 use crate::section::SectionRead;
+use crate::section::SectionRule;
 use crate::section::section_at;
 use limit::CHANCE_REFUSAL;
 use limit::FORM_REFUSAL;
@@ -41,7 +45,7 @@ const OLD_FORM_REFUSAL: u32 = 13;
 pub(crate) const DAY_REFUSAL: u32 = 3;
 
 // The name: 1 to 32 bytes, each 21 to 7e.
-pub(crate) const NAME: Rule = Rule {
+pub(crate) const NAME: SectionRule = SectionRule {
     width: 1,
     least: 1,
     most: 32,
@@ -52,7 +56,7 @@ pub(crate) const NAME: Rule = Rule {
 };
 
 // The chances: 1 to 8, in range, rising strictly.
-pub(crate) const CHANCES: Rule = Rule {
+pub(crate) const CHANCES: SectionRule = SectionRule {
     width: 4,
     least: 1,
     most: 8,
@@ -63,7 +67,7 @@ pub(crate) const CHANCES: Rule = Rule {
 };
 
 // The times: 2 to 128, in range.
-const TIMES: Rule = Rule {
+const TIMES: SectionRule = SectionRule {
     width: 4,
     least: MIN_COUNT,
     most: MAX_COUNT,
@@ -79,13 +83,15 @@ pub(crate) struct Head {
     pub day: u64,
 }
 
-// A record that was read: the place after it, its form and day, whether its times are all equal, and how many they are.
+// A record that was read: the place after it, its form and day, whether its times are all equal, how many they are, and whether it is one
+// of the profile's.
 pub(crate) struct Entry {
     pub next: usize,
     pub form: u64,
     pub day: u64,
     pub flat: bool,
     pub times: u64,
+    pub in_profile: bool,
 }
 
 // The record; that the bytes run out in it; or its first refusal.
@@ -95,9 +101,30 @@ pub(crate) enum RecordRead {
     Refused(Fault),
 }
 
+// The record at a place by a rule: one that is whole and breaks the rule is refused at its first byte. What is torn is not judged by it.
+pub(crate) fn record_by(b: &[u8], at: usize, last: Head, rule: Rule) -> RecordRead
+    requires { ⌜ at ≤ length (now b) ⌝ }
+    ensures { λ r. ⌜ r ≡ recordBy rule last at (now (b .entry)) ⌝ }
+{
+    let x = record_at(b, at, last);
+    match x {
+        RecordRead::Read(e) => {
+            if kept_by(rule, e.in_profile) {
+                return RecordRead::Read(e);
+            }
+            RecordRead::Refused(Fault {
+                number: PROFILE_REFUSAL,
+                place: at,
+            })
+        }
+        RecordRead::Short => RecordRead::Short,
+        RecordRead::Refused(f) => RecordRead::Refused(f),
+    }
+}
+
 // The record at a place, after the record `last`. Its form is judged whole before its day: that there is such a form, then that forms
 // do not fall.
-pub(crate) fn record_at(b: &[u8], at: usize, last: Head) -> RecordRead
+fn record_at(b: &[u8], at: usize, last: Head) -> RecordRead
     requires { ⌜ at ≤ length (now b) ⌝ }
     ensures { λ r. ⌜ r ≡ recordAt last at (now (b .entry)) ⌝ }
 {
@@ -180,6 +207,7 @@ fn limits_part(b: &[u8], at: usize, head: Head, chances: usize, n: u64, sums: Su
     let day = head.day;
     let flat = flat_by(sums);
     let times = sums.count;
+    let in_profile = record_in_profile(b, form, chances, n, times);
     let x = limit_section_at(b, at, n, chances, form, sums);
     match x {
         LimitsRead::Next(next) => RecordRead::Read(Entry {
@@ -188,6 +216,7 @@ fn limits_part(b: &[u8], at: usize, head: Head, chances: usize, n: u64, sums: Su
             day,
             flat,
             times,
+            in_profile,
         }),
         LimitsRead::Short => RecordRead::Short,
         LimitsRead::Refused(f) => RecordRead::Refused(f),

@@ -13,7 +13,7 @@ use limit::sums::Sums;
 
 // The bytes of a number; how many numbers there are, least and most; the range of a number; whether each is above the one before it;
 // and the number of the refusal.
-pub(crate) struct Rule {
+pub(crate) struct SectionRule {
     pub width: usize,
     pub least: u64,
     pub most: u64,
@@ -31,7 +31,7 @@ pub(crate) enum SectionRead {
 }
 
 // The section at a place.
-pub(crate) fn section_at(b: &[u8], at: usize, rule: Rule) -> SectionRead
+pub(crate) fn section_at(b: &[u8], at: usize, rule: SectionRule) -> SectionRead
     requires { ⌜ (at ≤ length (now b)) × RuleFits rule ⌝ }
     ensures { λ r. ⌜ r ≡ sectionAt rule at (now (b .entry)) ⌝ }
 {
@@ -44,7 +44,7 @@ pub(crate) fn section_at(b: &[u8], at: usize, rule: Rule) -> SectionRead
 }
 
 // The n numbers at a place. Their sums are kept while they are read, so that the limits need no second pass over the times.
-fn numbers_at(b: &[u8], at: usize, n: u64, rule: Rule) -> SectionRead
+fn numbers_at(b: &[u8], at: usize, n: u64, rule: SectionRule) -> SectionRead
     requires { ⌜ (at ≤ length (now b)) × (n ≤ maxCount) × RuleFits rule ⌝ }
     ensures { λ r. ⌜ r ≡ numbersAt rule n at (now (b .entry)) ⌝ }
 {

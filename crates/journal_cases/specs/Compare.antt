@@ -8,27 +8,27 @@ use lib.ListN.{length, getD, take}
 use Rattle.journal_spec.specs.Scan.{scanOf}
 use Rattle.journal_spec.specs.Read.{partPlace, readMark}
 use Rattle.capi.specs.Journal.{scanWords, partWords, markWord}
-use Rattle.journal_cases.specs.Line.{agrees}
+use Rattle.journal_cases.specs.Line.{ruleBy, agrees}
 use Rattle.journal_cases.specs.declared.line.Case.{Case}
 use Rattle.journal_cases.specs.declared.line.Case.the-variants as A
 use Rattle.journal_cases.specs.declared.compare.Compared.{Compared}
 use Rattle.journal_cases.specs.declared.compare.Compared.the-variants as C
 
--- scan's three words against the line's
+-- scan's three words against the line's, by the line's rule
 unfoldable pub scanAgrees : List ℕ → List ℕ → ℕ → Bool
 scanAgrees s v len =
-    let words = scanWords (scanOf v len) in
+    let words = scanWords (scanOf (ruleBy s) v len) in
     agrees s (getD words 0 0) (getD words 1 0) (getD words 2 0)
 
 -- the part's two words against the line's last two
 unfoldable pub partAgrees : List ℕ → List ℕ → ℕ → ℕ → Bool
 partAgrees s v len i =
-    let words = partWords (partPlace v len i) in
+    let words = partWords (partPlace (ruleBy s) v len i) in
     agrees s 0 (getD words 0 0) (getD words 1 0)
 
 -- the mark's word against the line's middle one
 unfoldable pub markAgrees : List ℕ → List ℕ → ℕ → ℕ → Bool
-markAgrees s v len i = agrees s 0 (markWord (readMark v len i)) 0
+markAgrees s v len i = agrees s 0 (markWord (readMark (ruleBy s) v len i)) 0
 
 -- as expected or not
 unfoldable pub verdictOf : Bool → Compared

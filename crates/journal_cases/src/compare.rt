@@ -2,11 +2,19 @@
 // The journal stands in a buffer, and a line says how much of the buffer the slice is.
 ghost use mathlib.Core.Path.{_≡_};
 ghost use lib.ListN.{take};
+ghost use Rattle.journal_spec.specs.Scan.{scanOf};
+ghost use Rattle.journal_spec.specs.Read.{partPlace};
+ghost use Rattle.capi.specs.Journal.{scanWords, partWords};
+ghost use Rattle.journal_cases.specs.Line.{ruleBy};
 ghost use Rattle.journal_cases.specs.Compare.{comparedWith, storedIfRoom, verdictOf, scanAgrees, partAgrees, markAgrees};
 use crate::line::Case;
 use crate::line::agree;
+use crate::line::by_profile;
 use capi::journals::journal_mark;
 use capi::journals::journal_part;
+use capi::journals::journal_profile_mark;
+use capi::journals::journal_profile_part;
+use capi::journals::journal_profile_scan;
 use capi::journals::journal_scan;
 
 // What a line tells: its bytes go into the buffer, or the answer is as expected or not, or it is no such line.
@@ -68,8 +76,19 @@ fn scan_agrees(line: &[u8], v: &[u8], len: usize) -> bool
     ensures { λ r. ⌜ r ≡ scanAgrees (now (line .entry)) (now (v .entry)) len ⌝ }
 {
     let mut out = [0u64; 3];
-    journal_scan(v, len, &mut out);
+    put_scan(line, v, len, &mut out);
     agree(line, out[0], out[1], out[2])
+}
+
+// Scan's three words, by the line's rule.
+fn put_scan(line: &[u8], v: &[u8], len: usize, out: &mut [u64; 3])
+    ensures { λ _. ⌜ now (out .exit) ≡ scanWords (scanOf (ruleBy (now (line .entry))) (now (v .entry)) len) ⌝ }
+{
+    if by_profile(line) {
+        journal_profile_scan(v, len, out);
+        return;
+    }
+    journal_scan(v, len, out);
 }
 
 // The part's two words against the line's last two.
@@ -77,14 +96,27 @@ fn part_agrees(line: &[u8], v: &[u8], len: usize, i: usize) -> bool
     ensures { λ r. ⌜ r ≡ partAgrees (now (line .entry)) (now (v .entry)) len i ⌝ }
 {
     let mut out = [0u64; 2];
-    journal_part(v, len, i, &mut out);
+    put_part(line, v, len, i, &mut out);
     agree(line, 0, out[0], out[1])
+}
+
+// The part's two words, by the line's rule.
+fn put_part(line: &[u8], v: &[u8], len: usize, i: usize, out: &mut [u64; 2])
+    ensures { λ _. ⌜ now (out .exit) ≡ partWords (partPlace (ruleBy (now (line .entry))) (now (v .entry)) len i) ⌝ }
+{
+    if by_profile(line) {
+        journal_profile_part(v, len, i, out);
+        return;
+    }
+    journal_part(v, len, i, out);
 }
 
 // The mark's word against the line's middle one.
 fn mark_agrees(line: &[u8], v: &[u8], len: usize, i: usize) -> bool
     ensures { λ r. ⌜ r ≡ markAgrees (now (line .entry)) (now (v .entry)) len i ⌝ }
 {
-    let word = journal_mark(v, len, i);
-    agree(line, 0, word, 0)
+    if by_profile(line) {
+        return agree(line, 0, journal_profile_mark(v, len, i), 0);
+    }
+    agree(line, 0, journal_mark(v, len, i), 0)
 }

@@ -1,7 +1,9 @@
 // One stored line: a letter, the numbers that it asks with, and the answer's words that it expects.
 // A line is 56 bytes: letter, 5 digits, 16 digits, 16 digits, 1 digit, 5 digits, 5 digits, a byte between two of them, line end.
 ghost use mathlib.Core.Path.{_≡_};
-ghost use Rattle.journal_cases.specs.Line.{caseOf, caseNumbers, caseKind, stands, agrees};
+ghost use mathlib.Core.Bool.{cond};
+ghost use Rattle.journal_spec.specs.Profile.{plain, profile};
+ghost use Rattle.journal_cases.specs.Line.{caseOf, caseNumbers, caseKind, ruleBy, stands, agrees};
 use lines::Field;
 use lines::number_at;
 
@@ -62,7 +64,26 @@ fn case_kind(letter: u8, place: u64, n: u64, i: u64) -> Case
     if letter == b'm' {
         return Case::Mark { size, len, i: at };
     }
+    if letter == b'S' {
+        return Case::Scan { size, len };
+    }
+    if letter == b'P' {
+        return Case::Part { size, len, i: at };
+    }
+    if letter == b'M' {
+        return Case::Mark { size, len, i: at };
+    }
     Case::Malformed
+}
+
+// Whether a line asks by the profile: its letter is a capital one. A line without a letter asks nothing.
+pub(crate) fn by_profile(line: &[u8]) -> bool
+    ensures { λ r. ⌜ cond r profile plain ≡ ruleBy (now (line .entry)) ⌝ }
+{
+    if line.len() == 0 {
+        return true;
+    }
+    line[0] < b'a'
 }
 
 // Whether a line expects these three words.

@@ -9,9 +9,10 @@ use lib.ListN.{length, take, drop}
 use Rattle.hex.specs.Same.{sameBytes}
 use Rattle.lines.specs.Lines.{lineEnd}
 use Rattle.lines.proofs.Replay.{Replayed, replay-turn}
+use Rattle.journal_spec.specs.Request.{all, upTo}
 use Rattle.journal_history.specs.Line.{parsedLine}
 use Rattle.journal_history.specs.State.{answeredWith, comparedOnce}
-use Rattle.journal_history.specs.Call.{appendCalled, appendUptoCalled, appendLogCalled, appendLogUptoCalled}
+use Rattle.journal_history.specs.Call.{appendCalled, appendLogCalled}
 use Rattle.journal_history.specs.Replay.{Memory, memoryOf, withState, afterCall, sliceBy, expectedBy, nameBy, numbersBy, stateBy}
 use Rattle.journal_history.specs.Replay.{stored, steppedBy, stepped}
 use Rattle.journal_history.specs.declared.line.Line.{Line}
@@ -21,20 +22,20 @@ use Rattle.journal_history.specs.declared.state.State.{State}
 
 module _ (l : Line) (s x : State) (v v′ e n c t : List ℕ) where
   -- the call with a budget
-  pub line-cut : l .letter ≡ 97 → (x ≡ appendUptoCalled s l v n c t .state) × (v′ ≡ appendUptoCalled s l v n c t .slice)
+  pub line-cut : l .letter ≡ 97 → (x ≡ appendCalled s l (upTo (l .y)) v n c t .state) × (v′ ≡ appendCalled s l (upTo (l .y)) v n c t .slice)
       → memoryOf x v′ e n c t ≡ steppedBy l (memoryOf s v e n c t)
   unfolding steppedBy afterCall withState memoryOf
   line-cut h made = rw (eq-eqb (l .letter) 97 h, made .0, made .1) refl
 
   -- the call with a budget through the log, and append through it
   pub line-log-cut : (l .letter ≡ 97 → ⊥) → (l .letter ≡ 65 → ⊥) → l .letter ≡ 98
-      → (x ≡ appendLogUptoCalled s l v n c t .state) × (v′ ≡ appendLogUptoCalled s l v n c t .slice)
+      → (x ≡ appendLogCalled s l (upTo (l .y)) v n c t .state) × (v′ ≡ appendLogCalled s l (upTo (l .y)) v n c t .slice)
       → memoryOf x v′ e n c t ≡ steppedBy l (memoryOf s v e n c t)
   unfolding steppedBy afterCall withState memoryOf
   line-log-cut f g h made = rw (ne-eqb (l .letter) 97 f, ne-eqb (l .letter) 65 g, eq-eqb (l .letter) 98 h, made .0, made .1) refl
 
   pub line-log-append : (l .letter ≡ 97 → ⊥) → (l .letter ≡ 65 → ⊥) → (l .letter ≡ 98 → ⊥) → l .letter ≡ 66
-      → (x ≡ appendLogCalled s l v n c t .state) × (v′ ≡ appendLogCalled s l v n c t .slice)
+      → (x ≡ appendLogCalled s l all v n c t .state) × (v′ ≡ appendLogCalled s l all v n c t .slice)
       → memoryOf x v′ e n c t ≡ steppedBy l (memoryOf s v e n c t)
   unfolding steppedBy afterCall withState memoryOf
   line-log-append f g h i made =
@@ -42,7 +43,7 @@ module _ (l : Line) (s x : State) (v v′ e n c t : List ℕ) where
 
   -- append
   pub line-append : (l .letter ≡ 97 → ⊥) → l .letter ≡ 65
-      → (x ≡ appendCalled s l v n c t .state) × (v′ ≡ appendCalled s l v n c t .slice)
+      → (x ≡ appendCalled s l all v n c t .state) × (v′ ≡ appendCalled s l all v n c t .slice)
       → memoryOf x v′ e n c t ≡ steppedBy l (memoryOf s v e n c t)
   unfolding steppedBy afterCall withState memoryOf
   line-append g h made = rw (ne-eqb (l .letter) 97 g, eq-eqb (l .letter) 65 h, made .0, made .1) refl

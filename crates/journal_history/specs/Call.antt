@@ -1,11 +1,12 @@
 -- A line that calls append: what it makes of the state and of the slice's buffer.
 -- Assumes nothing.
-use Prim.Native.Nat.{ℕ, _+_, _-_, _%_, _^_}
+use Prim.Native.Nat.{ℕ, _-_, _/_, _%_, _^_}
 use mathlib.Core.Bool.{Bool, cond, _&&_}
 use mathlib.Core.List.{List, _++_}
-use lib.Dec.{leb}
+use lib.Dec.{leb, eqb}
 use lib.ListN.{length, take, drop}
-use Rattle.journal_spec.specs.Request.{Budget, all, upTo, Source, Request, AppendResult, extended, declined, declinedAt, damaged, Outcome}
+use Rattle.journal_spec.specs.Profile.{Rule, plain, profile}
+use Rattle.journal_spec.specs.Request.{Budget, Source, Request, AppendResult, extended, declined, declinedAt, damaged, Outcome}
 use Rattle.journal_spec.specs.Request as Request
 use Rattle.journal_spec.specs.Append.{appendOf}
 use Rattle.journal_history.specs.State.{answerSet, malformedOnce}
@@ -32,7 +33,11 @@ logAt = 40
 unfoldable pub fitsLog : State → Line → ℕ → ℕ → ℕ → ℕ → Bool
 fitsLog s l v name chances times = leb logAt name && (leb (l .z) (name - logAt) && fits s v name chances times)
 
--- what is asked: so much of each buffer, on the day x
+-- the rule, by the bit of x behind the day's 16 and one more
+unfoldable pub ruleIn : ℕ → Rule
+ruleIn x = cond (eqb (x / 2 ^ 17 % 2) 1) profile plain
+
+-- what is asked: so much of each buffer, on the day in x, by the rule in x
 unfoldable pub requestOf : State → Line → List ℕ → List ℕ → Source → Budget → Request
 requestOf s l name chances source budget = record {
   day = l .x % 2 ^ 16;
@@ -40,6 +45,7 @@ requestOf s l name chances source budget = record {
   chances = take (s .offered .chances) chances;
   source = source;
   budget = budget;
+  rule = ruleIn (l .x);
 }
 
 -- the times that are offered, and the log of z bytes
@@ -61,25 +67,14 @@ calledWith room s v o =
     (record { state = resultSet s (o .journal .len) (o .answer); slice = o .journal .slice ++ drop (s .size) v })
     (record { state = malformedOnce s; slice = v })
 
--- append
-unfoldable pub appendCalled : State → Line → List ℕ → List ℕ → List ℕ → List ℕ → Called
-appendCalled s l v name chances times =
+-- append of times, as far as a budget goes
+unfoldable pub appendCalled : State → Line → Budget → List ℕ → List ℕ → List ℕ → List ℕ → Called
+appendCalled s l budget v name chances times =
     calledWith (fits s (length v) (length name) (length chances) (length times)) s v
-    (appendOf (record { slice = take (s .size) v; len = s .len }) (requestOf s l name chances (timesOffered s times) all))
-
--- the call with the budget y
-unfoldable pub appendUptoCalled : State → Line → List ℕ → List ℕ → List ℕ → List ℕ → Called
-appendUptoCalled s l v name chances times =
-    calledWith (fits s (length v) (length name) (length chances) (length times)) s v
-    (appendOf (record { slice = take (s .size) v; len = s .len }) (requestOf s l name chances (timesOffered s times) (upTo (l .y))))
+    (appendOf (record { slice = take (s .size) v; len = s .len }) (requestOf s l name chances (timesOffered s times) budget))
 
 -- the same through the log
-unfoldable pub appendLogCalled : State → Line → List ℕ → List ℕ → List ℕ → List ℕ → Called
-appendLogCalled s l v name chances times =
+unfoldable pub appendLogCalled : State → Line → Budget → List ℕ → List ℕ → List ℕ → List ℕ → Called
+appendLogCalled s l budget v name chances times =
     calledWith (fitsLog s l (length v) (length name) (length chances) (length times)) s v
-    (appendOf (record { slice = take (s .size) v; len = s .len }) (requestOf s l name chances (logOffered l name) all))
-
-unfoldable pub appendLogUptoCalled : State → Line → List ℕ → List ℕ → List ℕ → List ℕ → Called
-appendLogUptoCalled s l v name chances times =
-    calledWith (fitsLog s l (length v) (length name) (length chances) (length times)) s v
-    (appendOf (record { slice = take (s .size) v; len = s .len }) (requestOf s l name chances (logOffered l name) (upTo (l .y))))
+    (appendOf (record { slice = take (s .size) v; len = s .len }) (requestOf s l name chances (logOffered l name) budget))

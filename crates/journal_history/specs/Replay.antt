@@ -7,10 +7,11 @@ use lib.Dec.{eqb}
 use lib.ListN.{length}
 use Rattle.hex.specs.Same.{sameBytes}
 use Rattle.lines.specs.Lines.{replayOf}
+use Rattle.journal_spec.specs.Request.{all, upTo}
 use Rattle.journal_history.specs.Line.{parsedLine}
 use Rattle.journal_history.specs.State.{started, countsSet, lengthSet, answeredWith, comparedOnce, malformedOnce}
 use Rattle.journal_history.specs.Store.{filled, bytesStored, repeated, numberStored}
-use Rattle.journal_history.specs.Call.{Called, appendCalled, appendUptoCalled, appendLogCalled, appendLogUptoCalled}
+use Rattle.journal_history.specs.Call.{Called, appendCalled, appendLogCalled}
 use Rattle.journal_history.specs.declared.line.Line.{Line}
 use Rattle.journal_history.specs.declared.state.State.{State}
 
@@ -83,10 +84,10 @@ stored l w = record {
 -- after a line's letter and numbers: a is the call with a budget, A append, b and B the same through the log, e a comparison
 unfoldable pub steppedBy : Line → Memory → Memory
 steppedBy l w =
-    cond (eqb (l .letter) 97) (afterCall w (appendUptoCalled (w .state) l (w .slice) (w .name) (w .chances) (w .times)))
-    (cond (eqb (l .letter) 65) (afterCall w (appendCalled (w .state) l (w .slice) (w .name) (w .chances) (w .times)))
-    (cond (eqb (l .letter) 98) (afterCall w (appendLogUptoCalled (w .state) l (w .slice) (w .name) (w .chances) (w .times)))
-    (cond (eqb (l .letter) 66) (afterCall w (appendLogCalled (w .state) l (w .slice) (w .name) (w .chances) (w .times)))
+    cond (eqb (l .letter) 97) (afterCall w (appendCalled (w .state) l (upTo (l .y)) (w .slice) (w .name) (w .chances) (w .times)))
+    (cond (eqb (l .letter) 65) (afterCall w (appendCalled (w .state) l all (w .slice) (w .name) (w .chances) (w .times)))
+    (cond (eqb (l .letter) 98) (afterCall w (appendLogCalled (w .state) l (upTo (l .y)) (w .slice) (w .name) (w .chances) (w .times)))
+    (cond (eqb (l .letter) 66) (afterCall w (appendLogCalled (w .state) l all (w .slice) (w .name) (w .chances) (w .times)))
     (cond (eqb (l .letter) 101)
     (withState w (comparedOnce (w .state) (answeredWith (w .state) l && sameBytes (w .slice) (w .expected))) (w .slice))
     (stored l w)))))

@@ -1,113 +1,85 @@
-// A call of append, or of the call with a budget, of times or through a log, with the offer and the slice as the lines before set them up.
+// A call of append, of times or through a log, by a budget and a rule, with the offer and the slice as the lines before set them up.
 // A slice or an offer larger than its buffer makes the line malformed.
 ghost use mathlib.Core.Path.{_≡_};
 ghost use lib.ListN.{length};
 ghost use Rattle.journal.specs.Answers.{appendMeaning, lengthAfter};
-ghost use Rattle.journal_history.specs.Call.{fits, fitsLog, resultSet, appendCalled, appendUptoCalled, appendLogCalled, appendLogUptoCalled};
+ghost use Rattle.journal.specs.Handed.{asBudget, asRule};
+ghost use Rattle.journal_history.specs.Call.{fits, fitsLog, resultSet, ruleIn, appendCalled, appendLogCalled};
 use crate::line::Line;
 use crate::state::State;
 use crate::state::answer;
 use crate::state::malformed;
 use journal::Appended;
+use journal::Budget;
+use journal::Rule;
 
 // Where the log stands in the name's buffer.
 const LOG_AT: usize = 40;
 
-// The call with a budget: the day is x, the budget y.
-pub(crate) fn append_upto(
-    s: State,
-    l: Line,
-    v: &mut [u8],
-    name: &[u8],
-    chances: &[u32],
-    times: &[u32],
-) -> State
-    ensures { λ r. ⌜ r ≡ appendUptoCalled s l (now (v .entry)) (now (name .entry)) (now (chances .entry)) (now (times .entry)) .state ⌝ }
-    ensures { λ r. ⌜ now (v .exit)
-        ≡ appendUptoCalled s l (now (v .entry)) (now (name .entry)) (now (chances .entry)) (now (times .entry)) .slice ⌝ }
-{
-    let offered = s.offered;
-    let size = s.size;
-    let len = s.len;
-    let budget = l.y as usize;
-    let day = (l.x % 65536) as u16;
-    let n = offered.name;
-    let c = offered.chances;
-    let t = offered.times;
-    if !have_room(s, v.len(), name.len(), chances.len(), times.len()) {
-        return malformed(s);
-    }
-    let a = journal::append_upto(
-        &mut v[..size],
-        len,
-        day,
-        &name[..n],
-        &chances[..c],
-        &times[..t],
-        budget,
-    );
-    answered_by(s, a)
-}
-
-// Append: the day is x.
+// Append of times: the day and the rule are in x.
 pub(crate) fn append(
     s: State,
     l: Line,
+    budget: Budget,
     v: &mut [u8],
     name: &[u8],
     chances: &[u32],
     times: &[u32],
 ) -> State
-    ensures { λ r. ⌜ r ≡ appendCalled s l (now (v .entry)) (now (name .entry)) (now (chances .entry)) (now (times .entry)) .state ⌝ }
+    ensures { λ r. ⌜ r ≡ appendCalled s l (asBudget budget) (now (v .entry)) (now (name .entry)) (now (chances .entry)) (now (times .entry)) .state ⌝ }
     ensures { λ r. ⌜ now (v .exit)
-        ≡ appendCalled s l (now (v .entry)) (now (name .entry)) (now (chances .entry)) (now (times .entry)) .slice ⌝ }
+        ≡ appendCalled s l (asBudget budget) (now (v .entry)) (now (name .entry)) (now (chances .entry)) (now (times .entry)) .slice ⌝ }
 {
     let offered = s.offered;
     let size = s.size;
     let len = s.len;
     let day = (l.x % 65536) as u16;
+    let rule = rule_in(l.x);
     let n = offered.name;
     let c = offered.chances;
     let t = offered.times;
     if !have_room(s, v.len(), name.len(), chances.len(), times.len()) {
         return malformed(s);
     }
-    let a = journal::append(
+    let a = journal::append_with(
         &mut v[..size],
         len,
         day,
         &name[..n],
         &chances[..c],
         &times[..t],
+        budget,
+        rule,
     );
     answered_by(s, a)
 }
 
-// The call with a budget through the log: the day is x, the budget y, and the log has z bytes.
-pub(crate) fn append_log_upto(
+// Append through the log: the day and the rule are in x, and the log has z bytes.
+pub(crate) fn append_log(
     s: State,
     l: Line,
+    budget: Budget,
     v: &mut [u8],
     name: &[u8],
     chances: &[u32],
     times: &[u32],
 ) -> State
-    ensures { λ r. ⌜ r ≡ appendLogUptoCalled s l (now (v .entry)) (now (name .entry)) (now (chances .entry)) (now (times .entry)) .state ⌝ }
+    ensures { λ r. ⌜ r ≡ appendLogCalled s l (asBudget budget) (now (v .entry)) (now (name .entry)) (now (chances .entry)) (now (times .entry)) .state ⌝ }
     ensures { λ r. ⌜ now (v .exit)
-        ≡ appendLogUptoCalled s l (now (v .entry)) (now (name .entry)) (now (chances .entry)) (now (times .entry)) .slice ⌝ }
+        ≡ appendLogCalled s l (asBudget budget) (now (v .entry)) (now (name .entry)) (now (chances .entry)) (now (times .entry)) .slice ⌝ }
 {
     let offered = s.offered;
     let size = s.size;
     let len = s.len;
-    let budget = l.y as usize;
     let day = (l.x % 65536) as u16;
+    let rule = rule_in(l.x);
     let n = offered.name;
     let c = offered.chances;
     if !has_log(s, l, v.len(), name.len(), chances.len(), times.len()) {
         return malformed(s);
     }
     let end = LOG_AT + l.z as usize;
-    let a = journal::append_log_upto(
+    let a = journal::append_log_with(
         &mut v[..size],
         len,
         day,
@@ -115,42 +87,19 @@ pub(crate) fn append_log_upto(
         &chances[..c],
         &name[LOG_AT..end],
         budget,
+        rule,
     );
     answered_by(s, a)
 }
 
-// Append through the log: the day is x, and the log has z bytes.
-pub(crate) fn append_log(
-    s: State,
-    l: Line,
-    v: &mut [u8],
-    name: &[u8],
-    chances: &[u32],
-    times: &[u32],
-) -> State
-    ensures { λ r. ⌜ r ≡ appendLogCalled s l (now (v .entry)) (now (name .entry)) (now (chances .entry)) (now (times .entry)) .state ⌝ }
-    ensures { λ r. ⌜ now (v .exit)
-        ≡ appendLogCalled s l (now (v .entry)) (now (name .entry)) (now (chances .entry)) (now (times .entry)) .slice ⌝ }
+// The rule that x asks for.
+fn rule_in(x: u64) -> Rule
+    ensures { λ r. ⌜ asRule r ≡ ruleIn x ⌝ }
 {
-    let offered = s.offered;
-    let size = s.size;
-    let len = s.len;
-    let day = (l.x % 65536) as u16;
-    let n = offered.name;
-    let c = offered.chances;
-    if !has_log(s, l, v.len(), name.len(), chances.len(), times.len()) {
-        return malformed(s);
+    if x / 0x20000 % 2 == 1 {
+        return Rule::Profile;
     }
-    let end = LOG_AT + l.z as usize;
-    let a = journal::append_log(
-        &mut v[..size],
-        len,
-        day,
-        &name[..n],
-        &chances[..c],
-        &name[LOG_AT..end],
-    );
-    answered_by(s, a)
+    Rule::Plain
 }
 
 // Whether all of that stands in its buffer, and the log behind the name's bytes.

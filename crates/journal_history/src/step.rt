@@ -4,8 +4,6 @@ ghost use mathlib.Core.Path.{_≡_};
 ghost use Rattle.journal_history.specs.Replay.{memoryOf, replayed, steppedBy};
 use crate::call::append;
 use crate::call::append_log;
-use crate::call::append_log_upto;
-use crate::call::append_upto;
 use crate::compare::compare;
 use crate::line::Line;
 use crate::line::parse;
@@ -15,6 +13,7 @@ use crate::stored::set_name;
 use crate::stored::set_numbers;
 use crate::stored::set_slice;
 use crate::stored::set_state;
+use journal::Budget;
 use lines::line_end;
 
 // The lines of a chunk; the last may be cut short, and is malformed then.
@@ -56,16 +55,16 @@ fn replay_line(
         ≡ steppedBy l (memoryOf s (now (v .entry)) (now (expected .entry)) (now (name .entry)) (now (chances .entry)) (now (times .entry))) ⌝ }
 {
     if l.letter == b'a' {
-        return append_upto(s, l, v, name, chances, times);
+        return append(s, l, Budget::UpTo(l.y as usize), v, name, chances, times);
     }
     if l.letter == b'A' {
-        return append(s, l, v, name, chances, times);
+        return append(s, l, Budget::All, v, name, chances, times);
     }
     if l.letter == b'b' {
-        return append_log_upto(s, l, v, name, chances, times);
+        return append_log(s, l, Budget::UpTo(l.y as usize), v, name, chances, times);
     }
     if l.letter == b'B' {
-        return append_log(s, l, v, name, chances, times);
+        return append_log(s, l, Budget::All, v, name, chances, times);
     }
     if l.letter == b'e' {
         return compare(s, l, v, expected);

@@ -4,16 +4,18 @@ use mathlib.Core.Path.{_≡_, refl, ap, _∙_}
 use mathlib.Core.Logic.{_↔_}
 use Prim.Native.Nat.{ℕ, zero, suc, _+_}
 use mathlib.Core.List.{List, [], _∷_}
+use mathlib.Core.Option.{Option, none, some}
 use native.Mathlib.Omega.{arith}
 use lib.ListN.{length, take, length-take}
 use borrow.Author.Tests.{le-leb, lt-leb}
 use Rattle.journal_spec.specs.Record.{recordBytes}
 use Rattle.journal_spec.specs.Log.{Gathered, gathered, misread}
-use Rattle.journal_spec.specs.Request.{Request, timesOf, offerOf, AppendResult, extended}
+use Rattle.journal_spec.specs.Request.{Request, timesOf, AppendResult, extended}
 use Rattle.journal_spec.specs.Calls.{operations, Call, emptyIn, perform, journalAfter}
-use Rattle.journal_spec.specs.Model.{Model, emptyModel, committedOf, Verdict, taken, turned, byNumber, byLog, firstTurned, verdictOf}
+use Rattle.journal_spec.specs.Model.{Model, emptyModel, committedOf, breakOf, Verdict, taken, turned, byNumber, byLog, byBreak, firstTurned}
+use Rattle.journal_spec.specs.Model.{verdictOf}
 use Rattle.journal_spec.specs.Model.{Entry, enterRecord, enterBy, modelRefusal, modelAfter}
-use Rattle.journal_spec.specs.Shown.{offerBy, budgetOf, recordOf}
+use Rattle.journal_spec.specs.Shown.{budgetOf, recordOf}
 use Rattle.journal_spec.specs.Ranges.{Accepted}
 use Rattle.journal_spec.proofs.Reading.{by-order}
 use Rattle.journal_spec.proofs.Ranged.{accepted-exactly}
@@ -25,19 +27,27 @@ pub record Gathers (q : Request) : Type 0 where
   pub times : List ℕ
   pub are : timesOf q ≡ gathered times
 
-pub taken-exactly : (room : ℕ) (m : Model) (q : Request) → (verdictOf room m q ≡ taken) ↔ (Gathers q × Accepted room m (offerOf q))
+-- a call is taken exactly where its log reads, no record that stands breaks its rule, and the ranges hold
+pub record Takes (room : ℕ) (m : Model) (q : Request) : Type 0 where
+  pub gathers : Gathers q
+  pub stands : breakOf (q .rule) m ≡ none
+  pub accepted : Accepted room m q
+
+pub taken-exactly : (room : ℕ) (m : Model) (q : Request) → (verdictOf room m q ≡ taken) ↔ Takes room m q
 unfolding verdictOf
 taken-exactly room m q = (
   λ h.
-      let z = both (timesOf q) (modelRefusal room m (offerOf q)) h in
-      (record { times = z .0; are = z .1 }, accepted-exactly room m (offerOf q) .0 (z .2)),
-  λ a. rw (a .0 .are, accepted-exactly room m (offerOf q) .1 (a .1)) (unfold byLog byNumber firstTurned in refl),
+      let z = all-taken (timesOf q) (breakOf (q .rule) m) (modelRefusal room m q) h in
+      record { gathers = record { times = z .0; are = z .1 }; stands = z .2; accepted = accepted-exactly room m q .0 (z .3) },
+  λ t. rw (t .gathers .are, t .stands, accepted-exactly room m q .1 (t .accepted)) (unfold byLog byBreak byNumber firstTurned in refl),
 )
   where
-    both : (g : Gathered) (n : ℕ) → firstTurned (byLog g ∷ byNumber n ∷ []) ≡ taken → (ts : List ℕ) × (g ≡ gathered ts) × (n ≡ 0)
-    both (gathered ts) zero h = (ts, refl, refl)
-    both (gathered ts) (suc n) h = unfold byLog byNumber firstTurned in let z : _≡_ {A = ℕ} 0 1 = cc in absurd (omega arith)
-    both (misread k p) n h = unfold byLog firstTurned in let z : _≡_ {A = ℕ} 0 1 = cc in absurd (omega arith)
+    all-taken : (g : Gathered) (b : Option ℕ) (n : ℕ) → firstTurned (byLog g ∷ byBreak b ∷ byNumber n ∷ []) ≡ taken
+        → (ts : List ℕ) × (g ≡ gathered ts) × (b ≡ none) × (n ≡ 0)
+    all-taken (gathered ts) none zero h = (ts, refl, refl, refl)
+    all-taken (gathered ts) none (suc n) h = unfold byLog byBreak byNumber firstTurned in let z : _≡_ {A = ℕ} 0 1 = cc in absurd (omega arith)
+    all-taken (gathered ts) (some at) n h = unfold byLog byBreak firstTurned in let z : _≡_ {A = ℕ} 0 1 = cc in absurd (omega arith)
+    all-taken (misread k p) b n h = unfold byLog firstTurned in let z : _≡_ {A = ℕ} 0 1 = cc in absurd (omega arith)
 
 module _ (slice : List ℕ) (cs : List Call) (c : Call) where
   -- the model and the answer of one more call
@@ -70,7 +80,6 @@ module _ (slice : List ℕ) (cs : List Call) (c : Call) where
       (λ all. rw (le-leb _ _ all, length-take) (ap (λ (n : ℕ). extended (committedOf before + n)) (omega arith)))
       (λ less. rw (lt-leb _ _ less, length-take) (ap (λ (n : ℕ). extended (committedOf before + n)) (omega arith))))
 
-  -- and it is taken exactly where its log reads and the ranges hold
-  pub accepted : (verdict ≡ taken) ↔ (Gathers (c .request) × Accepted (length slice) before (offerBy c))
-  unfolding offerBy
+  -- and it is taken exactly where no refusal holds
+  pub accepted : (verdict ≡ taken) ↔ Takes (length slice) before (c .request)
   accepted = taken-exactly (length slice) before (c .request)

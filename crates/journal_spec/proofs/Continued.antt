@@ -8,6 +8,7 @@ use lib.ListN.{length, take, drop, length-append}
 use lib.Seq.{drop-at, length-take-le}
 use Rattle.journal_spec.specs.Bytes.{AreBytes}
 use Rattle.journal_spec.specs.Record.{recordsBytes}
+use Rattle.journal_spec.specs.Profile.{plain}
 use Rattle.journal_spec.specs.Scan.{Placed, recordsOf, standing, contentsOf}
 use Rattle.journal_spec.specs.Calls.{Call, operations}
 use Rattle.journal_spec.specs.Model.{Model, committedOf}
@@ -17,7 +18,7 @@ use Rattle.journal_spec.proofs.Placing.{lengths-are}
 use Rattle.journal_spec.proofs.Explained.{holding}
 use Rattle.journal_spec.proofs.Demand.{Holds, demand3-from}
 
-module _ (slice : List ℕ) (len : ℕ) (ps : List Placed) (committed : ℕ) (b : AreBytes slice) (e : contentsOf slice len ≡ standing ps committed) where
+module _ (slice : List ℕ) (len : ℕ) (ps : List Placed) (committed : ℕ) (b : AreBytes slice) (e : contentsOf plain slice len ≡ standing ps committed) where
   -- the records that stand and what is behind them
   abbrev pub standingModel : Model
   standingModel = record { records = recordsOf ps; tail = drop committed (take len slice) }

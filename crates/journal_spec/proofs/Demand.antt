@@ -4,6 +4,7 @@
 use mathlib.Core.Path.{_≡_, refl, sym, ap, ap₂, _∙_}
 use Prim.Native.Nat.{ℕ, zero, suc, _+_, _-_, _≤_, _<_, min, max}
 use mathlib.Core.List.{List, [], _∷_, _++_, append-assoc, append-nil}
+use mathlib.Core.Option.{Option, none, some}
 use native.Mathlib.Omega.{arith}
 use native.Mathlib.Nat.{add-zero}
 use lib.ListN.{length, take, drop, length-append, take-append-drop}
@@ -11,25 +12,27 @@ use lib.Seq.{take-all, take-at, take-take, drop-drop, length-take-le}
 use lib.Dec.{eqb}
 use borrow.Author.Tests.{le-leb, lt-leb, eq-eqb, ne-eqb}
 use Rattle.journal_spec.specs.Bytes.{joined}
+use Rattle.journal_spec.specs.Refusals.{profileRefusal}
 use Rattle.journal_spec.specs.Record.{Record, IsDay, lastOf, recordReader, recordBytes, recordsBytes}
-use Rattle.journal_spec.specs.Scan.{maxLength, standing, contentsOf, statusOf, scanOf}
-use Rattle.journal_spec.specs.Read.{partOf, partPlace, readPart, markIn, readMark}
+use Rattle.journal_spec.specs.Scan.{maxLength, standing, contentsOf, damaged, statusOf, scanOf}
+use Rattle.journal_spec.specs.Profile.{Rule, plain}
+use Rattle.journal_spec.specs.Read.{noPart, partOf, partPlace, partBytes, readPart, unmarked, markIn, readMark}
 use Rattle.journal_spec.specs.Log.{Gathered, gathered, misread}
 use Rattle.journal_spec.specs.Request.{Journal, Request, Offer, timesOf, offerOf, allowed, AppendResult, extended, Outcome}
 use Rattle.journal_spec.specs.Append.{offered, written, unchanged, extend, settle, appendTo, appendWith, appendOf}
 use Rattle.journal_spec.specs.Calls.{operations, Call, emptyIn, perform, journalAfter, answersOf, reachOf}
 use Rattle.journal_spec.specs.Model.{Model, emptyModel, lengthsOf, committedOf, recordFor, Entry, enterRecord, enterBy, enter}
-use Rattle.journal_spec.specs.Model.{Verdict, taken, byNumber, byLog, firstTurned, verdictOf}
+use Rattle.journal_spec.specs.Model.{Verdict, taken, breakOf, byNumber, byLog, byBreak, firstTurned, verdictOf}
 use Rattle.journal_spec.specs.Model.{modelRefusal, modelAfter, modelAnswers}
-use Rattle.journal_spec.specs.Demand.{modelScan, bytesAt, recordMark, Agrees, Demand3From, Demand3}
+use Rattle.journal_spec.specs.Demand.{endOf, modelScan, bytesAt, recordMark, modelPart, modelMark, Agrees, Demand3From, Demand3}
 use Rattle.journal_spec.specs.Ranges.{RecordRanges, AllRanges}
 use Rattle.journal_spec.proofs.Reading.{by-order, reads-cut}
 use Rattle.journal_spec.proofs.Limits.{formulaBits, sample-known}
 use Rattle.journal_spec.proofs.SameRefusals.{same-refusal, same-record, same-length}
 use Rattle.journal_spec.proofs.Ranged.{passed, accepted-exactly, good-record, good-exactly, reads-back}
 use Rattle.journal_spec.proofs.Scanning.{Torn, last-form, follow-snoc, torn-none, records-snoc, placedFrom, recordsOf-placed, length-placed}
-use Rattle.journal_spec.proofs.Scanning.{contents-of}
-use Rattle.journal_spec.proofs.Placing.{written-length, written-take, written-drop, lengths-are, part-bytes, no-bytes, mark-placed, no-mark}
+use Rattle.journal_spec.proofs.Scanning.{unlessBroken, contents-of, plain-keeps}
+use Rattle.journal_spec.proofs.Placing.{written-length, written-take, written-drop, lengths-are, part-bytes, mark-placed}
 
 -- ---- a journal that holds what a model says
 
@@ -43,10 +46,11 @@ pub record Holds (room : ℕ) (j : Journal) (m : Model) : Type 0 where
   pub torn : Torn (m .records) (m .tail)
 
 module _ (room : ℕ) (j : Journal) (m : Model) (h : Holds room j m) where
-  pub held : contentsOf (j .slice) (j .len) ≡ standing (placedFrom 0 (m .records)) (committedOf m)
-  unfolding committedOf
-  held =
-      contents-of (j .slice) (j .len) (m .records) (m .tail) (omega (arith, h .slice, h .fits)) (h .most) (h .bytes)
+  pub held : (rule : Rule)
+      → contentsOf rule (j .slice) (j .len) ≡ unlessBroken (breakOf rule m) (standing (placedFrom 0 (m .records)) (committedOf m))
+  unfolding committedOf breakOf
+  held rule =
+      contents-of rule (j .slice) (j .len) (m .records) (m .tail) (omega (arith, h .slice, h .fits)) (h .most) (h .bytes)
       (h .len ∙ rw (lengths-are (m .records), length-append) refl) (h .follow) (h .torn)
       ∙ rw (lengths-are (m .records)) refl
 
@@ -58,21 +62,36 @@ module _ (room : ℕ) (j : Journal) (m : Model) (h : Holds room j m) where
       go zero e = eq-eqb (committedOf m) (j .len) (omega (arith, h .len)) ∙ sym (eq-eqb (length (m .tail)) 0 e)
       go (suc n) e = ne-eqb (committedOf m) (j .len) (λ x. omega (arith, h .len)) ∙ sym (ne-eqb (length (m .tail)) 0 (λ x. omega arith))
 
-  held-scan : scanOf (j .slice) (j .len) ≡ modelScan m
-  unfolding scanOf statusOf modelScan
-  held-scan = rw (held, length-placed, tail-test) refl
+  held-scan : (rule : Rule) → scanOf rule (j .slice) (j .len) ≡ modelScan rule m
+  unfolding scanOf modelScan
+  held-scan rule = rw (held rule) (go (breakOf rule m))
+    where
+      go : (b : Option ℕ) → statusOf (j .len) (unlessBroken b (standing (placedFrom 0 (m .records)) (committedOf m)))
+          ≡ elim b [ none ↦ endOf m | some at ↦ damaged profileRefusal at ]
+      go none = unfold unlessBroken statusOf endOf in rw (length-placed, tail-test) refl
+      go (some at) = unfold unlessBroken statusOf in refl
 
-  held-part : (i : ℕ) → readPart (j .slice) (j .len) i ≡ bytesAt (m .records) i
-  unfolding readPart partPlace partOf
-  held-part i =
-      rw held
-      (part-bytes (j .slice) 0 (m .records) (m .tail ++ drop (j .len) (j .slice))
-      (sym (take-append-drop (j .len) (j .slice)) ∙ rw (h .bytes, append-assoc) refl)
-      i)
+  held-part : (rule : Rule) (i : ℕ) → readPart rule (j .slice) (j .len) i ≡ modelPart rule m i
+  unfolding readPart partPlace modelPart
+  held-part rule i = rw (held rule) (go (breakOf rule m))
+    where
+      go : (b : Option ℕ) → partBytes (j .slice) (partOf (unlessBroken b (standing (placedFrom 0 (m .records)) (committedOf m))) i)
+          ≡ elim b [ none ↦ bytesAt (m .records) i | some at ↦ [] ]
+      go none =
+          unfold unlessBroken partOf in
+          part-bytes (j .slice) 0 (m .records) (m .tail ++ drop (j .len) (j .slice))
+          (sym (take-append-drop (j .len) (j .slice)) ∙ rw (h .bytes, append-assoc) refl)
+          i
+      go (some at) = unfold unlessBroken partOf partBytes noPart in refl
 
-  pub held-mark : (i : ℕ) → readMark (j .slice) (j .len) i ≡ recordMark (m .records) i
-  unfolding readMark markIn
-  held-mark i = rw held (mark-placed 0 (m .records) i)
+  held-mark : (rule : Rule) (i : ℕ) → readMark rule (j .slice) (j .len) i ≡ modelMark rule m i
+  unfolding readMark modelMark
+  held-mark rule i = rw (held rule) (go (breakOf rule m))
+    where
+      go : (b : Option ℕ) → markIn (unlessBroken b (standing (placedFrom 0 (m .records)) (committedOf m))) i
+          ≡ elim b [ none ↦ recordMark (m .records) i | some at ↦ unmarked profileRefusal ]
+      go none = unfold unlessBroken markIn in mark-placed 0 (m .records) i
+      go (some at) = unfold unlessBroken markIn in refl
 
   pub agrees : Agrees operations room j m
   unfolding operations
@@ -81,10 +100,23 @@ module _ (room : ℕ) (j : Journal) (m : Model) (h : Holds room j m) where
     len = h .len;
     bytes = h .bytes;
     scan = held-scan;
-    shown = λ i below. held-part i;
-    others = λ i above. held-part i ∙ no-bytes (m .records) i above;
-    absent = λ i above. held-mark i ∙ no-mark (m .records) i above;
+    part = held-part;
+    mark = held-mark;
   }
+
+-- by the plain rule the model's answers are those of its records
+module _ (m : Model) where
+  pub plain-scan : modelScan plain m ≡ endOf m
+  unfolding modelScan breakOf
+  plain-scan = rw (plain-keeps 0 (m .records), modelScan) refl
+
+  pub plain-part : (i : ℕ) → modelPart plain m i ≡ bytesAt (m .records) i
+  unfolding modelPart breakOf
+  plain-part i = rw (plain-keeps 0 (m .records), modelPart) refl
+
+  pub plain-mark : (i : ℕ) → modelMark plain m i ≡ recordMark (m .records) i
+  unfolding modelMark breakOf
+  plain-mark i = rw (plain-keeps 0 (m .records), modelMark) refl
 
 -- ---- what is written after the committed length
 
@@ -123,35 +155,38 @@ pub record Step (room : ℕ) (j : Journal) (out : Outcome) (entry : Entry) : Typ
   pub holds : Holds room (out .journal) (entry .model)
   pub beyond : drop (out .journal .len) (out .journal .slice) ≡ drop (out .journal .len) (j .slice)
 
-module _ (room : ℕ) (j : Journal) (m : Model) (h : Holds room j m) (o : Offer) (fits : IsDay (o .day)) (k : ℕ) where
+module _ (room : ℕ) (j : Journal) (m : Model) (h : Holds room j m) (q : Request) (fits : IsDay (q .day)) (k : ℕ) where
+  abbrev o : Offer
+  o = offerOf q
+
   abbrev bytes : List ℕ
   bytes = recordBytes (recordFor o)
 
   -- what append does with its first k bytes, and what the model enters
   abbrev Settled : Type 0
-  Settled = Step room j (settle (modelRefusal room m o) j (committedOf m) (take k (recordBytes (offered o))))
-      (enterBy (byNumber (modelRefusal room m o)) m (recordFor o) k)
+  Settled = Step room j (settle (modelRefusal room m q) j (committedOf m) (take k (recordBytes (offered o))))
+      (enterBy (byNumber (modelRefusal room m q)) m (recordFor o) k)
 
-  step-declined : (n : ℕ) → modelRefusal room m o ≡ suc n → Settled
+  step-declined : (n : ℕ) → modelRefusal room m q ≡ suc n → Settled
   unfolding byNumber enterBy settle unchanged
   step-declined n e = rw e (record { answer = refl; holds = h; beyond = refl })
 
-  module _ (e : modelRefusal room m o ≡ 0) where
+  module _ (e : modelRefusal room m q ≡ 0) where
     -- the offer is the model's record, which nothing refuses, and there is room for it
     good : RecordRanges (lastOf (m .records)) (recordFor o)
     unfolding recordFor formulaBits lastOf
     good =
-        let p = passed room m o e in
-        let a = accepted-exactly room m o .0 e in
+        let p = passed room m q e in
+        let a = accepted-exactly room m q .0 e in
         good-exactly (lastOf (m .records)) (recordFor o) .0
-        (good-record (lastOf (m .records)) (recordFor o) sample-known (last-form [] (m .records) (h .follow) (omega arith)) (a .day) fits (p .name)
-        (p .chances) (p .times) refl)
+        (good-record (lastOf (m .records)) (recordFor o) sample-known (last-form [] (m .records) (h .follow) (omega arith)) (a .offer .day)
+        (unfold offerOf in fits) (p .name) (p .chances) (p .times) refl)
 
     same : recordBytes (offered o) ≡ bytes
-    same = let p = passed room m o e in ap recordBytes (same-record o (p .chances) (p .times))
+    same = let p = passed room m q e in ap recordBytes (same-record o (p .chances) (p .times))
 
     room-for : committedOf m + length bytes ≤ min room maxLength
-    room-for = let a = accepted-exactly room m o .0 e in omega (arith, a .fitsSlice, a .fitsJournal)
+    room-for = let a = accepted-exactly room m q .0 e in omega (arith, a .fitsSlice, a .fitsJournal)
 
     -- the outcome where `new` is what is written, and the model's entry
     step-written : (new : List ℕ) (m′ : Model) → take k bytes ≡ new → length new ≤ length bytes
@@ -187,9 +222,9 @@ module _ (room : ℕ) (j : Journal) (m : Model) (h : Holds room j m) (o : Offer)
         })
 
   settled : Settled
-  settled = byRefusal (modelRefusal room m o) refl
+  settled = byRefusal (modelRefusal room m q) refl
     where
-      byRefusal : (n : ℕ) → modelRefusal room m o ≡ n → Settled
+      byRefusal : (n : ℕ) → modelRefusal room m q ≡ n → Settled
       byRefusal zero e = by-order (length bytes) k (step-finished e) (step-cut e)
       byRefusal (suc n) e = step-declined n e
 
@@ -198,28 +233,34 @@ unfolding firstTurned byNumber
 only-number zero = refl
 only-number (suc n) = refl
 
--- every call, by what its log comes to
+-- every call, by what its log and the records that stand come to
 module _ (room : ℕ) (j : Journal) (m : Model) (h : Holds room j m) (c : Call) where
-  abbrev q : Request
-  q = c .request
+  abbrev req : Request
+  req = c .request
 
-  abbrev o : Offer
-  o = offerOf q
+  abbrev taking : ℕ
+  taking = allowed (req .budget) (length (recordBytes (recordFor (offerOf req))))
 
-  abbrev entry : Verdict → Entry
-  entry v = enterBy v m (recordFor o) (allowed (q .budget) (length (recordBytes (recordFor o))))
+  -- what the model enters by its verdicts
+  abbrev entry : Verdict → Verdict → Verdict → Entry
+  entry u v w = enterBy (firstTurned (u ∷ v ∷ w ∷ [])) m (recordFor (offerOf req)) taking
 
-  step-with : (g : Gathered) → Step room j (appendWith g j q) (entry (firstTurned (byLog g ∷ byNumber (modelRefusal room m o) ∷ [])))
-  unfolding appendWith appendTo unchanged byLog firstTurned enterBy
+  step-standing : (b : Option ℕ)
+      → Step room j (appendTo (unlessBroken b (standing (placedFrom 0 (m .records)) (committedOf m))) j req) (entry taken (byBreak b) (byNumber (modelRefusal room m req)))
+  unfolding appendTo unlessBroken unchanged byBreak firstTurned enterBy
+  step-standing (some at) = record { answer = refl; holds = h; beyond = refl }
+  step-standing none =
+      rw (h .slice, same-refusal room m (placedFrom 0 (m .records)) req (recordsOf-placed 0 (m .records)), same-length (offerOf req), only-number)
+      (unfold enterBy in settled room j m h req (c .dayFits) taking)
+
+  step-with : (g : Gathered) → Step room j (appendWith g j req) (entry (byLog g) (byBreak (breakOf (req .rule) m)) (byNumber (modelRefusal room m req)))
+  unfolding appendWith unchanged byLog firstTurned enterBy
   step-with (misread n p) = record { answer = refl; holds = h; beyond = refl }
-  step-with (gathered ts) =
-      rw (held room j m h)
-      (rw (recordsOf-placed 0 (m .records), h .slice, same-refusal room m o, same-length o, only-number)
-      (settled room j m h o (unfold offerOf in c .dayFits) (allowed (q .budget) (length (recordBytes (recordFor o))))))
+  step-with (gathered ts) = rw (held room j m h (req .rule)) (step-standing (breakOf (req .rule) m))
 
   pub step : Step room j (perform operations j c) (enter room m c)
   unfolding perform operations enter appendOf verdictOf
-  step = step-with (timesOf q)
+  step = step-with (timesOf req)
 
 -- ---- every list
 

@@ -15,17 +15,19 @@ use Rattle.journal_spec.specs.Reader.{fault, run, then}
 use Rattle.journal_spec.specs.Section.{items, section, numberBytes, sectionBytes, itemsRefusal, sectionRefusal}
 use Rattle.journal_spec.specs.Record.{Record, lastOf, judgeForm, judgeDay, nameSection, lastChance, judgeChance, chanceSection, timeSection}
 use Rattle.journal_spec.specs.Record.{limitSection, recordReader, recordBytes, recordsBytes}
-use Rattle.journal_spec.specs.Scan.{recordsOf, contentsFrom, contentsOf, whole, torn, damaged, statusOf, scanOf}
+use Rattle.journal_spec.specs.Profile.{plain, profile, inProfile, keeps}
+use Rattle.journal_spec.specs.Scan.{recordsOf, judged, recordAt, contentsFrom, contentsOf, whole, torn, damaged, statusOf, scanOf}
 use Rattle.journal_spec.specs.Read.{flat, few, normal, letterOf, allEqual, areEqual, markFrom, markOf}
 use Rattle.journal_spec.specs.Tests.{each, same, nameGood}
 use Rattle.journal_spec.specs.Log.{begin, linesOf, nameIn, digitsIn, digitsGood, decimalFrom, ticksIn, lineGood, Gathered, gathered, misread}
 use Rattle.journal_spec.specs.Log.{takeLine, gatherFrom, gatherOf}
 use Rattle.journal_spec.specs.Request.{all, times, log, Request, gatherBy, timesOf, timesIn, offerOf, declined, declinedAt}
 use Rattle.journal_spec.specs.Request as R
-use Rattle.journal_spec.specs.Append.{judgeEven, appendRefusal, unchanged, settle, appendTo, appendWith, appendOf}
-use Rattle.journal_spec.specs.Model.{workedOut}
+use Rattle.journal_spec.specs.Append.{judgeEven, appendRefusals, unchanged, settle, appendTo, appendWith, appendOf}
+use Rattle.journal_spec.specs.Model.{breakFrom, workedOut}
 use Rattle.journal_spec.specs.Ranges.{RecordRanges}
 use Rattle.journal_spec.proofs.EvenChance.{worked-plain}
+use Rattle.journal_spec.proofs.Scanning.{unlessBroken, contents-of, torn-none}
 use Rattle.journal_spec.proofs.Format.{whole-scan, torn-scan}
 
 -- ---- numbers
@@ -70,9 +72,9 @@ hundred-bits : toBits binary64 (ofBits binary64 0x4059_0000_0000_0000) ≡ 0x405
 unfolding ofBits toBits
 hundred-bits = refl
 
-keeps : RecordRanges (lastOf []) theRecord
+in-range : RecordRanges (lastOf []) theRecord
 unfolding theRecord lastOf
-keeps = record {
+in-range = record {
   form = (omega arith, omega arith);
   forms = omega arith;
   day = omega arith;
@@ -103,37 +105,46 @@ keeps = record {
     bits (suc i) k = absurd (omega arith)
 
 -- the example is whole, with one record and 33 bytes
-pub whole-example : scanOf theBytes 33 ≡ whole 1 33
+pub whole-example : scanOf plain theBytes 33 ≡ whole 1 33
 unfolding theBytes recordsBytes joined
 whole-example =
     let all : recordsBytes (theRecord ∷ []) ≡ theBytes = append-nil (recordBytes theRecord) ∙ encoded in
-    whole-scan theBytes 33 (theRecord ∷ []) (keeps, tt) (omega arith) (omega arith) (sym all) ∙ rw all refl
+    whole-scan theBytes 33 (theRecord ∷ []) (in-range, tt) (omega arith) (omega arith) (sym all) ∙ rw all refl
+
+-- it is no record of the profile
+pub profile-example : scanOf profile theBytes 33 ≡ damaged 19 0
+unfolding theBytes scanOf recordsBytes joined
+profile-example =
+    let all : recordsBytes (theRecord ∷ []) ≡ theBytes = append-nil (recordBytes theRecord) ∙ encoded in
+    rw (contents-of profile theBytes 33 (theRecord ∷ []) [] (omega arith) (omega arith) (sym (append-nil _ ∙ all))
+    (ap length (sym (append-nil _ ∙ all))) (in-range, tt) (torn-none (theRecord ∷ [])))
+    (unfold breakFrom keeps inProfile theRecord same unlessBroken statusOf in refl)
 
 -- cut to 32 bytes it is torn, with none
-pub cut-example : scanOf theBytes 32 ≡ torn 0 0
+pub cut-example : scanOf plain theBytes 32 ≡ torn 0 0
 unfolding theBytes recordsBytes joined
 cut-example =
-    torn-scan theBytes 32 [] theRecord 32 tt keeps (omega arith) (rw encoded (omega arith)) (omega arith) (omega arith)
+    torn-scan theBytes 32 [] theRecord 32 tt in-range (omega arith) (rw encoded (omega arith)) (omega arith) (omega arith)
     (ap (take 32) (sym encoded))
 
 -- the same, computed, where no limit stands
-pub cut-early : scanOf theBytes 25 ≡ torn 0 0
-unfolding theBytes scanOf statusOf contentsOf contentsFrom recordsOf lastOf recordReader run then section items valueOf
+pub cut-early : scanOf plain theBytes 25 ≡ torn 0 0
+unfolding theBytes scanOf statusOf contentsOf contentsFrom recordAt judged keeps recordsOf lastOf recordReader run then section items valueOf
     judgeForm formKnown judgeDay nameSection chanceSection judgeChance chanceInRange lastChance timeSection limitSection outside
     unless firstOf inRange
 cut-early = refl
 
-pub empty-whole : scanOf theBytes 0 ≡ whole 0 0
+pub empty-whole : scanOf plain theBytes 0 ≡ whole 0 0
 unfolding theBytes scanOf statusOf contentsOf contentsFrom
 empty-whole = refl
 
 -- ---- faults and their places
 
 abbrev fault-at : List ℕ → ℕ → ℕ → Type 0
-fault-at bytes number place = scanOf bytes (length bytes) ≡ damaged number place
+fault-at bytes number place = scanOf plain bytes (length bytes) ≡ damaged number place
 
 pub record Faults : Type 0 where
-  pub beyond : scanOf theBytes 34 ≡ damaged 1 0
+  pub beyond : scanOf plain theBytes 34 ≡ damaged 1 0
   pub form : fault-at (set theBytes 0 3) 2 0
   pub nameCount : fault-at (set theBytes 4 0) 4 4
   pub nameLong : fault-at (set theBytes 4 33) 4 4
@@ -147,7 +158,7 @@ pub record Faults : Type 0 where
   pub limitCount : fault-at (set theBytes 23 2) 7 23
 
 pub faults : Faults
-unfolding theBytes scanOf statusOf contentsOf contentsFrom recordsOf lastOf recordReader run then section items valueOf
+unfolding theBytes scanOf statusOf contentsOf contentsFrom recordAt judged keeps recordsOf lastOf recordReader run then section items valueOf
     judgeForm formKnown judgeDay nameSection chanceSection judgeChance chanceInRange lastChance timeSection limitSection outside
     unless firstOf inRange
 faults = record {
@@ -174,11 +185,11 @@ old-form = refl
 
 -- an offer of which nothing is right, made better from the front
 abbrev offer : List ℕ → List ℕ → List ℕ → Request
-offer name chances ts = record { day = 1; name = name; chances = chances; source = times ts; budget = all }
+offer name chances ts = record { day = 1; name = name; chances = chances; source = times ts; budget = all; rule = plain }
 
 -- the same with nothing wrong but what a log brings
 abbrev through : List ℕ → Request
-through bytes = record { day = 1; name = 0x41 ∷ []; chances = 1 ∷ 500_000 ∷ []; source = log bytes; budget = all }
+through bytes = record { day = 1; name = 0x41 ∷ []; chances = 1 ∷ 500_000 ∷ []; source = log bytes; budget = all; rule = plain }
 
 abbrev declined-by : Request → ℕ → Type 0
 declined-by q n = appendOf (record { slice = theBytes; len = 0 }) q .answer ≡ declined n
@@ -196,8 +207,8 @@ pub record Declined : Type 0 where
 
 pub declines : Declined
 unfolding theBytes appendOf appendWith timesOf gatherBy timesIn gatherOf gatherFrom takeLine linesOf begin lineGood nameGood digitsGood each
-    nameIn digitsIn ticksIn decimalFrom same appendTo settle unchanged appendRefusal judgeEven firstOf sectionRefusal offerOf
-    itemsRefusal contentsOf contentsFrom recordsOf lastOf recordReader run then section items valueOf judgeForm formKnown judgeDay
+    nameIn digitsIn ticksIn decimalFrom same appendTo settle unchanged appendRefusals judgeEven firstOf sectionRefusal offerOf
+    itemsRefusal contentsOf contentsFrom recordAt judged keeps recordsOf lastOf recordReader run then section items valueOf judgeForm formKnown judgeDay
     nameSection chanceSection judgeChance chanceInRange lastChance timeSection limitSection outside unless inRange
 declines = record {
   damage = refl;

@@ -12,17 +12,18 @@ use lib.Seq.{append-snoc, length-take-le}
 use lib.Dec.{leb, eqb}
 use borrow.Author.Tests.{leb-true, leb-false, eqb-true, eqb-false}
 use Rattle.journal_spec.specs.Bytes.{AreBytes, joined}
-use Rattle.journal_spec.specs.Reader.{Found, found, fault, short, run}
-use Rattle.journal_spec.specs.Record.{Record, lastOf, recordReader, recordBytes, recordsBytes}
-use Rattle.journal_spec.specs.Scan.{maxLength, Placed, recordsOf, Contents, standing, faulty, contentsFrom, contentsOf, whole, torn, statusOf}
-use Rattle.journal_spec.specs.Scan.{scanOf}
+use Rattle.journal_spec.specs.Reader.{Found, found, fault, short}
+use Rattle.journal_spec.specs.Record.{Record, lastOf, recordBytes, recordsBytes}
+use Rattle.journal_spec.specs.Scan.{maxLength, Placed, recordsOf, Contents, standing, faulty, recordAt, contentsFrom, contentsOf, whole, torn}
+use Rattle.journal_spec.specs.Scan.{statusOf, scanOf}
+use Rattle.journal_spec.specs.Profile.{plain}
 use Rattle.journal_spec.proofs.Numbers.{bytes-take}
 use Rattle.journal_spec.proofs.Reading.{short-anywhere}
 use Rattle.journal_spec.specs.Ranges.{AllRanges}
 use Rattle.journal_spec.proofs.Records.{RecordRead, record-read, record-length}
 use Rattle.journal_spec.proofs.Ranged.{good-exactly}
 use Rattle.journal_spec.proofs.Scanning.{Torn, torn-none, placedFrom, length-placed, recordsOf-snoc, turn-short, turn-fault}
-use Rattle.journal_spec.proofs.Scanning.{turn-found, contents-fits, contents-long}
+use Rattle.journal_spec.proofs.Scanning.{found-at, short-at, turn-found, contents-fits, contents-long}
 
 -- the bytes from the place `at` on, after the records of ps: further records, each in its place, and a torn tail
 pub record Explained (ps : List Placed) (at : ℕ) (bs : List ℕ) (qs : List Placed) (committed : ℕ) : Type 0 where
@@ -78,28 +79,28 @@ goes-on ps at bs r e rest qs c read x =
 
 -- one turn of the scan, by what the record's reader finds; the turns after it are explained
 module _ (more : ℕ) (qs : List Placed) (c : ℕ)
-    (later : (ps : List Placed) (at : ℕ) (bs : List ℕ) → AreBytes bs → length bs ≤ more → contentsFrom more ps at bs ≡ standing qs c → Explained ps at bs qs c)
-    (ps : List Placed) (at : ℕ) (bs : List ℕ) (b : AreBytes bs) (n : length bs ≤ suc more) (h : contentsFrom (suc more) ps at bs ≡ standing qs c) where
-  one-turn : (f : Found Record) → run (recordReader (lastOf (recordsOf ps))) at bs ≡ f → Explained ps at bs qs c
+    (later : (ps : List Placed) (at : ℕ) (bs : List ℕ) → AreBytes bs → length bs ≤ more → contentsFrom plain more ps at bs ≡ standing qs c → Explained ps at bs qs c)
+    (ps : List Placed) (at : ℕ) (bs : List ℕ) (b : AreBytes bs) (n : length bs ≤ suc more) (h : contentsFrom plain (suc more) ps at bs ≡ standing qs c) where
+  one-turn : (f : Found Record) → recordAt plain (lastOf (recordsOf ps)) at bs ≡ f → Explained ps at bs qs c
   one-turn (found r e rest) ran =
-      let read = record-read (lastOf (recordsOf ps)) at bs r e rest b ran in
+      let read = record-read (lastOf (recordsOf ps)) at bs r e rest b (found-at plain (lastOf (recordsOf ps)) at bs r e rest ran .0) in
       let size = record-length (lastOf (recordsOf ps)) r (read .good) in
       let count : length bs ≡ length (recordBytes r) + length rest = ap length (read .bytes) ∙ length-append (recordBytes r) rest in
       let z : suc more - 1 ≡ more = omega arith in
       goes-on ps at bs r e rest qs c read
       (later (ps ++ record { content = r; start = at; size = e - at } ∷ []) e rest (read .left) (omega (arith, size, count))
-      (rw z at (sym (turn-found (suc more) ps at bs r e rest ran (omega arith)) ∙ h)))
-  one-turn (fault m p) ran = absurd (standing-not-faulty (sym (turn-fault (suc more) ps at bs m p ran (omega arith)) ∙ h))
+      (rw z at (sym (turn-found plain (suc more) ps at bs r e rest ran (omega arith)) ∙ h)))
+  one-turn (fault m p) ran = absurd (standing-not-faulty (sym (turn-fault plain (suc more) ps at bs m p ran (omega arith)) ∙ h))
   one-turn short ran =
-      stops ps at bs qs c (record { runsOut = λ place. short-anywhere _ at place bs ran })
-      (sym (turn-short (suc more) ps at bs ran) ∙ h)
+      stops ps at bs qs c (record { runsOut = λ place. short-anywhere _ at place bs (short-at plain (lastOf (recordsOf ps)) at bs ran) })
+      (sym (turn-short plain (suc more) ps at bs ran) ∙ h)
 
 pub explained-from : (more : ℕ) (qs : List Placed) (c : ℕ) (ps : List Placed) (at : ℕ) (bs : List ℕ) → AreBytes bs → length bs ≤ more
-    → contentsFrom more ps at bs ≡ standing qs c → Explained ps at bs qs c
+    → contentsFrom plain more ps at bs ≡ standing qs c → Explained ps at bs qs c
 explained-from zero qs c ps at [] b n h = unfold contentsFrom in stops ps at [] qs c (torn-none (recordsOf ps)) h
 explained-from zero qs c ps at (x ∷ bs) b n h = absurd (omega arith)
 explained-from (suc more) qs c ps at bs b n h =
-    one-turn more qs c (explained-from more qs c) ps at bs b n h (run (recordReader (lastOf (recordsOf ps))) at bs) refl
+    one-turn more qs c (explained-from more qs c) ps at bs b n h (recordAt plain (lastOf (recordsOf ps)) at bs) refl
 
 -- ---- a slice
 
@@ -116,16 +117,16 @@ pub record Holding (slice : List ℕ) (len : ℕ) (ps : List Placed) (committed 
   pub torn : Torn records tail
 
 pub holding : (slice : List ℕ) (len : ℕ) (ps : List Placed) (committed : ℕ) → AreBytes slice
-    → contentsOf slice len ≡ standing ps committed → Holding slice len ps committed
+    → contentsOf plain slice len ≡ standing ps committed → Holding slice len ps committed
 unfolding recordsOf
 holding slice len ps committed b h = go (leb len (min (length slice) maxLength)) refl
   where
     go : (t : Bool) → leb len (min (length slice) maxLength) ≡ t → Holding slice len ps committed
-    go false e = absurd (standing-not-faulty (sym (contents-long slice len (leb-false len (min (length slice) maxLength) e)) ∙ h))
+    go false e = absurd (standing-not-faulty (sym (contents-long plain slice len (leb-false len (min (length slice) maxLength) e)) ∙ h))
     go true e =
         let k = leb-true len (min (length slice) maxLength) e in
         let x = explained-from len ps committed [] 0 (take len slice) (bytes-take len slice b) (rw length-take (omega arith))
-        (sym (contents-fits slice len (omega arith) (omega arith)) ∙ h) in
+        (sym (contents-fits plain slice len (omega arith) (omega arith)) ∙ h) in
         record {
           records = x .records;
           tail = x .tail;
@@ -174,11 +175,11 @@ nothing [] h = refl
 nothing (x ∷ l) h = absurd (omega arith)
 
 -- scan says whole: the bytes up to the length are the records' encodings and nothing else
-pub whole-explained : (slice : List ℕ) (len n c : ℕ) → AreBytes slice → scanOf slice len ≡ whole n c → Accepts slice len n c [] × (c ≡ len)
+pub whole-explained : (slice : List ℕ) (len n c : ℕ) → AreBytes slice → scanOf plain slice len ≡ whole n c → Accepts slice len n c [] × (c ≡ len)
 unfolding scanOf statusOf
-whole-explained slice len n c b h = go (contentsOf slice len) refl h
+whole-explained slice len n c b h = go (contentsOf plain slice len) refl h
   where
-    go : (x : Contents) → contentsOf slice len ≡ x → statusOf len x ≡ whole n c → Accepts slice len n c [] × (c ≡ len)
+    go : (x : Contents) → contentsOf plain slice len ≡ x → statusOf len x ≡ whole n c → Accepts slice len n c [] × (c ≡ len)
     go (faulty m p) e h = let z : _≡_ {A = ℕ} 0 1 = cc in absurd (omega arith)
     go (standing ps committed) e h = byTest (eqb committed len) refl h
       where
@@ -194,12 +195,12 @@ whole-explained slice len n c b h = go (contentsOf slice len) refl h
             (accepts slice len ps committed n c [] x number upto none, sym upto ∙ all)
 
 -- scan says torn: they are the records' encodings and then a torn tail that is not empty
-pub torn-explained : (slice : List ℕ) (len n c : ℕ) → AreBytes slice → scanOf slice len ≡ torn n c
+pub torn-explained : (slice : List ℕ) (len n c : ℕ) → AreBytes slice → scanOf plain slice len ≡ torn n c
     → (tail : List ℕ) × (0 < length tail) × Accepts slice len n c tail
 unfolding scanOf statusOf
-torn-explained slice len n c b h = go (contentsOf slice len) refl h
+torn-explained slice len n c b h = go (contentsOf plain slice len) refl h
   where
-    go : (x : Contents) → contentsOf slice len ≡ x → statusOf len x ≡ torn n c → (tail : List ℕ) × (0 < length tail) × Accepts slice len n c tail
+    go : (x : Contents) → contentsOf plain slice len ≡ x → statusOf len x ≡ torn n c → (tail : List ℕ) × (0 < length tail) × Accepts slice len n c tail
     go (faulty m p) e h = let z : _≡_ {A = ℕ} 0 1 = cc in absurd (omega arith)
     go (standing ps committed) e h = byTest (eqb committed len) refl h
       where

@@ -10,11 +10,12 @@ use borrow.Author.Tests.{eq-eqb, ne-eqb}
 use Rattle.journal_spec.specs.Bytes.{AreBytes}
 use Rattle.journal_spec.specs.Reader.{found, short, run}
 use Rattle.journal_spec.specs.Record.{Record, Last, lastOf, recordReader, recordBytes, recordsBytes}
+use Rattle.journal_spec.specs.Profile.{plain}
 use Rattle.journal_spec.specs.Scan.{maxLength, whole, torn, statusOf, scanOf}
 use Rattle.journal_spec.specs.Ranges.{RecordRanges, AllRanges}
 use Rattle.journal_spec.proofs.Reading.{reads-cut}
 use Rattle.journal_spec.proofs.Ranged.{reads-back}
-use Rattle.journal_spec.proofs.Scanning.{Torn, torn-none, length-placed, contents-of}
+use Rattle.journal_spec.proofs.Scanning.{Torn, torn-none, length-placed, plain-contents}
 use Rattle.journal_spec.proofs.Explained.{whole-explained, torn-explained}
 
 -- ---- one record
@@ -32,23 +33,23 @@ module _ (last : Last) (r : Record) (keeps : RecordRanges last r) where
 
 -- records end to end are whole, with their number and their length
 pub whole-scan : (slice : List ℕ) (len : ℕ) (rs : List Record) → AllRanges [] rs → len ≤ length slice → len ≤ maxLength
-    → take len slice ≡ recordsBytes rs → scanOf slice len ≡ whole (length rs) (length (recordsBytes rs))
+    → take len slice ≡ recordsBytes rs → scanOf plain slice len ≡ whole (length rs) (length (recordsBytes rs))
 unfolding scanOf statusOf
 whole-scan slice len rs keeps fits most bytes =
     let n : len ≡ length (recordsBytes rs) = sym (length-take-le len slice fits) ∙ ap length bytes in
-    let c = contents-of slice len rs [] fits most (bytes ∙ sym (append-nil (recordsBytes rs))) (n ∙ rw append-nil refl) keeps (torn-none rs) in
+    let c = plain-contents slice len rs [] fits most (bytes ∙ sym (append-nil (recordsBytes rs))) (n ∙ rw append-nil refl) keeps (torn-none rs) in
     rw (c, length-placed, eq-eqb (length (recordsBytes rs)) len (sym n)) refl
 
 -- the first k bytes of one more record, neither none nor all, leave the journal torn with the records before and their length
 pub torn-scan : (slice : List ℕ) (len : ℕ) (rs : List Record) (r : Record) (k : ℕ) → AllRanges [] rs → RecordRanges (lastOf rs) r
     → 0 < k → k < length (recordBytes r) → len ≤ length slice → len ≤ maxLength
-    → take len slice ≡ recordsBytes rs ++ take k (recordBytes r) → scanOf slice len ≡ torn (length rs) (length (recordsBytes rs))
+    → take len slice ≡ recordsBytes rs ++ take k (recordBytes r) → scanOf plain slice len ≡ torn (length rs) (length (recordsBytes rs))
 unfolding scanOf statusOf
 torn-scan slice len rs r k keeps one pos less fits most bytes =
     let n : len ≡ length (recordsBytes rs ++ take k (recordBytes r)) = sym (length-take-le len slice fits) ∙ ap length bytes in
     let m : length (take k (recordBytes r)) ≡ k = length-take-le k (recordBytes r) (omega arith) in
     let t : Torn rs (take k (recordBytes r)) = record { runsOut = λ at. encoding-cut (lastOf rs) r one at k less } in
-    let c = contents-of slice len rs (take k (recordBytes r)) fits most bytes n keeps t in
+    let c = plain-contents slice len rs (take k (recordBytes r)) fits most bytes n keeps t in
     let differs : length (recordsBytes rs) ≡ len → ⊥ =
     λ e. omega (arith, e, n, length-append (recordsBytes rs) (take k (recordBytes r)), m) in
     rw (c, length-placed, ne-eqb (length (recordsBytes rs)) len differs) refl
@@ -61,7 +62,7 @@ pub record WholeMeans (slice : List ℕ) (len n committed : ℕ) : Type 0 where
   pub bytes : take len slice ≡ recordsBytes records
   pub all : committed ≡ len
 
-pub whole-means : (slice : List ℕ) (len n committed : ℕ) → AreBytes slice → scanOf slice len ≡ whole n committed → WholeMeans slice len n committed
+pub whole-means : (slice : List ℕ) (len n committed : ℕ) → AreBytes slice → scanOf plain slice len ≡ whole n committed → WholeMeans slice len n committed
 whole-means slice len n committed b h =
     let w = whole-explained slice len n committed b h in
     record {
@@ -83,7 +84,7 @@ pub record TornMeans (slice : List ℕ) (len n committed : ℕ) : Type 0 where
   pub some : 0 < length tail
   pub runsOut : (at : ℕ) → run (recordReader (lastOf records)) at tail ≡ short
 
-pub torn-means : (slice : List ℕ) (len n committed : ℕ) → AreBytes slice → scanOf slice len ≡ torn n committed → TornMeans slice len n committed
+pub torn-means : (slice : List ℕ) (len n committed : ℕ) → AreBytes slice → scanOf plain slice len ≡ torn n committed → TornMeans slice len n committed
 torn-means slice len n committed b h =
     let w = torn-explained slice len n committed b h in
     record {

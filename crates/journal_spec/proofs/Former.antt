@@ -23,6 +23,7 @@ use Rattle.journal_spec.specs.Section.{section}
 use Rattle.journal_spec.specs.Record.{Record, Last, lastOf, judgeForm, judgeDay, nameSection, chanceSection, timeSection, limitSection}
 use Rattle.journal_spec.specs.Record.{recordReader, recordBytes, recordsBytes}
 use Rattle.journal_spec.specs.Stages.{dayStage, nameStage, chanceStage, timeStage, limitStage}
+use Rattle.journal_spec.specs.Profile.{plain, keeps}
 use Rattle.journal_spec.specs.Scan.{maxLength, Placed, recordsOf, Contents, standing, faulty, contentsFrom, contentsOf}
 use Rattle.journal_spec.specs.Ranges.{AllRanges}
 use Rattle.journal_spec.specs.Former.{heldFrom, heldBy, formerForm, formerReader, formerContents, StopsAtSample}
@@ -30,7 +31,7 @@ use Rattle.journal_spec.proofs.Judging.{unless-none}
 use Rattle.journal_spec.proofs.Reading.{field-short, field-good, field-fault, field-cases, field-found, by-order, then-found, run-left}
 use Rattle.journal_spec.proofs.Records.{by-stages}
 use Rattle.journal_spec.proofs.Ranged.{reads-back}
-use Rattle.journal_spec.proofs.Scanning.{lastOf-snoc, recordsOf-snoc, records-count}
+use Rattle.journal_spec.proofs.Scanning.{lastOf-snoc, recordsOf-snoc, records-count, at-found, at-fault, at-short}
 
 -- ---- one record
 
@@ -114,15 +115,16 @@ module _ (more : ℕ) (b : List ℕ) where
   -- what is said of the records after one more
   abbrev Later : Type 0
   Later = (ps : List Placed) (at : ℕ) → lastOf (recordsOf ps) .form ≤ plainForm
-      → Compared b (heldFrom formerReader more ps at (drop at b)) (contentsFrom more ps at (drop at b))
+      → Compared b (heldFrom formerReader more ps at (drop at b)) (contentsFrom plain more ps at (drop at b))
 
   module _ (later : Later) (ps : List Placed) (at : ℕ) where
     by-found : (f : Found Record) → run (formerReader (lastOf (recordsOf ps))) at (drop at b) ≡ f
         → run (recordReader (lastOf (recordsOf ps))) at (drop at b) ≡ f
-        → Compared b (heldFrom formerReader (suc more) ps at (drop at b)) (contentsFrom (suc more) ps at (drop at b))
+        → Compared b (heldFrom formerReader (suc more) ps at (drop at b)) (contentsFrom plain (suc more) ps at (drop at b))
     unfolding heldFrom contentsFrom
-    by-found (fault n p) e d = rw (e, heldFrom) (rw (d, contentsFrom) (record { is = inl refl }))
-    by-found short e d = rw (e, heldFrom) (rw (d, contentsFrom) (record { is = inl refl }))
+    by-found (fault n p) e d =
+        rw (e, heldFrom) (rw (at-fault plain (lastOf (recordsOf ps)) at (drop at b) n p d, contentsFrom) (record { is = inl refl }))
+    by-found short e d = rw (e, heldFrom) (rw (at-short plain (lastOf (recordsOf ps)) at (drop at b) d, contentsFrom) (record { is = inl refl }))
     by-found (found r next rest) e d =
         let l = run-left (formerReader (lastOf (recordsOf ps))) at (drop at b) r next rest e in
         let p : Placed = record { content = r; start = at; size = next - at } in
@@ -130,10 +132,11 @@ module _ (more : ℕ) (b : List ℕ) where
         let left : rest ≡ drop next b = l .same ∙ drop-drop (next - at) at b ∙ ap (λ (k : ℕ). drop k b) way in
         let low : lastOf (recordsOf (ps ++ p ∷ [])) .form ≤ plainForm =
         rw (recordsOf-snoc ps p, lastOf-snoc (recordsOf ps) r) (omega (arith, former-found (lastOf (recordsOf ps)) at (drop at b) r next rest e)) in
-        rw (e, heldFrom) (rw (d, contentsFrom) (rw left (later (ps ++ p ∷ []) next low)))
+        let own = at-found plain (lastOf (recordsOf ps)) at (drop at b) r next rest d (unfold keeps in refl) in
+        rw (e, heldFrom) (rw (own, contentsFrom) (rw left (later (ps ++ p ∷ []) next low)))
 
     one-more : lastOf (recordsOf ps) .form ≤ plainForm
-        → Compared b (heldFrom formerReader (suc more) ps at (drop at b)) (contentsFrom (suc more) ps at (drop at b))
+        → Compared b (heldFrom formerReader (suc more) ps at (drop at b)) (contentsFrom plain (suc more) ps at (drop at b))
     one-more low =
         let last = lastOf (recordsOf ps) in
         let v = valueOf (take 2 (drop at b)) in
@@ -142,7 +145,7 @@ module _ (more : ℕ) (b : List ℕ) where
         (λ few. by-found (run (recordReader last) at (drop at b)) (former-short last at (drop at b) few) refl)
       where
         by-form : 2 ≤ length (drop at b) → (t : Bool) → eqb (valueOf (take 2 (drop at b))) sampleForm ≡ t
-            → Compared b (heldFrom formerReader (suc more) ps at (drop at b)) (contentsFrom (suc more) ps at (drop at b))
+            → Compared b (heldFrom formerReader (suc more) ps at (drop at b)) (contentsFrom plain (suc more) ps at (drop at b))
         by-form enough true e = unfold heldFrom numberAt in
             let two = eqb-true (valueOf (take 2 (drop at b))) sampleForm e in
             record { is = inr (at, two, rw (former-stops (lastOf (recordsOf ps)) at (drop at b) enough two, heldFrom) refl) }
@@ -151,7 +154,7 @@ module _ (more : ℕ) (b : List ℕ) where
             (former-same (lastOf (recordsOf ps)) at (drop at b) low (eqb-false (valueOf (take 2 (drop at b))) sampleForm e)) refl
 
 compared : (more : ℕ) (b : List ℕ) (ps : List Placed) (at : ℕ) → lastOf (recordsOf ps) .form ≤ plainForm
-    → Compared b (heldFrom formerReader more ps at (drop at b)) (contentsFrom more ps at (drop at b))
+    → Compared b (heldFrom formerReader more ps at (drop at b)) (contentsFrom plain more ps at (drop at b))
 compared zero b ps at low = unfold heldFrom contentsFrom in record { is = inl refl }
 compared (suc more) b ps at low = one-more more b (compared more b) ps at low
 
@@ -161,11 +164,11 @@ former-fits : (slice : List ℕ) (len : ℕ) → leb len (min (length slice) max
 unfolding heldBy formerContents
 former-fits slice len e = rw e refl
 
-own-fits : (slice : List ℕ) (len : ℕ) → leb len (min (length slice) maxLength) ≡ true → contentsOf slice len ≡ contentsFrom len [] 0 (take len slice)
+own-fits : (slice : List ℕ) (len : ℕ) → leb len (min (length slice) maxLength) ≡ true → contentsOf plain slice len ≡ contentsFrom plain len [] 0 (take len slice)
 unfolding contentsOf
 own-fits slice len e = rw e refl
 
-both-long : (slice : List ℕ) (len : ℕ) → leb len (min (length slice) maxLength) ≡ false → formerContents slice len ≡ contentsOf slice len
+both-long : (slice : List ℕ) (len : ℕ) → leb len (min (length slice) maxLength) ≡ false → formerContents slice len ≡ contentsOf plain slice len
 unfolding heldBy formerContents contentsOf
 both-long slice len e = rw e refl
 
@@ -174,10 +177,10 @@ unfolding lastOf recordsOf
 no-records = omega arith
 
 -- Whatever the bytes: the former reader holds what the journal's own does, or it stops at a form 2.
-pub former-journal : (slice : List ℕ) (len : ℕ) → (formerContents slice len ≡ contentsOf slice len) ⊎ StopsAtSample slice len
+pub former-journal : (slice : List ℕ) (len : ℕ) → (formerContents slice len ≡ contentsOf plain slice len) ⊎ StopsAtSample slice len
 former-journal slice len = go (leb len (min (length slice) maxLength)) refl
   where
-    go : (t : Bool) → leb len (min (length slice) maxLength) ≡ t → (formerContents slice len ≡ contentsOf slice len) ⊎ StopsAtSample slice len
+    go : (t : Bool) → leb len (min (length slice) maxLength) ≡ t → (formerContents slice len ≡ contentsOf plain slice len) ⊎ StopsAtSample slice len
     go false e = inl (both-long slice len e)
     go true e =
         ⊎-elim
@@ -187,7 +190,7 @@ former-journal slice len = go (leb len (min (length slice) maxLength)) refl
 
 -- What was read before form 2 reads the same: the same records at the same places, with the same committed length.
 pub reads-as-before : (slice : List ℕ) (len : ℕ) (ps : List Placed) (committed : ℕ)
-    → formerContents slice len ≡ standing ps committed → contentsOf slice len ≡ standing ps committed
+    → formerContents slice len ≡ standing ps committed → contentsOf plain slice len ≡ standing ps committed
 reads-as-before slice len ps committed h =
     ⊎-elim
     (λ same. sym same ∙ h)
@@ -229,9 +232,9 @@ module _ (rest : List ℕ) (enough : 2 ≤ length rest) (two : valueOf (take 2 r
   pub former-refuses : (slice : List ℕ) (len : ℕ) (rs : List Record) → len ≤ length slice → len ≤ maxLength → take len slice ≡ recordsBytes rs ++ rest
       → AllRanges [] rs → AllPlain rs → formerContents slice len ≡ faulty formRefusal (length (recordsBytes rs))
   unfolding recordsOf
-  former-refuses slice len rs fits most bytes keeps plain =
+  former-refuses slice len rs fits most bytes keeps alone =
       let n : len ≡ length (recordsBytes rs) + length rest =
       sym (length-take-le len slice fits) ∙ ap length bytes ∙ length-append (recordsBytes rs) rest in
       former-fits slice len (le-leb len (min (length slice) maxLength) (omega arith))
       ∙ rw bytes
-      (stops-from len [] rs 0 keeps plain no-records (omega (arith, n, records-count [] rs keeps)) ∙ rw zero-add refl)
+      (stops-from len [] rs 0 keeps alone no-records (omega (arith, n, records-count [] rs keeps)) ∙ rw zero-add refl)

@@ -14,6 +14,7 @@ pub mod SameRefusals
 pub mod Ranged
 -- scan and append
 pub mod Scanning
+pub mod Profiles
 pub mod Explained
 pub mod Independent
 pub mod Format

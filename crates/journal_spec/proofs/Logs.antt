@@ -16,11 +16,12 @@ use Rattle.limit.specs.Times.{maxCount}
 use Rattle.limit.proofs.InRange as R
 use Rattle.journal_spec.specs.Refusals.{lineRefusal, manyRefusal}
 use Rattle.journal_spec.specs.Tests.{same, nameGood}
-use Rattle.journal_spec.specs.Scan.{contentsOf}
+use Rattle.journal_spec.specs.Scan.{Contents, standing, faulty, contentsOf}
 use Rattle.journal_spec.specs.Log.{newline, Lines, rest, line, linesOf, nameIn, digitsIn, decimalFrom, ticksIn, lineGood}
 use Rattle.journal_spec.specs.Log.{Gathered, gathered, misread, takeLine, gatherFrom, gatherOf}
-use Rattle.journal_spec.specs.Request.{Journal, times, Request, Offer, gatherBy, timesOf, timesIn, offerOf, declinedAt}
-use Rattle.journal_spec.specs.Append.{unchanged, appendTo, appendWith, appendOf}
+use Rattle.journal_spec.specs.Request.{Journal, times, Request, gatherBy, timesOf, timesIn, offerOf, declinedAt}
+use Rattle.journal_spec.specs.Append.{unchanged, appendRefusals, appendTo, appendWith, appendOf}
+use Rattle.journal_spec.proofs.Each.{same-lists}
 use Rattle.journal_spec.proofs.Lines.{LogLine, lineBytes, logBytes, GoodLine, GoodLines, bytesIn, lines-bytes, partsOf, good-parts}
 use Rattle.journal_spec.proofs.Lines.{NoNewline, clean-line, clean-rest, good-bytes}
 
@@ -28,7 +29,7 @@ use Rattle.journal_spec.proofs.Lines.{NoNewline, clean-line, clean-rest
 
 -- times that are read go to the journal, and a line that is refused is answered before it is read
 pub append-read : (j : Journal) (q : Request) (ts : List ℕ) → timesOf q ≡ gathered ts
-    → appendTo (contentsOf (j .slice) (j .len)) j (offerOf q) (q .budget) ≡ appendOf j q
+    → appendTo (contentsOf (q .rule) (j .slice) (j .len)) j q ≡ appendOf j q
 unfolding appendOf appendWith
 append-read j q ts e = rw e refl
 
@@ -38,17 +39,22 @@ append-misread j q n p e = rw e refl
 
 -- the request with its times handed in
 unfoldable pub handedIn : List ℕ → Request → Request
-handedIn ts q = record { day = q .day; name = q .name; chances = q .chances; source = times ts; budget = q .budget }
+handedIn ts q = record { day = q .day; name = q .name; chances = q .chances; source = times ts; budget = q .budget; rule = q .rule }
 
 same-offer : (q : Request) (ts : List ℕ) → timesOf q ≡ gathered ts → offerOf q ≡ offerOf (handedIn ts q)
 unfolding handedIn offerOf timesIn timesOf gatherBy
 same-offer q ts e = rw e refl
 
+same-append : (x : Contents) (j : Journal) (q : Request) (ts : List ℕ) → timesOf q ≡ gathered ts → appendTo x j q ≡ appendTo x j (handedIn ts q)
+unfolding appendTo appendRefusals
+same-append (faulty n p) j q ts e = refl
+same-append (standing ps committed) j q ts e = rw (same-offer q ts e) (unfold handedIn in refl)
+
 pub log-as-times : (j : Journal) (q : Request) (ts : List ℕ) → timesOf q ≡ gathered ts → appendOf j q ≡ appendOf j (handedIn ts q)
 unfolding handedIn
 log-as-times j q ts e =
     sym (append-read j q ts e)
-    ∙ ap (λ (o : Offer). appendTo (contentsOf (j .slice) (j .len)) j o (q .budget)) (same-offer q ts e)
+    ∙ same-append (contentsOf (q .rule) (j .slice) (j .len)) j q ts e
     ∙ append-read j (handedIn ts q) ts (unfold timesOf gatherBy in refl)
 
 -- ---- the times of a name in good lines
@@ -314,14 +320,6 @@ log-refused name log n p h = rw (lines-bytes log) at (refused-from name [] 0 (li
 
 -- ---- a name that is itself refused
 
-same-true : (xs ys : List ℕ) → same xs ys ≡ true → xs ≡ ys
-unfolding same
-same-true [] [] h = refl
-same-true [] (y ∷ ys) h = let z : _≡_ {A = ℕ} 0 1 = cc in absurd (omega arith)
-same-true (x ∷ xs) [] h = let z : _≡_ {A = ℕ} 0 1 = cc in absurd (omega arith)
-same-true (x ∷ xs) (y ∷ ys) h =
-    ap₂ (λ (a : ℕ) (as′ : List ℕ). a ∷ as′) (eqb-true x y (R.first-of (eqb x y) (same xs ys) h)) (same-true xs ys (R.second-of (eqb x y) (same xs ys) h))
-
 -- no good line has it
 no-ticks : (name : List ℕ) → nameGood name ≡ false → (ls : List LogLine) → GoodLines ls → ticksFor name ls ≡ []
 unfolding ticksFor
@@ -331,7 +329,7 @@ no-ticks name bad (l ∷ ls) g = go (same (l .name) name) refl (no-ticks name ba
     go : (t : Bool) → same (l .name) name ≡ t → ticksFor name ls ≡ []
         → cond (same (l .name) name) (decimalFrom 0 (l .digits) ∷ ticksFor name ls) (ticksFor name ls) ≡ []
     go true e later =
-        let good : nameGood name ≡ true = ap nameGood (sym (same-true (l .name) name e)) ∙ g .0 .name in
+        let good : nameGood name ≡ true = ap nameGood (sym (same-lists (l .name) name e)) ∙ g .0 .name in
         let z : _≡_ {A = ℕ} 0 1 = cc in absurd (omega arith)
     go false e later = rw e later
 

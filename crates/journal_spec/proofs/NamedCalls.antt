@@ -10,20 +10,22 @@ use lib.Seq.{append-snoc}
 use borrow.Author.Tests.{le-leb, lt-leb, lt-ltb}
 use Rattle.journal_spec.specs.Refusals.{roomRefusal, unless, firstOf}
 use Rattle.journal_spec.specs.Record.{Record, IsDay, lastOf, recordBytes}
+use Rattle.journal_spec.specs.Profile.{plain}
 use Rattle.journal_spec.specs.Scan.{maxLength}
 use Rattle.journal_spec.specs.Request.{Budget, all, upTo, times, Request, Offer, gatherBy, timesOf, timesIn, offerOf, allowed, extended, declined}
 use Rattle.journal_spec.specs.Calls.{Call}
-use Rattle.journal_spec.specs.Model.{Model, emptyModel, lengthsOf, committedOf, recordFor, byNumber, byLog, firstTurned, verdictOf}
+use Rattle.journal_spec.specs.Model.{Model, emptyModel, lengthsOf, committedOf, recordFor, breakOf, taken, byNumber, byLog, byBreak, firstTurned}
+use Rattle.journal_spec.specs.Model.{verdictOf}
 use Rattle.journal_spec.specs.Model.{Entry, enterRecord, enterBy, enter, noRoom, modelRefusals, modelRefusal, modelAfter}
 use Rattle.journal_spec.specs.Ranges.{Accepted}
 use Rattle.journal_spec.proofs.Records.{length-record}
 use Rattle.journal_spec.proofs.Ranged.{passed, accepted-exactly}
 use Rattle.journal_spec.proofs.Placing.{lengths-snoc}
-use Rattle.journal_spec.proofs.Scanning.{lastOf-snoc}
+use Rattle.journal_spec.proofs.Scanning.{plain-keeps, lastOf-snoc}
 
 -- day 1, times 100 and 100, an even chance
 unfoldable pub request : ℕ → Budget → Request
-request n budget = record { day = 1; name = replicate n 0x41; chances = 500_000 ∷ []; source = times (100 ∷ 100 ∷ []); budget = budget }
+request n budget = record { day = 1; name = replicate n 0x41; chances = 500_000 ∷ []; source = times (100 ∷ 100 ∷ []); budget = budget; rule = plain }
 
 unfoldable pub named : ℕ → Offer
 named n = record { day = 1; name = replicate n 0x41; chances = 500_000 ∷ []; times = 100 ∷ 100 ∷ [] }
@@ -72,28 +74,31 @@ abbrev pub appends : List ℕ → List Call
 appends ns = map appendNamed ns
 
 -- a model takes such an offer where its last day is not later than 1 and there is room
-accepts : (room : ℕ) (m : Model) (n : ℕ) → lastOf (m .records) .day ≤ 1 → 1 ≤ n → n ≤ 32
-    → committedOf m + (32 + n) ≤ room → committedOf m + (32 + n) ≤ maxLength → Accepted room m (named n)
-unfolding named
-accepts room m n day least most fits fits′ = record {
-  day = day;
-  name = record {
-    least = rw (length-replicate {A = ℕ} n 0x41) least;
-    most = rw (length-replicate {A = ℕ} n 0x41) most;
-    bytes = λ i k. rw (getD-replicate {A = ℕ} n i 0x41 0 (rw (length-replicate {A = ℕ} n 0x41) at k)) (omega arith, omega arith);
+accepts : (room : ℕ) (m : Model) (n : ℕ) (budget : Budget) → lastOf (m .records) .day ≤ 1 → 1 ≤ n → n ≤ 32
+    → committedOf m + (32 + n) ≤ room → committedOf m + (32 + n) ≤ maxLength → Accepted room m (request n budget)
+unfolding request named offerOf timesOf gatherBy timesIn
+accepts room m n budget day least most fits fits′ = record {
+  offer = record {
+    day = day;
+    name = record {
+      least = rw (length-replicate {A = ℕ} n 0x41) least;
+      most = rw (length-replicate {A = ℕ} n 0x41) most;
+      bytes = λ i k. rw (getD-replicate {A = ℕ} n i 0x41 0 (rw (length-replicate {A = ℕ} n 0x41) at k)) (omega arith, omega arith);
+    };
+    chances = record {
+      least = omega arith;
+      most = omega arith;
+      range = λ i k. one-chance i k;
+      rising = λ i k. absurd (omega arith);
+    };
+    even = λ i k. even-chance i k;
+    times = record {
+      least = omega arith;
+      most = omega arith;
+      range = λ i k. two-times i k;
+    };
   };
-  chances = record {
-    least = omega arith;
-    most = omega arith;
-    range = λ i k. one-chance i k;
-    rising = λ i k. absurd (omega arith);
-  };
-  even = λ i k. even-chance i k;
-  times = record {
-    least = omega arith;
-    most = omega arith;
-    range = λ i k. two-times i k;
-  };
+  rule = tt;
   fitsSlice = rw (named-length n) fits;
   fitsJournal = rw (named-length n) fits′;
 }
@@ -118,11 +123,16 @@ pub record Early (room : ℕ) (m : Model) (ns : List ℕ) : Type 0 where
   pub fits : committedOf m + sizes ns ≤ room
   pub most : committedOf m + sizes ns ≤ maxLength
 
+-- by the plain rule nothing that stands is in the way
+plainly : (m : Model) (r : Record) (k : ℕ) → enterBy (firstTurned (taken ∷ byBreak (breakOf plain m) ∷ taken ∷ [])) m r k ≡ enterRecord m r k
+unfolding breakOf
+plainly m r k = rw (plain-keeps 0 (m .records)) (unfold byBreak firstTurned enterBy in refl)
+
 entered : (room : ℕ) (m : Model) (n : ℕ) (budget : Budget) → lastOf (m .records) .day ≤ 1 → 1 ≤ n → n ≤ 32
     → committedOf m + (32 + n) ≤ room → committedOf m + (32 + n) ≤ maxLength
     → enter room m (callNamed n budget) ≡ enterRecord m (recordFor (named n)) (allowed budget (length (recordBytes (recordFor (named n)))))
 unfolding enter enterBy verdictOf firstTurned byLog byNumber callNamed request named offerOf timesOf gatherBy timesIn
-entered room m n budget day least most fits fits′ = rw (accepted-exactly room m (named n) .1 (accepts room m n day least most fits fits′)) refl
+entered room m n budget day least most fits fits′ = rw (accepted-exactly room m (request n budget) .1 (accepts room m n budget day least most fits fits′)) (plainly m (recordFor (named n)) (allowed budget (length (recordBytes (recordFor (named n))))))
 
 pub finished : (room : ℕ) (m : Model) (n : ℕ) → lastOf (m .records) .day ≤ 1 → 1 ≤ n → n ≤ 32
     → committedOf m + (32 + n) ≤ room → committedOf m + (32 + n) ≤ maxLength
@@ -160,14 +170,14 @@ cut-short room n k least most less fits =
 
 -- no room is the refusal where nothing else is refused
 pub full : (room : ℕ) (m : Model) (n : ℕ) → lastOf (m .records) .day ≤ 1 → 1 ≤ n → n ≤ 32 → committedOf m + (32 + n) ≤ maxLength
-    → room < committedOf m + (32 + n) → modelRefusal room m (named n) ≡ roomRefusal
-unfolding modelRefusal modelRefusals unless firstOf noRoom
+    → room < committedOf m + (32 + n) → modelRefusal room m (request n all) ≡ roomRefusal
+unfolding modelRefusal modelRefusals unless firstOf noRoom request named offerOf timesOf gatherBy timesIn
 full room m n day least most fits less =
     let big : ℕ = committedOf m + (32 + n) in
-    let p = passed big m (named n) (accepted-exactly big m (named n) .1 (accepts big m n day least most (omega arith) fits)) in
-    rw (p .day, p .name, p .chances, p .even, p .times, named-length n, lt-ltb room (committedOf m + (32 + n)) less) refl
+    let p = passed big m (request n all) (accepted-exactly big m (request n all) .1 (accepts big m n all day least most (omega arith) fits)) in
+    rw (p .day, p .name, p .chances, p .even, p .times, p .rule, named-length n, lt-ltb room (committedOf m + (32 + n)) less) refl
 
 -- what the model answers then
-pub turned-away : (room : ℕ) (m : Model) (n : ℕ) → modelRefusal room m (named n) ≡ roomRefusal → enter room m (appendNamed n) .answer ≡ declined roomRefusal
-unfolding enter enterBy verdictOf firstTurned byLog byNumber callNamed request named offerOf timesOf gatherBy timesIn
-turned-away room m n e = rw e refl
+pub turned-away : (room : ℕ) (m : Model) (n : ℕ) → modelRefusal room m (request n all) ≡ roomRefusal → enter room m (appendNamed n) .answer ≡ declined roomRefusal
+unfolding enter enterBy verdictOf firstTurned byLog byNumber callNamed request named offerOf timesOf gatherBy timesIn breakOf
+turned-away room m n e = rw e (rw (plain-keeps 0 (m .records)) (unfold byBreak firstTurned enterBy in refl))

@@ -9,7 +9,7 @@ use native.Mathlib.Omega.{arith}
 use lib.ListN.{length, getD, length-map}
 use lib.Dec.{leb, ltb, eqb}
 use lib.Ieee.{binary64, toBits}
-use borrow.Author.Tests.{le-leb, leb-true, le-ltb, ltb-false, eq-eqb}
+use borrow.Author.Tests.{le-leb, leb-true, le-ltb, ltb-false, eq-eqb, eqb-true}
 use Rattle.limit.specs.Times.{minTicks, maxTicks, minCount, maxCount, inRange}
 use Rattle.limit.specs.Answer.{chanceRefusal, timesRefusal}
 use Rattle.limit.specs.Limit.{minChance, maxChance, formKnown}
@@ -19,14 +19,15 @@ use Rattle.journal_spec.specs.Refusals.{dayRefusal, nameRefusal, limitRe
 use Rattle.journal_spec.specs.Section.{sectionRefusal}
 use Rattle.journal_spec.specs.Record.{Record, Last, IsDay, lastOf, judgeForm, judgeDay, limitSection, minName, maxName, minByte}
 use Rattle.journal_spec.specs.Record.{maxByte, minChances, maxChances, evenChance, recordReader, recordBytes}
+use Rattle.journal_spec.specs.Profile.{Rule, plain, profile, profileChances, profileTimes, inProfile, keeps}
 use Rattle.journal_spec.specs.Scan.{maxLength}
-use Rattle.journal_spec.specs.Request.{Offer}
-use Rattle.journal_spec.specs.Tests.{each, rising, nameGood}
+use Rattle.journal_spec.specs.Request.{Request, Offer, offerOf}
+use Rattle.journal_spec.specs.Tests.{each, rising, same, nameGood}
 use Rattle.journal_spec.specs.Model.{Model, committedOf, workedOut, recordFor, dayFalls, chancesGood, timesGood}
 use Rattle.journal_spec.specs.Model.{chancesEven, noRoom, modelRefusals, modelRefusal}
-use Rattle.journal_spec.specs.Ranges.{NameRanges, ChanceRanges, TimeRanges, Accepted, RecordRanges}
+use Rattle.journal_spec.specs.Ranges.{NameRanges, ChanceRanges, TimeRanges, Keeps, Accepted, RecordRanges}
 use Rattle.journal_spec.proofs.Judging.{unless-none, unless-not, unless-true, first-none, none-at, none-first}
-use Rattle.journal_spec.proofs.Each.{each-holds, holds-each, each-range, range-each, rising-holds, holds-rising}
+use Rattle.journal_spec.proofs.Each.{same-lists, same-self, each-holds, holds-each, each-range, range-each, rising-holds, holds-rising}
 use Rattle.journal_spec.proofs.Limits.{formulaBits, times-good, limits-good, limits-exact}
 use Rattle.journal_spec.proofs.Reading.{Reads}
 use Rattle.journal_spec.proofs.Records.{Good, limit-count, form-known, form-range, form-later, record-length, reads-record}
@@ -79,66 +80,94 @@ time-ranged xs = (
   λ g. R.both (R.inside minCount maxCount (length xs) (g .least) (g .most)) (range-each minTicks maxTicks xs (g .range)),
 )
 
--- ---- an offer
+-- ---- a rule
+
+pub rule-ranged : (rule : Rule) (r : Record) → (keeps rule r ≡ true) ↔ Keeps rule r
+unfolding keeps inProfile
+rule-ranged plain r = (λ h. tt, λ h. refl)
+rule-ranged profile r = (
+  λ h.
+      let form : Bool = eqb (r .form) sampleForm in
+      let chances : Bool = same (r .chances) profileChances in
+      let both = R.first-of (form && chances) (leb profileTimes (length (r .times))) h in
+      record {
+        form = eqb-true (r .form) sampleForm (R.first-of form chances both);
+        chances = same-lists (r .chances) profileChances (R.second-of form chances both);
+        times = leb-true profileTimes (length (r .times)) (R.second-of (form && chances) (leb profileTimes (length (r .times))) h);
+      },
+  λ k.
+      R.both (R.both (eq-eqb (r .form) sampleForm (k .form)) (rw (k .chances) (same-self profileChances)))
+      (le-leb profileTimes (length (r .times)) (k .times)),
+)
+
+-- ---- a request
 
 -- what each test of the model says where none declines
-pub record Passed (room : ℕ) (m : Model) (o : Offer) : Type 0 where
-  pub day : dayFalls m o ≡ false
-  pub name : nameGood (o .name) ≡ true
-  pub chances : chancesGood (o .chances) ≡ true
-  pub even : chancesEven (o .chances) ≡ true
-  pub times : timesGood (o .times) ≡ true
-  pub room′ : noRoom room m o ≡ false
+pub record Passed (room : ℕ) (m : Model) (q : Request) : Type 0 where
+  pub day : dayFalls m (offerOf q) ≡ false
+  pub name : nameGood (offerOf q .name) ≡ true
+  pub chances : chancesGood (offerOf q .chances) ≡ true
+  pub even : chancesEven (offerOf q .chances) ≡ true
+  pub times : timesGood (offerOf q .times) ≡ true
+  pub rule : keeps (q .rule) (recordFor (offerOf q)) ≡ true
+  pub room′ : noRoom room m (offerOf q) ≡ false
 
-pub passed : (room : ℕ) (m : Model) (o : Offer) → modelRefusal room m o ≡ 0 → Passed room m o
+pub passed : (room : ℕ) (m : Model) (q : Request) → modelRefusal room m q ≡ 0 → Passed room m q
 unfolding modelRefusal modelRefusals
-passed room m o h =
-    let row = none-at (modelRefusals room m o) h in
+passed room m q h =
+    let row = none-at (modelRefusals room m q) h in
+    let o : Offer = offerOf q in
     record {
       day = unless-not (dayFalls m o) 2 (row 0);
       name = unless-none (nameGood (o .name)) 3 (row 1);
       chances = unless-none (chancesGood (o .chances)) 4 (row 2);
       even = unless-none (chancesEven (o .chances)) 16 (row 3);
       times = unless-none (timesGood (o .times)) 5 (row 4);
-      room′ = unless-not (noRoom room m o) 8 (row 5);
+      rule = unless-none (keeps (q .rule) (recordFor o)) 18 (row 5);
+      room′ = unless-not (noRoom room m o) 8 (row 6);
     }
 
-pub not-declined : (room : ℕ) (m : Model) (o : Offer) → Passed room m o → modelRefusal room m o ≡ 0
+pub not-declined : (room : ℕ) (m : Model) (q : Request) → Passed room m q → modelRefusal room m q ≡ 0
 unfolding modelRefusal modelRefusals unless firstOf
-not-declined room m o p = rw (p .day, p .name, p .chances, p .even, p .times, p .room′) refl
+not-declined room m q p = rw (p .day, p .name, p .chances, p .even, p .times, p .rule, p .room′) refl
 
 either : (a b : Bool) → (a || b) ≡ false → (a ≡ false) × (b ≡ false)
 either true b h = (h, cc)
 either false b h = (refl, h)
 
--- nothing declines an offer exactly under document 01's ranges
-pub accepted-exactly : (room : ℕ) (m : Model) (o : Offer) → (modelRefusal room m o ≡ 0) ↔ Accepted room m o
+-- nothing declines a request exactly under the papers' ranges
+pub accepted-exactly : (room : ℕ) (m : Model) (q : Request) → (modelRefusal room m q ≡ 0) ↔ Accepted room m q
 unfolding dayFalls chancesEven noRoom
-accepted-exactly room m o = (
-  λ h.
-      let p = passed room m o h in
-      let size : ℕ = committedOf m + length (recordBytes (recordFor o)) in
-      let fit = either (ltb room size) (ltb maxLength size) (p .room′) in
-      record {
-        day = ltb-false (o .day) (lastOf (m .records) .day) (p .day);
-        name = name-ranged (o .name) .0 (p .name);
-        chances = chance-ranged (o .chances) .0 (p .chances);
-        even = λ i k. leb-true (getD (o .chances) i 0) evenChance (each-holds (λ (c : ℕ). leb c evenChance) (o .chances) (p .even) i k);
-        times = time-ranged (o .times) .0 (p .times);
-        fitsSlice = ltb-false room size (fit .0);
-        fitsJournal = ltb-false maxLength size (fit .1);
-      },
-  λ a.
-      let size : ℕ = committedOf m + length (recordBytes (recordFor o)) in
-      not-declined room m o (record {
-        day = le-ltb (o .day) (lastOf (m .records) .day) (a .day);
-        name = name-ranged (o .name) .1 (a .name);
-        chances = chance-ranged (o .chances) .1 (a .chances);
-        even = holds-each (λ (c : ℕ). leb c evenChance) (o .chances) (λ i k. le-leb (getD (o .chances) i 0) evenChance (a .even i k));
-        times = time-ranged (o .times) .1 (a .times);
-        room′ = rw (le-ltb room size (a .fitsSlice), le-ltb maxLength size (a .fitsJournal)) refl;
-      }),
-)
+accepted-exactly room m q =
+    let o : Offer = offerOf q in
+    let size : ℕ = committedOf m + length (recordBytes (recordFor o)) in (
+      λ h.
+          let p = passed room m q h in
+          let fit = either (ltb room size) (ltb maxLength size) (p .room′) in
+          record {
+            offer = record {
+              day = ltb-false (o .day) (lastOf (m .records) .day) (p .day);
+              name = name-ranged (o .name) .0 (p .name);
+              chances = chance-ranged (o .chances) .0 (p .chances);
+              even = λ i k. leb-true (getD (o .chances) i 0) evenChance (each-holds (λ (c : ℕ). leb c evenChance) (o .chances) (p .even) i k);
+              times = time-ranged (o .times) .0 (p .times);
+            };
+            rule = rule-ranged (q .rule) (recordFor o) .0 (p .rule);
+            fitsSlice = ltb-false room size (fit .0);
+            fitsJournal = ltb-false maxLength size (fit .1);
+          },
+      λ a.
+          let f = a .offer in
+          not-declined room m q (record {
+            day = le-ltb (o .day) (lastOf (m .records) .day) (f .day);
+            name = name-ranged (o .name) .1 (f .name);
+            chances = chance-ranged (o .chances) .1 (f .chances);
+            even = holds-each (λ (c : ℕ). leb c evenChance) (o .chances) (λ i k. le-leb (getD (o .chances) i 0) evenChance (f .even i k));
+            times = time-ranged (o .times) .1 (f .times);
+            rule = rule-ranged (q .rule) (recordFor o) .1 (a .rule);
+            room′ = rw (le-ltb room size (a .fitsSlice), le-ltb maxLength size (a .fitsJournal)) refl;
+          }),
+    )
 
 -- ---- a record
 

@@ -9,10 +9,11 @@ use lib.Seq.{drop-drop, length-take-le}
 use Rattle.journal_spec.specs.Refusals.{absentRefusal}
 use Rattle.journal_spec.specs.Reader.{Found, found, fault, short, run}
 use Rattle.journal_spec.specs.Record.{Record, Last, lastOf, judgeForm, recordReader}
-use Rattle.journal_spec.specs.Scan.{maxLength, Placed, recordsOf, standing, faulty, contentsFrom, contentsOf}
+use Rattle.journal_spec.specs.Scan.{maxLength, Placed, recordsOf, standing, faulty, recordAt, contentsFrom, contentsOf}
+use Rattle.journal_spec.specs.Profile.{Rule}
 use Rattle.journal_spec.specs.Read.{noPart, partAt, unmarked, markAt}
 use Rattle.journal_spec.proofs.Reading.{field-short, field-found, run-left}
-use Rattle.journal_spec.proofs.Scanning.{lastOf-snoc, recordsOf-snoc, turn-short, turn-fault, turn-found, contents-fits}
+use Rattle.journal_spec.proofs.Scanning.{lastOf-snoc, recordsOf-snoc, at-short, found-at, turn-short, turn-fault, turn-found, contents-fits}
 
 -- a record takes at least its first field
 pub record-takes : (last : Last) (at : ℕ) (bs : List ℕ) (r : Record) (e : ℕ) (rest : List ℕ)
@@ -29,43 +30,44 @@ none-short last at b h = field-short 2 _ _ at (drop at b) (rw length-drop (omega
 -- ---- the loop
 
 -- the records of ps stand before the place `at` of the bytes b; what all of b holds is what the rest adds to them
-pub record Going (b : List ℕ) (ps : List Placed) (at : ℕ) : Type 0 where
+pub record Going (rule : Rule) (b : List ℕ) (ps : List Placed) (at : ℕ) : Type 0 where
   pub more : ℕ
   pub inside : at ≤ length b
   pub enough : length b ≤ at + more
   pub few : length ps ≤ at
-  pub same : contentsFrom (length b) [] 0 b ≡ contentsFrom more ps at (drop at b)
+  pub same : contentsFrom rule (length b) [] 0 b ≡ contentsFrom rule more ps at (drop at b)
 
-pub going-start : (b : List ℕ) → Going b [] 0
-going-start b = record { more = length b; inside = omega arith; enough = omega arith; few = omega arith; same = refl }
+pub going-start : (rule : Rule) (b : List ℕ) → Going rule b [] 0
+going-start rule b = record { more = length b; inside = omega arith; enough = omega arith; few = omega arith; same = refl }
 
-module _ (b : List ℕ) (ps : List Placed) (at : ℕ) (g : Going b ps at) where
+module _ (rule : Rule) (b : List ℕ) (ps : List Placed) (at : ℕ) (g : Going rule b ps at) where
   -- where a record or a fault is found there are bytes left
-  left : (f : Found Record) → run (recordReader (lastOf (recordsOf ps))) at (drop at b) ≡ f → (f ≡ short → ⊥) → 0 < g .more
+  left : (f : Found Record) → recordAt rule (lastOf (recordsOf ps)) at (drop at b) ≡ f → (f ≡ short → ⊥) → 0 < g .more
   left f h differs = go (g .more) refl
     where
       go : (n : ℕ) → g .more ≡ n → 0 < g .more
-      go zero e = absurd (differs (sym h ∙ none-short (lastOf (recordsOf ps)) at b (omega (arith, g .enough))))
+      go zero e = absurd (differs (sym h ∙ at-short rule (lastOf (recordsOf ps)) at (drop at b) (none-short (lastOf (recordsOf ps)) at b (omega (arith, g .enough)))))
       go (suc n) e = omega arith
 
-  pub going-short : run (recordReader (lastOf (recordsOf ps))) at (drop at b) ≡ short → contentsFrom (length b) [] 0 b ≡ standing ps at
-  going-short h = g .same ∙ turn-short (g .more) ps at (drop at b) h
+  pub going-short : recordAt rule (lastOf (recordsOf ps)) at (drop at b) ≡ short → contentsFrom rule (length b) [] 0 b ≡ standing ps at
+  going-short h = g .same ∙ turn-short rule (g .more) ps at (drop at b) h
 
-  pub going-fault : (n p : ℕ) → run (recordReader (lastOf (recordsOf ps))) at (drop at b) ≡ fault n p → contentsFrom (length b) [] 0 b ≡ faulty n p
+  pub going-fault : (n p : ℕ) → recordAt rule (lastOf (recordsOf ps)) at (drop at b) ≡ fault n p → contentsFrom rule (length b) [] 0 b ≡ faulty n p
   going-fault n p h =
-      g .same ∙ turn-fault (g .more) ps at (drop at b) n p h (left (fault n p) h (λ x. let z : _≡_ {A = ℕ} 0 1 = cc in omega arith))
+      g .same ∙ turn-fault rule (g .more) ps at (drop at b) n p h (left (fault n p) h (λ x. let z : _≡_ {A = ℕ} 0 1 = cc in omega arith))
 
   -- a record more
   pub record Further (r : Record) (e : ℕ) (rest : List ℕ) : Type 0 where
     pub later : at < e
     pub there : e ≤ length b
     pub drops : rest ≡ drop e b
-    pub going : Going b (ps ++ record { content = r; start = at; size = e - at } ∷ []) e
+    pub going : Going rule b (ps ++ record { content = r; start = at; size = e - at } ∷ []) e
 
-  pub going-found : (r : Record) (e : ℕ) (rest : List ℕ) → run (recordReader (lastOf (recordsOf ps))) at (drop at b) ≡ found r e rest → Further r e rest
+  pub going-found : (r : Record) (e : ℕ) (rest : List ℕ) → recordAt rule (lastOf (recordsOf ps)) at (drop at b) ≡ found r e rest → Further r e rest
   going-found r e rest h =
-      let t = record-takes (lastOf (recordsOf ps)) at (drop at b) r e rest h in
-      let l = run-left (recordReader (lastOf (recordsOf ps))) at (drop at b) r e rest h in
+      let read = found-at rule (lastOf (recordsOf ps)) at (drop at b) r e rest h .0 in
+      let t = record-takes (lastOf (recordsOf ps)) at (drop at b) r e rest read in
+      let l = run-left (recordReader (lastOf (recordsOf ps))) at (drop at b) r e rest read in
       let n : e - at ≤ length b - at = rw length-drop at (l .there) in
       let s : at + (e - at) ≡ e = omega (arith, t) in
       let d : rest ≡ drop e b = l .same ∙ drop-drop (e - at) at b ∙ ap (λ (k : ℕ). drop k b) s in
@@ -80,15 +82,15 @@ module _ (b : List ℕ) (ps : List Placed) (at : ℕ) (g : Going b ps at) where
           inside = omega (arith, t, n, g .inside);
           enough = omega (arith, t, pos, g .enough);
           few = rw length-append (omega (arith, t, g .few));
-          same = g .same ∙ turn-found (g .more) ps at (drop at b) r e rest h pos ∙ ap (contentsFrom (g .more - 1) (ps ++ p ∷ []) e) d;
+          same = g .same ∙ turn-found rule (g .more) ps at (drop at b) r e rest h pos ∙ ap (contentsFrom rule (g .more - 1) (ps ++ p ∷ []) e) d;
         };
       }
 
 -- a journal in a slice is what its part up to the length holds
-pub contents-part : (slice : List ℕ) (len : ℕ) → len ≤ length slice → len ≤ maxLength
-    → contentsOf slice len ≡ contentsFrom (length (take len slice)) [] 0 (take len slice)
-contents-part slice len h k =
-    contents-fits slice len h k ∙ ap (λ (n : ℕ). contentsFrom n [] 0 (take len slice)) (sym (length-take-le len slice h))
+pub contents-part : (rule : Rule) (slice : List ℕ) (len : ℕ) → len ≤ length slice → len ≤ maxLength
+    → contentsOf rule slice len ≡ contentsFrom rule (length (take len slice)) [] 0 (take len slice)
+contents-part rule slice len h k =
+    contents-fits rule slice len h k ∙ ap (λ (n : ℕ). contentsFrom rule n [] 0 (take len slice)) (sym (length-take-le len slice h))
 
 -- ---- one record more
 

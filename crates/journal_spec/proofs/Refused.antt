@@ -7,11 +7,12 @@ use mathlib.Core.Bool.{Bool, true, false, cond}
 use lib.Dec.{eqb}
 use native.Mathlib.Omega.{arith}
 use lib.ListN.{length}
+use Rattle.journal_spec.specs.Profile.{Rule}
 use Rattle.journal_spec.specs.Scan.{Placed, Contents, standing, faulty, contentsOf, statusOf, scanOf}
 use Rattle.journal_spec.specs.Scan as S
 use Rattle.journal_spec.specs.Read.{noPart, partOf, partPlace, partBytes, readPart, unmarked, markIn, readMark}
 use Rattle.journal_spec.specs.Log.{Gathered, gathered, misread}
-use Rattle.journal_spec.specs.Request.{Journal, Budget, Request, Offer, timesOf, offerOf, AppendResult, extended, declinedAt, damaged}
+use Rattle.journal_spec.specs.Request.{Journal, Request, timesOf, AppendResult, extended, declinedAt, damaged}
 use Rattle.journal_spec.specs.Append.{unchanged, extend, settle, appendTo, appendWith, appendOf}
 
 -- the answer is a length, or nothing was touched: every byte and the length are as they were
@@ -21,11 +22,11 @@ unfolding settle extend unchanged
 settle-untouched zero j committed new a e other = absurd (other _ (sym e))
 settle-untouched (suc n) j committed new a e other = refl
 
-untouched : (x : Contents) (j : Journal) (o : Offer) (budget : Budget) (a : AppendResult)
-    → appendTo x j o budget .answer ≡ a → ((m : ℕ) → a ≡ extended m → ⊥) → appendTo x j o budget .journal ≡ j
+untouched : (x : Contents) (j : Journal) (q : Request) (a : AppendResult)
+    → appendTo x j q .answer ≡ a → ((m : ℕ) → a ≡ extended m → ⊥) → appendTo x j q .journal ≡ j
 unfolding appendTo unchanged
-untouched (faulty n p) j o budget a e other = refl
-untouched (standing ps committed) j o budget a e other = settle-untouched _ j committed _ a e other
+untouched (faulty n p) j q a e other = refl
+untouched (standing ps committed) j q a e other = settle-untouched _ j committed _ a e other
 
 -- scan says damaged exactly of faulty contents
 pub standing-not-damaged : (len : ℕ) (ps : List Placed) (committed n p : ℕ) → statusOf len (standing ps committed) ≡ S.damaged n p → ⊥
@@ -36,10 +37,10 @@ standing-not-damaged len ps committed n p h = go (eqb committed len) h
     go true h = let z : _≡_ {A = ℕ} 0 1 = cc in omega arith
     go false h = let z : _≡_ {A = ℕ} 0 1 = cc in omega arith
 
-fault-said : (len m q n p : ℕ) (j : Journal) (o : Offer) (budget : Budget) → statusOf len (faulty m q) ≡ S.damaged n p
-    → appendTo (faulty m q) j o budget .answer ≡ damaged n p
+fault-said : (len m q n p : ℕ) (j : Journal) (r : Request) → statusOf len (faulty m q) ≡ S.damaged n p
+    → appendTo (faulty m q) j r .answer ≡ damaged n p
 unfolding statusOf appendTo unchanged
-fault-said len m q n p j o budget h =
+fault-said len m q n p j r h =
     let a : m ≡ n = cc in
     let b : q ≡ p = cc in
     rw (a, b) refl
@@ -48,7 +49,7 @@ unread-untouched : (g : Gathered) (j : Journal) (q : Request) (a : AppendResult)
     → appendWith g j q .answer ≡ a → ((m : ℕ) → a ≡ extended m → ⊥) → appendWith g j q .journal ≡ j
 unfolding appendWith unchanged
 unread-untouched (misread n p) j q a e other = refl
-unread-untouched (gathered ts) j q a e other = untouched _ j (offerOf q) (q .budget) a e other
+unread-untouched (gathered ts) j q a e other = untouched _ j q a e other
 
 module _ (j : Journal) (q : Request) where
   -- a call that answers no length leaves every byte and the length
@@ -62,20 +63,20 @@ module _ (j : Journal) (q : Request) where
   log-first n p e = rw e refl
 
   -- then the journal's faults, as scan says them, whatever is offered
-  pub faults-first : (ts : List ℕ) → timesOf q ≡ gathered ts → (n p : ℕ) → scanOf (j .slice) (j .len) ≡ S.damaged n p
+  pub faults-first : (ts : List ℕ) → timesOf q ≡ gathered ts → (n p : ℕ) → scanOf (q .rule) (j .slice) (j .len) ≡ S.damaged n p
       → appendOf j q .answer ≡ damaged n p
   unfolding scanOf appendOf appendWith
-  faults-first ts e n p h = rw e (go (contentsOf (j .slice) (j .len)) h)
+  faults-first ts e n p h = rw e (go (contentsOf (q .rule) (j .slice) (j .len)) h)
     where
-      go : (x : Contents) → statusOf (j .len) x ≡ S.damaged n p → appendTo x j (offerOf q) (q .budget) .answer ≡ damaged n p
+      go : (x : Contents) → statusOf (j .len) x ≡ S.damaged n p → appendTo x j q .answer ≡ damaged n p
       go (standing ps committed) h = absurd (standing-not-damaged (j .len) ps committed n p h)
-      go (faulty m p′) h = fault-said (j .len) m p′ n p j (offerOf q) (q .budget) h
+      go (faulty m p′) h = fault-said (j .len) m p′ n p j q h
 
 -- reading refuses as scan does: an empty part, and the fault's number
-pub reading-refused : (slice : List ℕ) (len i n p : ℕ) → scanOf slice len ≡ S.damaged n p
-    → (readPart slice len i ≡ []) × (readMark slice len i ≡ unmarked n)
+pub reading-refused : (rule : Rule) (slice : List ℕ) (len i n p : ℕ) → scanOf rule slice len ≡ S.damaged n p
+    → (readPart rule slice len i ≡ []) × (readMark rule slice len i ≡ unmarked n)
 unfolding scanOf readPart partPlace readMark
-reading-refused slice len i n p h = go (contentsOf slice len) h
+reading-refused rule slice len i n p h = go (contentsOf rule slice len) h
   where
     number : (m q : ℕ) → statusOf len (faulty m q) ≡ S.damaged n p → markIn (faulty m q) i ≡ unmarked n
     number m q h = unfold statusOf markIn in let e : m ≡ n = cc in ap unmarked e

@@ -17,9 +17,10 @@ use Rattle.journal_spec.specs.Refusals.{nameRefusal, evenRefusal, unless
 use Rattle.journal_spec.specs.Section.{itemsRefusal, sectionRefusal}
 use Rattle.journal_spec.specs.Record.{lastOf, judgeDay, lastChance, judgeChance, nameSection, chanceSection, timeSection, minName, maxName}
 use Rattle.journal_spec.specs.Record.{minByte, maxByte, minChances, maxChances, evenChance, recordBytes}
-use Rattle.journal_spec.specs.Scan.{maxLength}
-use Rattle.journal_spec.specs.Request.{Offer}
-use Rattle.journal_spec.specs.Append.{offered, limitsOf, judgeEven, judgeRoom, appendRefusal}
+use Rattle.journal_spec.specs.Profile.{Rule, plain, profile, inProfile, keeps}
+use Rattle.journal_spec.specs.Scan.{maxLength, Placed, recordsOf}
+use Rattle.journal_spec.specs.Request.{Request, Offer, offerOf}
+use Rattle.journal_spec.specs.Append.{offered, limitsOf, judgeEven, judgeRoom, appendRefusals}
 use Rattle.journal_spec.specs.Tests.{each, risingFrom, rising, nameGood}
 use Rattle.journal_spec.specs.Model.{Model, committedOf, recordFor, dayFalls, chancesGood}
 use Rattle.journal_spec.specs.Model.{chancesEven, timesGood, noRoom, modelRefusals, modelRefusal}
@@ -195,14 +196,21 @@ pub same-length : (o : Offer) → length (recordBytes (offered o)) ≡ length (r
 unfolding offered recordFor limitsOf
 same-length o = length-record (offered o) ∙ rw (length-map, length-map) refl ∙ sym (length-record (recordFor o))
 
-pub same-refusal : (room : ℕ) (m : Model) (o : Offer)
-    → appendRefusal room (lastOf (m .records)) (committedOf m) o ≡ modelRefusal room m o
-unfolding appendRefusal modelRefusal modelRefusals judgeDay judgeRoom dayFalls noRoom
-same-refusal room m o =
+-- and keep the same rules
+pub same-keeps : (rule : Rule) (o : Offer) → keeps rule (offered o) ≡ keeps rule (recordFor o)
+unfolding keeps inProfile offered recordFor
+same-keeps plain o = refl
+same-keeps profile o = refl
+
+pub same-refusal : (room : ℕ) (m : Model) (ps : List Placed) (q : Request) → recordsOf ps ≡ m .records
+    → firstOf (appendRefusals room ps (committedOf m) q) ≡ modelRefusal room m q
+unfolding appendRefusals modelRefusal modelRefusals judgeDay judgeRoom dayFalls noRoom
+same-refusal room m ps q records =
+    let o : Offer = offerOf q in
     let size : ℕ = committedOf m + length (recordBytes (recordFor o)) in
     let good = unless-none (chancesGood (o .chances)) 4 in
     same-rows _ _ (
-      rw (not-below (lastOf (m .records) .day) (o .day)) refl,
+      rw (records, not-below (lastOf (m .records) .day) (o .day)) refl,
       λ day. (
         name-refused (o .name),
         λ name. (
@@ -212,8 +220,11 @@ same-refusal room m o =
             λ even. (
               time-refused (o .times),
               λ times. (
-                rw (same-length o, fits-both size room maxLength) refl,
-                λ fits. tt,
+                rw (same-keeps (q .rule) o) refl,
+                λ rule. (
+                  rw (same-length o, fits-both size room maxLength) refl,
+                  λ fits. tt,
+                ),
               ),
             ),
           ),

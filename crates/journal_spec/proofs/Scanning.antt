@@ -3,6 +3,8 @@
 use mathlib.Core.Path.{_≡_, refl, sym, ap, _∙_}
 use Prim.Native.Nat.{ℕ, zero, suc, _+_, _-_, _≤_, _<_, min}
 use mathlib.Core.List.{List, [], _∷_, _++_, append-assoc, append-nil, map-append}
+use mathlib.Core.Bool.{Bool, true, false, cond}
+use mathlib.Core.Option.{Option, none, some}
 use native.Mathlib.Omega.{arith}
 use native.Mathlib.Nat.{add-zero, add-assoc, zero-add, add-sub-cancel-left}
 use lib.ListN.{length, take, length-append}
@@ -10,12 +12,14 @@ use lib.Seq.{append-snoc}
 use borrow.Author.Tests.{le-leb, lt-leb}
 use Rattle.limit.specs.Formula.{sampleForm}
 use Rattle.journal_spec.specs.Bytes.{joined}
-use Rattle.journal_spec.specs.Refusals.{lengthRefusal}
-use Rattle.journal_spec.specs.Reader.{found, fault, short, run}
-use Rattle.journal_spec.specs.Record.{Record, lastOf, recordReader, recordBytes, recordsBytes}
-use Rattle.journal_spec.specs.Scan.{maxLength, Placed, recordsOf, standing, faulty, contentsFrom, contentsOf}
+use Rattle.journal_spec.specs.Refusals.{lengthRefusal, profileRefusal}
+use Rattle.journal_spec.specs.Reader.{Found, found, fault, short, run}
+use Rattle.journal_spec.specs.Record.{Record, Last, lastOf, recordReader, recordBytes, recordsBytes}
+use Rattle.journal_spec.specs.Scan.{maxLength, Placed, recordsOf, Contents, standing, faulty, judged, recordAt, contentsFrom, contentsOf}
+use Rattle.journal_spec.specs.Profile.{Rule, plain, keeps}
+use Rattle.journal_spec.specs.Model.{breakFrom}
 use Rattle.journal_spec.specs.Ranges.{RecordRanges, AllRanges}
-use Rattle.journal_spec.proofs.Reading.{field-short}
+use Rattle.journal_spec.proofs.Reading.{by-test, field-short, found-not-fault, found-not-short, short-not-fault}
 use Rattle.journal_spec.proofs.Ranged.{reads-back, encoding-length}
 
 -- ---- journals
@@ -77,65 +81,141 @@ unfolding placedFrom
 length-placed at [] = refl
 length-placed at (r ∷ rs) = ap suc (length-placed (at + length (recordBytes r)) rs)
 
+-- ---- a record by a rule
+
+module _ (rule : Rule) (last : Last) (at : ℕ) (bs : List ℕ) where
+  pub at-short : run (recordReader last) at bs ≡ short → recordAt rule last at bs ≡ short
+  unfolding recordAt judged
+  at-short h = rw h refl
+
+  pub at-fault : (n p : ℕ) → run (recordReader last) at bs ≡ fault n p → recordAt rule last at bs ≡ fault n p
+  unfolding recordAt judged
+  at-fault n p h = rw h refl
+
+  pub at-found : (r : Record) (e : ℕ) (rest : List ℕ) → run (recordReader last) at bs ≡ found r e rest → keeps rule r ≡ true
+      → recordAt rule last at bs ≡ found r e rest
+  unfolding recordAt judged
+  at-found r e rest h k = rw h (rw k refl)
+
+  pub at-broken : (r : Record) (e : ℕ) (rest : List ℕ) → run (recordReader last) at bs ≡ found r e rest → keeps rule r ≡ false
+      → recordAt rule last at bs ≡ fault profileRefusal at
+  unfolding recordAt judged
+  at-broken r e rest h k = rw h (rw k refl)
+
+  -- what was found stands there, and keeps the rule
+  pub found-at : (r : Record) (e : ℕ) (rest : List ℕ) → recordAt rule last at bs ≡ found r e rest
+      → (run (recordReader last) at bs ≡ found r e rest) × (keeps rule r ≡ true)
+  unfolding recordAt
+  found-at r e rest h = go (run (recordReader last) at bs) h
+    where
+      byRule : (b : Bool) (s : Record) (i : ℕ) (left : List ℕ) → keeps rule s ≡ b
+          → cond b (found s i left) (fault profileRefusal at) ≡ found r e rest → (found s i left ≡ found r e rest) × (keeps rule r ≡ true)
+      byRule true s i left k h = let same : s ≡ r = cc in (h, rw same at k)
+      byRule false s i left k h = absurd (found-not-fault h)
+
+      go : (f : Found Record) → judged rule at f ≡ found r e rest → (f ≡ found r e rest) × (keeps rule r ≡ true)
+      go (found s i left) h = byRule (keeps rule s) s i left refl (unfold judged in h)
+      go (fault n p) h = unfold judged in absurd (found-not-fault h)
+      go short h = unfold judged in absurd (found-not-short h)
+
+  pub short-at : recordAt rule last at bs ≡ short → run (recordReader last) at bs ≡ short
+  unfolding recordAt
+  short-at h = go (run (recordReader last) at bs) h
+    where
+      byRule : (b : Bool) (s : Record) (i : ℕ) (left : List ℕ) → cond b (found s i left) (fault profileRefusal at) ≡ short → found s i left ≡ short
+      byRule true s i left h = h
+      byRule false s i left h = absurd (short-not-fault h)
+
+      go : (f : Found Record) → judged rule at f ≡ short → f ≡ short
+      go (found s i left) h = byRule (keeps rule s) s i left (unfold judged in h)
+      go (fault n p) h = unfold judged in h
+      go short h = refl
+
 -- ---- the scan
 
-pub contents-from : (more : ℕ) (ps : List Placed) (rs : List Record) (at : ℕ) (tail : List ℕ)
+-- the records stand, or one of them breaks the rule
+unfoldable pub unlessBroken : Option ℕ → Contents → Contents
+unlessBroken none x = x
+unlessBroken (some p) x = faulty profileRefusal p
+
+pub contents-from : (rule : Rule) (more : ℕ) (ps : List Placed) (rs : List Record) (at : ℕ) (tail : List ℕ)
     → AllRanges (recordsOf ps) rs → Torn (recordsOf ps ++ rs) tail → length rs ≤ more
-    → contentsFrom more ps at (recordsBytes rs ++ tail) ≡ standing (ps ++ placedFrom at rs) (at + length (recordsBytes rs))
-unfolding contentsFrom recordsBytes joined placedFrom
-contents-from zero ps [] at tail f t h = rw (append-nil, add-zero)
-contents-from zero ps (r ∷ rs) at tail f t h = absurd (omega arith)
-contents-from (suc more) ps [] at tail f t h = rw ((rw append-nil at t) .runsOut at, contentsFrom) (rw (append-nil, add-zero))
-contents-from (suc more) ps (r ∷ rs) at tail f t h =
+    → contentsFrom rule more ps at (recordsBytes rs ++ tail)
+    ≡ unlessBroken (breakFrom rule at rs) (standing (ps ++ placedFrom at rs) (at + length (recordsBytes rs)))
+unfolding contentsFrom recordsBytes joined placedFrom breakFrom unlessBroken
+contents-from rule zero ps [] at tail f t h = rw (append-nil, add-zero)
+contents-from rule zero ps (r ∷ rs) at tail f t h = absurd (omega arith)
+contents-from rule (suc more) ps [] at tail f t h =
+    rw (at-short rule (lastOf (recordsOf ps)) at tail ((rw append-nil at t) .runsOut at), contentsFrom) (rw (append-nil, add-zero))
+contents-from rule (suc more) ps (r ∷ rs) at tail f t h =
     let n : ℕ = length (recordBytes r) in
     let p : Placed = record { content = r; start = at; size = n } in
     let read = reads-back (lastOf (recordsOf ps)) r (f .0) .on at (recordsBytes rs ++ tail) in
     let snoc : recordsOf (ps ++ p ∷ []) ≡ recordsOf ps ++ r ∷ [] = recordsOf-snoc ps p in
-    rw append-assoc
-    (rw (read, contentsFrom)
+    by-test (keeps rule r)
+    (λ k.
+    let one = at-found rule (lastOf (recordsOf ps)) at (recordBytes r ++ (recordsBytes rs ++ tail)) r (at + n) (recordsBytes rs ++ tail) read k in
+    rw (append-assoc, k)
+    (rw (one, contentsFrom)
     (rw (add-sub-cancel-left at n)
-    (contents-from more (ps ++ p ∷ []) rs (at + n) tail (rw snoc (f .1)) (rw (snoc, append-snoc) t) (omega arith)
-    ∙ rw (append-snoc, length-append, add-assoc) refl)))
+    (contents-from rule more (ps ++ p ∷ []) rs (at + n) tail (rw snoc (f .1)) (rw (snoc, append-snoc) t) (omega arith)
+    ∙ rw (append-snoc, length-append, add-assoc) refl))))
+    (λ k.
+    let one = at-broken rule (lastOf (recordsOf ps)) at (recordBytes r ++ (recordsBytes rs ++ tail)) r (at + n) (recordsBytes rs ++ tail) read k in
+    rw (append-assoc, k) (rw (one, contentsFrom) refl))
 
 -- a slice that holds records end to end and a torn tail, up to a length
-pub contents-of : (slice : List ℕ) (len : ℕ) (rs : List Record) (tail : List ℕ) → len ≤ length slice → len ≤ maxLength
+pub contents-of : (rule : Rule) (slice : List ℕ) (len : ℕ) (rs : List Record) (tail : List ℕ) → len ≤ length slice → len ≤ maxLength
     → take len slice ≡ recordsBytes rs ++ tail → len ≡ length (recordsBytes rs ++ tail) → AllRanges [] rs → Torn rs tail
-    → contentsOf slice len ≡ standing (placedFrom 0 rs) (length (recordsBytes rs))
+    → contentsOf rule slice len ≡ unlessBroken (breakFrom rule 0 rs) (standing (placedFrom 0 rs) (length (recordsBytes rs)))
 unfolding contentsOf recordsOf
-contents-of slice len rs tail fits most bytes n f t =
+contents-of rule slice len rs tail fits most bytes n f t =
     rw (le-leb len (min (length slice) maxLength) (omega arith), bytes)
-    (contents-from len [] rs 0 tail f t (omega (arith, n, length-append (recordsBytes rs) tail, records-count [] rs f))
+    (contents-from rule len [] rs 0 tail f t (omega (arith, n, length-append (recordsBytes rs) tail, records-count [] rs f))
     ∙ rw zero-add refl)
 
--- ---- one turn, by what the record's reader finds
+-- every record keeps the plain rule
+pub plain-keeps : (at : ℕ) (rs : List Record) → breakFrom plain at rs ≡ none
+unfolding breakFrom keeps
+plain-keeps at [] = refl
+plain-keeps at (r ∷ rs) = plain-keeps (at + length (recordBytes r)) rs
 
-pub turn-short : (more : ℕ) (ps : List Placed) (at : ℕ) (bs : List ℕ)
-    → run (recordReader (lastOf (recordsOf ps))) at bs ≡ short → contentsFrom more ps at bs ≡ standing ps at
-unfolding contentsFrom
-turn-short zero ps at bs h = refl
-turn-short (suc more) ps at bs h = rw (h, contentsFrom) refl
+pub plain-contents : (slice : List ℕ) (len : ℕ) (rs : List Record) (tail : List ℕ) → len ≤ length slice → len ≤ maxLength
+    → take len slice ≡ recordsBytes rs ++ tail → len ≡ length (recordsBytes rs ++ tail) → AllRanges [] rs → Torn rs tail
+    → contentsOf plain slice len ≡ standing (placedFrom 0 rs) (length (recordsBytes rs))
+plain-contents slice len rs tail fits most bytes n f t =
+    contents-of plain slice len rs tail fits most bytes n f t ∙ rw (plain-keeps 0 rs) (unfold unlessBroken in refl)
 
-pub turn-fault : (more : ℕ) (ps : List Placed) (at : ℕ) (bs : List ℕ) (n p : ℕ)
-    → run (recordReader (lastOf (recordsOf ps))) at bs ≡ fault n p → 0 < more → contentsFrom more ps at bs ≡ faulty n p
-unfolding contentsFrom
-turn-fault zero ps at bs n p h pos = absurd (omega arith)
-turn-fault (suc more) ps at bs n p h pos = rw (h, contentsFrom) refl
+-- ---- one turn, by what the record's reader finds and what the rule says
 
-pub turn-found : (more : ℕ) (ps : List Placed) (at : ℕ) (bs : List ℕ) (r : Record) (e : ℕ) (rest : List ℕ)
-    → run (recordReader (lastOf (recordsOf ps))) at bs ≡ found r e rest → 0 < more
-    → contentsFrom more ps at bs ≡ contentsFrom (more - 1) (ps ++ record { content = r; start = at; size = e - at } ∷ []) e rest
-unfolding contentsFrom
-turn-found zero ps at bs r e rest h pos = absurd (omega arith)
-turn-found (suc more) ps at bs r e rest h pos = let z : suc more - 1 ≡ more = omega arith in rw z (rw (h, contentsFrom) refl)
+module _ (rule : Rule) where
+  pub turn-short : (more : ℕ) (ps : List Placed) (at : ℕ) (bs : List ℕ)
+      → recordAt rule (lastOf (recordsOf ps)) at bs ≡ short → contentsFrom rule more ps at bs ≡ standing ps at
+  unfolding contentsFrom
+  turn-short zero ps at bs h = refl
+  turn-short (suc more) ps at bs h = rw (h, contentsFrom) refl
 
--- ---- the answer
+  pub turn-fault : (more : ℕ) (ps : List Placed) (at : ℕ) (bs : List ℕ) (n p : ℕ)
+      → recordAt rule (lastOf (recordsOf ps)) at bs ≡ fault n p → 0 < more → contentsFrom rule more ps at bs ≡ faulty n p
+  unfolding contentsFrom
+  turn-fault zero ps at bs n p h pos = absurd (omega arith)
+  turn-fault (suc more) ps at bs n p h pos = rw (h, contentsFrom) refl
 
--- a slice whose length is good
-pub contents-fits : (slice : List ℕ) (len : ℕ) → len ≤ length slice → len ≤ maxLength → contentsOf slice len ≡ contentsFrom len [] 0 (take len slice)
-unfolding contentsOf
-contents-fits slice len h k = rw (le-leb len (min (length slice) maxLength) (omega arith)) refl
+  pub turn-found : (more : ℕ) (ps : List Placed) (at : ℕ) (bs : List ℕ) (r : Record) (e : ℕ) (rest : List ℕ)
+      → recordAt rule (lastOf (recordsOf ps)) at bs ≡ found r e rest → 0 < more
+      → contentsFrom rule more ps at bs ≡ contentsFrom rule (more - 1) (ps ++ record { content = r; start = at; size = e - at } ∷ []) e rest
+  unfolding contentsFrom
+  turn-found zero ps at bs r e rest h pos = absurd (omega arith)
+  turn-found (suc more) ps at bs r e rest h pos = let z : suc more - 1 ≡ more = omega arith in rw z (rw (h, contentsFrom) refl)
 
--- one whose length is beyond the slice or the longest journal
-pub contents-long : (slice : List ℕ) (len : ℕ) → min (length slice) maxLength < len → contentsOf slice len ≡ faulty lengthRefusal 0
-unfolding contentsOf
-contents-long slice len h = rw (lt-leb len (min (length slice) maxLength) h) refl
+  -- ---- the answer
+
+  -- a slice whose length is good
+  pub contents-fits : (slice : List ℕ) (len : ℕ) → len ≤ length slice → len ≤ maxLength → contentsOf rule slice len ≡ contentsFrom rule len [] 0 (take len slice)
+  unfolding contentsOf
+  contents-fits slice len h k = rw (le-leb len (min (length slice) maxLength) (omega arith)) refl
+
+  -- one whose length is beyond the slice or the longest journal
+  pub contents-long : (slice : List ℕ) (len : ℕ) → min (length slice) maxLength < len → contentsOf rule slice len ≡ faulty lengthRefusal 0
+  unfolding contentsOf
+  contents-long slice len h = rw (lt-leb len (min (length slice) maxLength) h) refl

@@ -11,6 +11,7 @@ use lib.Dec.{leb}
 use Rattle.journal_spec.specs.Reader.{found, run}
 use Rattle.journal_spec.specs.Record.{Last, lastOf, recordReader}
 use Rattle.journal_spec.specs.Record.{Record, recordBytes}
+use Rattle.journal_spec.specs.Profile.{plain}
 use Rattle.journal_spec.specs.Read.{readPart, readMark}
 use Rattle.journal_spec.specs.Calls.{operations, Call, emptyIn, journalAfter}
 use Rattle.journal_spec.specs.Model.{Model, emptyModel, lengthsOf, committedOf, workedOut, recordFor, Verdict, taken, turned, verdictOf, Entry}
@@ -19,7 +20,7 @@ use Rattle.journal_spec.specs.Shown.{offerBy, budgetOf, recordOf, isTake
 use Rattle.journal_spec.specs.Demand.{bytesAt, recordMark}
 use Rattle.journal_spec.specs.Ranges.{RecordRanges, AllRanges}
 use Rattle.journal_spec.proofs.Ranged.{reads-back}
-use Rattle.journal_spec.proofs.Demand.{start, after-all, agrees, held-mark, demand3}
+use Rattle.journal_spec.proofs.Demand.{start, after-all, plain-part, plain-mark, demand3}
 
 pub enter-is : (room : ℕ) (m : Model) (c : Call) → enter room m c ≡ enterBy (verdictOf room m (c .request)) m (recordOf c) (budgetOf c)
 unfolding enter offerBy budgetOf recordOf
@@ -52,11 +53,11 @@ records-are-finished room m (c ∷ cs) =
 pub shown-bytes : (slice : List ℕ) (cs : List Call) (i : ℕ)
     → let j = journalAfter operations (emptyIn slice) cs in
     let rs = finished (length slice) emptyModel cs in
-    i < length rs → readPart (j .slice) (j .len) i ≡ bytesAt rs i
+    i < length rs → readPart plain (j .slice) (j .len) i ≡ bytesAt rs i
 unfolding operations emptyModel
 shown-bytes slice cs i below =
     let e = records-are-finished (length slice) emptyModel cs in
-    demand3 slice cs .agrees .shown i (rw e below) ∙ rw e refl
+    demand3 slice cs .agrees .part plain i ∙ plain-part (modelAfter (length slice) emptyModel cs) i ∙ rw e refl
 
 -- each has what the call offered, and the formula's bits for its limits
 pub shown-fields : (c : Call) → Given (offerBy c) (recordOf c)
@@ -137,7 +138,7 @@ pub record ShownRecord (slice : List ℕ) (cs : List Call) (i : ℕ) : Type 0 wh
   pub parts : cs ≡ before ++ call ∷ others
   pub whole : finishes (length slice) (modelAfter (length slice) emptyModel before) call ≡ true
   pub place : i ≡ length (finished (length slice) emptyModel before)
-  pub part : readPart (journalAfter operations (emptyIn slice) cs .slice) (journalAfter operations (emptyIn slice) cs .len) i ≡ recordBytes (recordOf call)
+  pub part : readPart plain (journalAfter operations (emptyIn slice) cs .slice) (journalAfter operations (emptyIn slice) cs .len) i ≡ recordBytes (recordOf call)
   pub fields : Given (offerBy call) (recordOf call)
   pub last : Last
   pub reads : run (recordReader last) 0 (recordBytes (recordOf call)) ≡ found (recordOf call) (length (recordBytes (recordOf call))) []
@@ -175,5 +176,6 @@ committed-sum slice cs = rw (records-are-finished (length slice) emptyModel cs) 
 -- the mark of each record shown
 pub shown-mark : (slice : List ℕ) (cs : List Call) (i : ℕ)
     → let j = journalAfter operations (emptyIn slice) cs in
-    readMark (j .slice) (j .len) i ≡ recordMark (modelAfter (length slice) emptyModel cs .records) i
-shown-mark slice cs i = held-mark (length slice) _ _ (after-all (length slice) (emptyIn slice) emptyModel (start slice) cs .holds) i
+    readMark plain (j .slice) (j .len) i ≡ recordMark (modelAfter (length slice) emptyModel cs .records) i
+unfolding operations
+shown-mark slice cs i = demand3 slice cs .agrees .mark plain i ∙ plain-mark (modelAfter (length slice) emptyModel cs) i

@@ -9,13 +9,15 @@ use lib.Seq.{length-take-le}
 use Rattle.journal_spec.specs.Bytes.{bytesOf, joined}
 use Rattle.journal_spec.specs.Refusals.{roomRefusal}
 use Rattle.journal_spec.specs.Record.{Record, lastOf, recordBytes, recordsBytes}
+use Rattle.journal_spec.specs.Profile.{plain}
 use Rattle.journal_spec.specs.Scan.{maxLength, ScanResult, whole, torn, damaged}
 use Rattle.journal_spec.specs.Request.{Journal, all, Request, AppendResult, extended, declined}
 use Rattle.journal_spec.specs.Calls.{Operations, Call, emptyIn, perform, journalAfter}
 use Rattle.journal_spec.specs.Calls.{answersOf}
 use Rattle.journal_spec.specs.Model.{Model, emptyModel, lengthsOf, committedOf, recordFor, Entry, enter}
 use Rattle.journal_spec.specs.Model.{modelRefusal, modelAfter, modelAnswers}
-use Rattle.journal_spec.specs.Demand.{modelScan, bytesAt, Agrees, Demand3}
+use Rattle.journal_spec.specs.Demand.{endOf, bytesAt, Agrees, Demand3}
+use Rattle.journal_spec.proofs.Demand.{plain-scan, plain-part}
 use Rattle.journal_spec.proofs.NamedCalls.{request, named, callNamed, appendNamed, appendNamedUpto, named-length, sizes, namedRecords, Names}
 use Rattle.journal_spec.proofs.NamedCalls.{lengths-named, appends, finished, after-appends, cut-short, full, turned-away}
 
@@ -49,12 +51,12 @@ module _ (ops : Operations) (holds : Demand3 ops) where
   -- after finished appends
   record Appended (room : ℕ) (ns : List ℕ) : Type 0 where
     len : journal room (appends ns) .len ≡ sizes ns
-    scan : ops .scan (journal room (appends ns) .slice) (journal room (appends ns) .len) ≡ whole (length ns) (sizes ns)
-    part : (i : ℕ) → i < length ns → ops .readPart (journal room (appends ns) .slice) (journal room (appends ns) .len) i ≡ bytesAt (namedRecords ns) i
+    scan : ops .scan plain (journal room (appends ns) .slice) (journal room (appends ns) .len) ≡ whole (length ns) (sizes ns)
+    part : (i : ℕ) → i < length ns → ops .readPart plain (journal room (appends ns) .slice) (journal room (appends ns) .len) i ≡ bytesAt (namedRecords ns) i
     bytes : take (sizes ns) (journal room (appends ns) .slice) ≡ recordsBytes (namedRecords ns)
 
   appended : (room : ℕ) (ns : List ℕ) → Names ns → sizes ns ≤ room → sizes ns ≤ maxLength → Appended room ns
-  unfolding modelScan committedOf emptyModel lengthsOf lastOf
+  unfolding endOf committedOf emptyModel lengthsOf lastOf
   appended room ns names fits most =
       let e : modelAfter room emptyModel (appends ns) ≡ record { records = namedRecords ns; tail = [] } =
       after-appends room [] ns (record { day = omega arith; names = names; fits = omega arith; most = omega arith }) in
@@ -65,8 +67,8 @@ module _ (ops : Operations) (holds : Demand3 ops) where
       let n : journal room (appends ns) .len ≡ sizes ns = a .len ∙ rw size (omega arith) in
       record {
         len = n;
-        scan = a .scan ∙ rw (count, size) refl;
-        part = λ i k. a .shown i (rw count k);
+        scan = a .scan plain ∙ plain-scan _ ∙ rw (count, size) refl;
+        part = λ i k. a .part plain i ∙ plain-part _ i;
         bytes = rw n at (a .bytes) ∙ append-nil (recordsBytes (namedRecords ns));
       }
 
@@ -87,7 +89,7 @@ module _ (ops : Operations) (holds : Demand3 ops) where
       omega arith
 
   -- a scan that always says whole 0 0
-  pub says-whole-empty : ((slice : List ℕ) (len : ℕ) → ops .scan slice len ≡ whole 0 0) → ⊥
+  pub says-whole-empty : ((slice : List ℕ) (len : ℕ) → ops .scan plain slice len ≡ whole 0 0) → ⊥
   unfolding sizes
   says-whole-empty always =
       let a = appended 33 (1 ∷ []) (omega arith, omega arith, tt) (omega arith) (omega arith) in
@@ -116,7 +118,7 @@ module _ (ops : Operations) (holds : Demand3 ops) where
       (omega arith, omega arith, (omega arith, omega arith, (omega arith, omega arith, (omega arith, omega arith, tt)))) (omega arith) (omega arith)
 
   -- a scan that reads one record and multiplies it
-  pub multiplies-one : (f : List ℕ → ℕ → ScanResult) → ((slice : List ℕ) (len : ℕ) → ops .scan slice len ≡ f (ops .readPart slice len 0) len) → ⊥
+  pub multiplies-one : (f : List ℕ → ℕ → ScanResult) → ((slice : List ℕ) (len : ℕ) → ops .scan plain slice len ≡ f (ops .readPart plain slice len 0) len) → ⊥
   unfolding sizes namedRecords bytesAt numberOf
   multiplies-one f only =
       let first : List ℕ = recordBytes (recordFor (named 1)) in
@@ -126,7 +128,7 @@ module _ (ops : Operations) (holds : Demand3 ops) where
       omega arith
 
   -- a number of records made up from the length and the slice's length
-  pub makes-up-number : (f : ℕ → ℕ → ℕ) → ((slice : List ℕ) (len : ℕ) → numberOf (ops .scan slice len) ≡ f (length slice) len) → ⊥
+  pub makes-up-number : (f : ℕ → ℕ → ℕ) → ((slice : List ℕ) (len : ℕ) → numberOf (ops .scan plain slice len) ≡ f (length slice) len) → ⊥
   unfolding sizes numberOf
   makes-up-number f only =
       let m : length (journal 132 (appends (1 ∷ 17 ∷ 18 ∷ [])) .slice) ≡ 132 = agreed 132 (appends (1 ∷ 17 ∷ 18 ∷ [])) .sliceLength in
@@ -165,12 +167,12 @@ module _ (ops : Operations) (holds : Demand3 ops) where
   unfolding committedOf lengthsOf
   cut-len = cut-agrees .len ∙ rw cut-tail (unfold cutModel in refl)
 
-  cut-scan : ops .scan (journal 65 (cutCall ∷ []) .slice) (journal 65 (cutCall ∷ []) .len) ≡ torn 0 0
-  unfolding modelScan committedOf lengthsOf
-  cut-scan = cut-agrees .scan ∙ rw cut-tail (unfold cutModel in refl)
+  cut-scan : ops .scan plain (journal 65 (cutCall ∷ []) .slice) (journal 65 (cutCall ∷ []) .len) ≡ torn 0 0
+  unfolding endOf committedOf lengthsOf
+  cut-scan = cut-agrees .scan plain ∙ plain-scan cutModel ∙ rw cut-tail (unfold cutModel in refl)
 
   -- torn, or whole, said of a journal that nobody read: from its length and the slice's length alone
-  pub says-torn-unread : (f : ℕ → ℕ → ScanResult) → ((slice : List ℕ) (len : ℕ) → ops .scan slice len ≡ f (length slice) len) → ⊥
+  pub says-torn-unread : (f : ℕ → ℕ → ScanResult) → ((slice : List ℕ) (len : ℕ) → ops .scan plain slice len ≡ f (length slice) len) → ⊥
   unfolding sizes numberOf
   says-torn-unread f only =
       let m : length (journal 65 (appends (1 ∷ [])) .slice) ≡ 65 = agreed 65 (appends (1 ∷ [])) .sliceLength in
@@ -194,7 +196,7 @@ module _ (ops : Operations) (holds : Demand3 ops) where
       let one : enter 65 emptyModel (appendNamed 1) ≡ record { answer = extended 33; model = m } =
       finished 65 emptyModel 1 (omega arith) (omega arith) (omega arith) (omega arith) (omega arith) in
       let size : committedOf m ≡ 33 = rw (named-length 1) refl in
-      let no-room : modelRefusal 65 m (named 1) ≡ roomRefusal =
+      let no-room : modelRefusal 65 m (request 1 all) ≡ roomRefusal =
       full 65 m 1 (unfold recordFor named in omega arith) (omega arith) (omega arith) (omega (arith, size)) (omega (arith, size)) in
       second 65 (appendNamed 1) (appendNamed 1)
       ∙ ap (λ (x : Entry). enter 65 (x .model) (appendNamed 1) .answer) one

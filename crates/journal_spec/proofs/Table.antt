@@ -13,20 +13,23 @@ use Rattle.limit.specs.Answer.{LimitResult, limited, refused}
 use Rattle.limit.specs.Limit.{limitOf}
 use Rattle.limit.proofs.InRange as R
 use Rattle.journal_spec.specs.Bytes.{valueOf}
-use Rattle.journal_spec.specs.Refusals.{unless, outside, among, firstOf}
+use Rattle.journal_spec.specs.Refusals.{profileRefusal, unless, outside, among, firstOf}
 use Rattle.journal_spec.specs.Reader.{Reader, done, field, then, Found, found, fault, short, run}
 use Rattle.journal_spec.specs.Section.{Section, items, section}
 use Rattle.journal_spec.specs.Record.{Record, Last, lastOf, judgeForm, judgeDay, judgeChance, judgeLimit, nameSection, chanceSection}
 use Rattle.journal_spec.specs.Record.{timeSection, limitSection, recordReader}
-use Rattle.journal_spec.specs.Scan.{maxLength, Placed, recordsOf, Contents, standing, faulty, contentsFrom, contentsOf, statusOf, scanOf}
+use Rattle.journal_spec.specs.Scan.{maxLength, Placed, recordsOf, Contents, standing, faulty, judged, recordAt, contentsFrom, contentsOf, statusOf}
+use Rattle.journal_spec.specs.Scan.{scanOf}
+use Rattle.journal_spec.specs.Profile.{Rule, keeps}
 use Rattle.journal_spec.specs.Scan as S
 use Rattle.journal_spec.specs.Log.{Gathered, gathered, misread}
-use Rattle.journal_spec.specs.Request.{Journal, Budget, Request, Offer, timesOf, offerOf, declined}
-use Rattle.journal_spec.specs.Append.{judgeEven, judgeRoom, appendRefusal, unchanged, extend, settle, appendTo, appendWith, appendOf}
+use Rattle.journal_spec.specs.Request.{Journal, Request, Offer, timesOf, offerOf, declined}
+use Rattle.journal_spec.specs.Append.{judgeEven, judgeRoom, appendRefusals, unchanged, extend, settle, appendTo, appendWith}
+use Rattle.journal_spec.specs.Append.{appendOf}
 use Rattle.journal_spec.specs.Tests.{each, nameGood}
 use Rattle.journal_spec.specs.Model.{chancesGood, timesGood}
-use Rattle.journal_spec.proofs.Reading.{by-order, field-cases, run-left}
-use Rattle.journal_spec.proofs.Scanning.{contents-fits, contents-long, turn-short, turn-fault, turn-found}
+use Rattle.journal_spec.proofs.Reading.{by-order, field-cases, found-not-fault, run-left}
+use Rattle.journal_spec.proofs.Scanning.{found-at, contents-fits, contents-long, turn-short, turn-fault, turn-found}
 use Rattle.journal_spec.proofs.Refused.{standing-not-damaged}
 use Rattle.journal_spec.proofs.SameRefusals.{name-refused, chance-refused, time-refused}
 
@@ -136,21 +139,21 @@ record-faults last = (
 -- ---- scan's
 
 -- a fault that the scan finds is that of a record's reader, somewhere in the bytes
-pub record RecordFault (at : ℕ) (bs : List ℕ) (n p : ℕ) : Type 0 where
+pub record RecordFault (rule : Rule) (at : ℕ) (bs : List ℕ) (n p : ℕ) : Type 0 where
   pub last : Last
   pub start : ℕ
   pub rest : List ℕ
-  pub ran : run (recordReader last) start rest ≡ fault n p
+  pub ran : recordAt rule last start rest ≡ fault n p
   pub inside : start + length rest ≤ at + length bs
 
 -- one turn of the scan, by what the record's reader finds
-module _ (more n p : ℕ) (later : (qs : List Placed) (e : ℕ) (rest : List ℕ) → contentsFrom more qs e rest ≡ faulty n p → RecordFault e rest n p)
-    (ps : List Placed) (at : ℕ) (bs : List ℕ) (h : contentsFrom (suc more) ps at bs ≡ faulty n p) where
-  by-found : (f : Found Record) → run (recordReader (lastOf (recordsOf ps))) at bs ≡ f → RecordFault at bs n p
+module _ (rule : Rule) (more n p : ℕ) (later : (qs : List Placed) (e : ℕ) (rest : List ℕ) → contentsFrom rule more qs e rest ≡ faulty n p → RecordFault rule e rest n p)
+    (ps : List Placed) (at : ℕ) (bs : List ℕ) (h : contentsFrom rule (suc more) ps at bs ≡ faulty n p) where
+  by-found : (f : Found Record) → recordAt rule (lastOf (recordsOf ps)) at bs ≡ f → RecordFault rule at bs n p
   by-found (found r e rest) ran =
-      let l = run-left (recordReader (lastOf (recordsOf ps))) at bs r e rest ran in
+      let l = run-left (recordReader (lastOf (recordsOf ps))) at bs r e rest (found-at rule (lastOf (recordsOf ps)) at bs r e rest ran .0) in
       let z : suc more - 1 ≡ more = omega arith in
-      let next = later _ e rest (rw z at (sym (turn-found (suc more) ps at bs r e rest ran (omega arith)) ∙ h)) in
+      let next = later _ e rest (rw z at (sym (turn-found rule (suc more) ps at bs r e rest ran (omega arith)) ∙ h)) in
       let size : length rest ≡ length bs - (e - at) = ap length (l .same) ∙ length-drop (e - at) bs in
       record {
         last = next .last;
@@ -160,19 +163,19 @@ module _ (more n p : ℕ) (later : (qs : List Placed) (e : ℕ) (rest : List ℕ
         inside = omega (arith, next .inside, l .later, l .there, size);
       }
   by-found (fault m q) ran =
-      let e : faulty m q ≡ faulty n p = sym (turn-fault (suc more) ps at bs m q ran (omega arith)) ∙ h in
+      let e : faulty m q ≡ faulty n p = sym (turn-fault rule (suc more) ps at bs m q ran (omega arith)) ∙ h in
       let number : m ≡ n = cc in
       let place : q ≡ p = cc in
       rw (← number, ← place) (record { last = lastOf (recordsOf ps); start = at; rest = bs; ran = ran; inside = omega arith })
   by-found short ran =
-      let e : standing ps at ≡ faulty n p = sym (turn-short (suc more) ps at bs ran) ∙ h in
+      let e : standing ps at ≡ faulty n p = sym (turn-short rule (suc more) ps at bs ran) ∙ h in
       let z : _≡_ {A = ℕ} 0 1 = cc in
       absurd (omega arith)
 
-pub contents-fault : (more : ℕ) (ps : List Placed) (at : ℕ) (bs : List ℕ) (n p : ℕ) → contentsFrom more ps at bs ≡ faulty n p → RecordFault at bs n p
-contents-fault zero ps at bs n p h = unfold contentsFrom in let z : _≡_ {A = ℕ} 0 1 = cc in absurd (omega arith)
-contents-fault (suc more) ps at bs n p h =
-    by-found more n p (λ qs e rest. contents-fault more qs e rest n p) ps at bs h (run (recordReader (lastOf (recordsOf ps))) at bs) refl
+pub contents-fault : (rule : Rule) (more : ℕ) (ps : List Placed) (at : ℕ) (bs : List ℕ) (n p : ℕ) → contentsFrom rule more ps at bs ≡ faulty n p → RecordFault rule at bs n p
+contents-fault rule zero ps at bs n p h = unfold contentsFrom in let z : _≡_ {A = ℕ} 0 1 = cc in absurd (omega arith)
+contents-fault rule (suc more) ps at bs n p h =
+    by-found rule more n p (λ qs e rest. contents-fault rule more qs e rest n p) ps at bs h (recordAt rule (lastOf (recordsOf ps)) at bs) refl
 
 one-more : (m : ℕ) (table : List ℕ) (n : ℕ) → Among table n → Among (m ∷ table) n
 unfolding among
@@ -182,21 +185,38 @@ one-more m table n h = go (eqb m n)
     go true = refl
     go false = h
 
-contents-number : (more : ℕ) (ps : List Placed) (at : ℕ) (bs : List ℕ) (n p : ℕ) → contentsFrom more ps at bs ≡ faulty n p → OfRecord n
-contents-number more ps at bs n p h =
-    let f = contents-fault more ps at bs n p h in
-    fault-known OfRecord (recordReader (f .last)) (record-faults (f .last)) (f .start) (f .rest) n p (f .ran)
-
--- the numbers of a damaged journal: 1, and those of a record
-pub scan-number : (slice : List ℕ) (len n p : ℕ) → scanOf slice len ≡ S.damaged n p → Among (1 ∷ recordNumbers) n
-unfolding scanOf
-scan-number slice len n p h = by-contents (contentsOf slice len) refl h
+-- by a rule, 19 besides
+at-number : (rule : Rule) (last : Last) (at : ℕ) (bs : List ℕ) (n p : ℕ) → recordAt rule last at bs ≡ fault n p → Among (19 ∷ recordNumbers) n
+unfolding recordAt
+at-number rule last at bs n p h = go (run (recordReader last) at bs) refl h
   where
-    by-length : (t : Bool) (m q : ℕ) → cond t (contentsFrom len [] 0 (take len slice)) (faulty 1 0) ≡ faulty m q → Among (1 ∷ recordNumbers) m
-    by-length true m q e = one-more 1 recordNumbers m (contents-number len [] 0 (take len slice) m q e)
+    byRule : (b : Bool) (s : Record) (i : ℕ) (left : List ℕ) → cond b (found s i left) (fault profileRefusal at) ≡ fault n p → Among (19 ∷ recordNumbers) n
+    byRule true s i left e = absurd (found-not-fault (sym e))
+    byRule false s i left e = let z : 19 ≡ n = cc in rw (← z) (unfold among in refl)
+
+    go : (f : Found Record) → run (recordReader last) at bs ≡ f → judged rule at f ≡ fault n p → Among (19 ∷ recordNumbers) n
+    go (found s i left) ran e = byRule (keeps rule s) s i left (unfold judged in e)
+    go (fault m q) ran e =
+        let same : m ≡ n = unfold judged in cc in
+        one-more 19 recordNumbers n (rw same at (fault-known OfRecord (recordReader last) (record-faults last) at bs m q ran))
+    go short ran e = unfold judged in let z : _≡_ {A = ℕ} 0 1 = cc in absurd (omega arith)
+
+contents-number : (rule : Rule) (more : ℕ) (ps : List Placed) (at : ℕ) (bs : List ℕ) (n p : ℕ) → contentsFrom rule more ps at bs ≡ faulty n p
+    → Among (19 ∷ recordNumbers) n
+contents-number rule more ps at bs n p h =
+    let f = contents-fault rule more ps at bs n p h in
+    at-number rule (f .last) (f .start) (f .rest) n p (f .ran)
+
+-- the numbers of a damaged journal: 1, 19, and those of a record
+pub scan-number : (rule : Rule) (slice : List ℕ) (len n p : ℕ) → scanOf rule slice len ≡ S.damaged n p → Among (1 ∷ 19 ∷ recordNumbers) n
+unfolding scanOf
+scan-number rule slice len n p h = by-contents (contentsOf rule slice len) refl h
+  where
+    by-length : (t : Bool) (m q : ℕ) → cond t (contentsFrom rule len [] 0 (take len slice)) (faulty 1 0) ≡ faulty m q → Among (1 ∷ 19 ∷ recordNumbers) m
+    by-length true m q e = one-more 1 (19 ∷ recordNumbers) m (contents-number rule len [] 0 (take len slice) m q e)
     by-length false m q e = let z : 1 ≡ m = cc in rw (← z) (unfold among in refl)
 
-    by-contents : (x : Contents) → contentsOf slice len ≡ x → statusOf len x ≡ S.damaged n p → Among (1 ∷ recordNumbers) n
+    by-contents : (x : Contents) → contentsOf rule slice len ≡ x → statusOf len x ≡ S.damaged n p → Among (1 ∷ 19 ∷ recordNumbers) n
     by-contents (standing ps committed) e h = absurd (standing-not-damaged len ps committed n p h)
     by-contents (faulty m q) e h =
         unfold statusOf in
@@ -213,51 +233,53 @@ among-each test (m ∷ ms) n h a = go (among-each test ms n (R.second-of (test m
     go later true e = rw (eqb-true m n e) at (R.first-of (test m) (each test ms) h)
     go later false e = later (rw e at a)
 
-not-one : OfRecord 1 → ⊥
+not-one : Among (19 ∷ recordNumbers) 1 → ⊥
 unfolding among
 not-one h = let z : _≡_ {A = ℕ} 0 1 = cc in omega arith
 
 -- 1, at place 0, exactly if the length is beyond the slice or 65,536
-pub length-exactly : (slice : List ℕ) (len : ℕ) → (scanOf slice len ≡ S.damaged 1 0) ↔ ((length slice < len) ⊎ (65_536 < len))
+pub length-exactly : (rule : Rule) (slice : List ℕ) (len : ℕ) → (scanOf rule slice len ≡ S.damaged 1 0) ↔ ((length slice < len) ⊎ (65_536 < len))
 unfolding scanOf
-length-exactly slice len = (λ h. beyond (contentsOf slice len) refl h, λ b. ⊎-elim (λ h. long (omega arith)) (λ h. long (omega arith)) b)
+length-exactly rule slice len = (λ h. beyond (contentsOf rule slice len) refl h, λ b. ⊎-elim (λ h. long (omega arith)) (λ h. long (omega arith)) b)
   where
-    long : min (length slice) maxLength < len → statusOf len (contentsOf slice len) ≡ S.damaged 1 0
-    long h = rw (contents-long slice len h) (unfold statusOf in refl)
+    long : min (length slice) maxLength < len → statusOf len (contentsOf rule slice len) ≡ S.damaged 1 0
+    long h = rw (contents-long rule slice len h) (unfold statusOf in refl)
 
-    inside : (x : Contents) → contentsFrom len [] 0 (take len slice) ≡ x → statusOf len x ≡ S.damaged 1 0 → ⊥
+    inside : (x : Contents) → contentsFrom rule len [] 0 (take len slice) ≡ x → statusOf len x ≡ S.damaged 1 0 → ⊥
     inside (standing ps committed) e h = standing-not-damaged len ps committed 1 0 h
     inside (faulty n p) e h =
         let one : n ≡ 1 = unfold statusOf in cc in
-        not-one (rw one at (contents-number len [] 0 (take len slice) n p e))
+        not-one (rw one at (contents-number rule len [] 0 (take len slice) n p e))
 
-    beyond : (x : Contents) → contentsOf slice len ≡ x → statusOf len x ≡ S.damaged 1 0 → (length slice < len) ⊎ (65_536 < len)
+    beyond : (x : Contents) → contentsOf rule slice len ≡ x → statusOf len x ≡ S.damaged 1 0 → (length slice < len) ⊎ (65_536 < len)
     beyond x e h =
         by-order len (length slice)
         (λ fits.
-        by-order len 65_536 (λ few. absurd (inside x (sym (contents-fits slice len fits few) ∙ e) h)) (λ many. inr many))
+        by-order len 65_536 (λ few. absurd (inside x (sym (contents-fits rule slice len fits few) ∙ e) h)) (λ many. inr many))
         (λ more. inl more)
 
 -- ---- append's
 
 -- the numbers of a declined append, in the order in which they are judged (7 is none of them: an offer's limits are worked out, not given)
 abbrev pub appendNumbers : List ℕ
-appendNumbers = 3 ∷ 4 ∷ 5 ∷ 17 ∷ 6 ∷ 9 ∷ []
+appendNumbers = 3 ∷ 4 ∷ 5 ∷ 17 ∷ 6 ∷ 19 ∷ 9 ∷ []
 
 abbrev pub OfOffer : ℕ → Type 0
 OfOffer = Among appendNumbers
 
-append-number : (room : ℕ) (last : Last) (committed : ℕ) (o : Offer) (n : ℕ) → appendRefusal room last committed o ≡ suc n → OfOffer (suc n)
-unfolding appendRefusal judgeDay judgeEven judgeRoom among
-append-number room last committed o =
+append-number : (room : ℕ) (ps : List Placed) (committed : ℕ) (q : Request) (n : ℕ) → firstOf (appendRefusals room ps committed q) ≡ suc n → OfOffer (suc n)
+unfolding appendRefusals judgeDay judgeEven judgeRoom among
+append-number room ps committed q =
+    let o : Offer = offerOf q in
     one-of OfOffer
     (row (λ n e. only appendNumbers _ 3 n refl e)
     (row (λ n e. only appendNumbers (nameGood (o .name)) 4 n refl (sym (name-refused (o .name)) ∙ e))
     (row (λ n e. only appendNumbers (chancesGood (o .chances)) 5 n refl (sym (chance-refused (o .chances)) ∙ e))
     (row (λ n e. only appendNumbers _ 17 n refl e)
     (row (λ n e. only appendNumbers (timesGood (o .times)) 6 n refl (sym (time-refused (o .times)) ∙ e))
+    (row (λ n e. only appendNumbers _ 19 n refl e)
     (row (λ n e. only appendNumbers _ 9 n refl e)
-    end))))))
+    end)))))))
 
 extended-not-declined : (j : Journal) (committed : ℕ) (new : List ℕ) (n : ℕ) → settle 0 j committed new .answer ≡ declined n → ⊥
 unfolding settle extend
@@ -267,9 +289,9 @@ declined-same : (m : ℕ) (j : Journal) (committed : ℕ) (new : List ℕ) (n : 
 unfolding settle unchanged
 declined-same m j committed new n e = cc
 
-damaged-not-declined : (m p : ℕ) (j : Journal) (o : Offer) (budget : Budget) (n : ℕ) → appendTo (faulty m p) j o budget .answer ≡ declined n → ⊥
+damaged-not-declined : (m p : ℕ) (j : Journal) (q : Request) (n : ℕ) → appendTo (faulty m p) j q .answer ≡ declined n → ⊥
 unfolding appendTo unchanged
-damaged-not-declined m p j o budget n e = let z : _≡_ {A = ℕ} 0 1 = cc in omega arith
+damaged-not-declined m p j q n e = let z : _≡_ {A = ℕ} 0 1 = cc in omega arith
 
 unread-not-declined : (m p : ℕ) (j : Journal) (q : Request) (n : ℕ) → appendWith (misread m p) j q .answer ≡ declined n → ⊥
 unfolding appendWith unchanged
@@ -284,13 +306,12 @@ declined-number j q n h = by-times (timesOf q) h
     by-refusal zero committed new f e = absurd (extended-not-declined j committed new n e)
     by-refusal (suc m) committed new f e = rw (declined-same m j committed new n e) at (f m refl)
 
-    by-contents : (x : Contents) → appendTo x j (offerOf q) (q .budget) .answer ≡ declined n → OfOffer n
-    by-contents (faulty m p) e = absurd (damaged-not-declined m p j (offerOf q) (q .budget) n e)
+    by-contents : (x : Contents) → appendTo x j q .answer ≡ declined n → OfOffer n
+    by-contents (faulty m p) e = absurd (damaged-not-declined m p j q n e)
     by-contents (standing ps committed) e =
         unfold appendTo in
-        by-refusal (appendRefusal (length (j .slice)) (lastOf (recordsOf ps)) committed (offerOf q)) committed _
-        (append-number (length (j .slice)) _ committed (offerOf q)) e
+        by-refusal (firstOf (appendRefusals (length (j .slice)) ps committed q)) committed _ (append-number (length (j .slice)) ps committed q) e
 
     by-times : (g : Gathered) → appendWith g j q .answer ≡ declined n → OfOffer n
     by-times (misread m p) e = absurd (unread-not-declined m p j q n e)
-    by-times (gathered ts) e = unfold appendWith in by-contents (contentsOf (j .slice) (j .len)) e
+    by-times (gathered ts) e = unfold appendWith in by-contents (contentsOf (q .rule) (j .slice) (j .len)) e

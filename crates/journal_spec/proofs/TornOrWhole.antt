@@ -11,17 +11,18 @@ use lib.Seq.{length-take-le}
 use lib.Dec.{eqb}
 use borrow.Author.Tests.{le-leb, lt-leb, ne-eqb}
 use Rattle.journal_spec.specs.Record.{Record, recordBytes}
+use Rattle.journal_spec.specs.Profile.{plain}
 use Rattle.journal_spec.specs.Scan.{ScanResult, whole, torn, scanOf}
 use Rattle.journal_spec.specs.Request.{extended}
 use Rattle.journal_spec.specs.Calls.{operations, Call, emptyIn, journalAfter}
 use Rattle.journal_spec.specs.Model.{Model, emptyModel, lengthsOf, committedOf, Verdict, taken, turned, verdictOf, Entry, enterRecord, enterBy}
 use Rattle.journal_spec.specs.Model.{enter, modelAfter}
 use Rattle.journal_spec.specs.Shown.{budgetOf, recordOf, AllDeclined}
-use Rattle.journal_spec.specs.Demand.{modelScan}
+use Rattle.journal_spec.specs.Demand.{endOf}
 use Rattle.journal_spec.proofs.Reading.{by-order}
 use Rattle.journal_spec.proofs.Records.{length-record}
 use Rattle.journal_spec.proofs.Placing.{lengths-snoc}
-use Rattle.journal_spec.proofs.Demand.{agrees, demand3}
+use Rattle.journal_spec.proofs.Demand.{plain-scan, demand3}
 use Rattle.journal_spec.proofs.Shown.{enter-is}
 
 declined-stays : (room : ℕ) (m : Model) (c : Call) → (verdictOf room m (c .request) ≡ taken → ⊥) → enter room m c .model ≡ m
@@ -81,42 +82,42 @@ last-taken room m (c ∷ cs) = ⊎-elim (λ all. by-verdict (verdictOf room m (c
 
 -- what scan answers after a list of calls
 scanned : (slice : List ℕ) (cs : List Call)
-    → let j = journalAfter operations (emptyIn slice) cs in scanOf (j .slice) (j .len) ≡ modelScan (modelAfter (length slice) emptyModel cs)
+    → let j = journalAfter operations (emptyIn slice) cs in scanOf plain (j .slice) (j .len) ≡ endOf (modelAfter (length slice) emptyModel cs)
 unfolding operations
-scanned slice cs = demand3 slice cs .agrees .scan
+scanned slice cs = demand3 slice cs .agrees .scan plain ∙ plain-scan (modelAfter (length slice) emptyModel cs)
 
 -- no call but declined ones: whole, with nothing in it
 pub whole-if-all-declined : (slice : List ℕ) (cs : List Call) → AllDeclined (length slice) emptyModel cs
-    → let j = journalAfter operations (emptyIn slice) cs in scanOf (j .slice) (j .len) ≡ whole 0 0
+    → let j = journalAfter operations (emptyIn slice) cs in scanOf plain (j .slice) (j .len) ≡ whole 0 0
 whole-if-all-declined slice cs h =
-    scanned slice cs ∙ ap modelScan (all-stay (length slice) emptyModel cs h) ∙ unfold modelScan emptyModel committedOf lengthsOf in refl
+    scanned slice cs ∙ ap endOf (all-stay (length slice) emptyModel cs h) ∙ unfold endOf emptyModel committedOf lengthsOf in refl
 
 -- what the model's scan says after a record is entered, by the budget
 module _ (m : Model) (r : Record) (k : ℕ) where
-  entered-cut : 0 < k → k < length (recordBytes r) → modelScan (enterRecord m r k .model) ≡ torn (length (m .records)) (committedOf m)
-  unfolding enterRecord modelScan committedOf
+  entered-cut : 0 < k → k < length (recordBytes r) → endOf (enterRecord m r k .model) ≡ torn (length (m .records)) (committedOf m)
+  unfolding enterRecord endOf committedOf
   entered-cut some less =
       let e : enterRecord m r k ≡ record { answer = extended (committedOf m + k); model = record { records = m .records; tail = take k (recordBytes r) } } =
       rw (lt-leb (length (recordBytes r)) k less) refl in
-      ap (λ (x : Entry). modelScan (x .model)) e
+      ap (λ (x : Entry). endOf (x .model)) e
       ∙ rw (length-take-le k (recordBytes r) (omega arith), ne-eqb k 0 (λ z. omega arith)) refl
 
   entered-all : length (recordBytes r) ≤ k
-      → modelScan (enterRecord m r k .model) ≡ whole (length (m .records) + 1) (committedOf m + length (recordBytes r))
-  unfolding enterRecord modelScan committedOf
+      → endOf (enterRecord m r k .model) ≡ whole (length (m .records) + 1) (committedOf m + length (recordBytes r))
+  unfolding enterRecord endOf committedOf
   entered-all all =
       let e : enterRecord m r k
       ≡ record { answer = extended (committedOf m + length (recordBytes r)); model = record { records = m .records ++ r ∷ []; tail = [] } } =
       rw (le-leb (length (recordBytes r)) k all) refl in
-      ap (λ (x : Entry). modelScan (x .model)) e
+      ap (λ (x : Entry). endOf (x .model)) e
       ∙ rw (length-append, lengths-snoc (m .records) r) refl
 
-  entered-none : k ≡ 0 → modelScan (enterRecord m r k .model) ≡ whole (length (m .records)) (committedOf m)
-  unfolding enterRecord modelScan committedOf
+  entered-none : k ≡ 0 → endOf (enterRecord m r k .model) ≡ whole (length (m .records)) (committedOf m)
+  unfolding enterRecord endOf committedOf
   entered-none none =
       let e : enterRecord m r k ≡ record { answer = extended (committedOf m + k); model = record { records = m .records; tail = take k (recordBytes r) } } =
       rw (lt-leb (length (recordBytes r)) k (omega (arith, length-record r))) refl in
-      ap (λ (x : Entry). modelScan (x .model)) e
+      ap (λ (x : Entry). endOf (x .model)) e
       ∙ rw none refl
 
 -- the list ends with a call that is not declined, after which all are declined
@@ -137,20 +138,20 @@ module _ (slice : List ℕ) (cs : List Call) (c : Call) (ds : List Call)
   -- it wrote some of its record but not all: torn
   pub torn-if-cut : 0 < budgetOf c → budgetOf c < length (recordBytes (recordOf c))
       → let j = journalAfter operations (emptyIn slice) (cs ++ c ∷ ds) in
-      scanOf (j .slice) (j .len) ≡ torn (length (base .records)) (committedOf base)
-  torn-if-cut some less = scanned slice (cs ++ c ∷ ds) ∙ ap modelScan ends ∙ entered-cut base (recordOf c) (budgetOf c) some less
+      scanOf plain (j .slice) (j .len) ≡ torn (length (base .records)) (committedOf base)
+  torn-if-cut some less = scanned slice (cs ++ c ∷ ds) ∙ ap endOf ends ∙ entered-cut base (recordOf c) (budgetOf c) some less
 
   -- it wrote all of it: whole, with one record more
   pub whole-if-finished : length (recordBytes (recordOf c)) ≤ budgetOf c
       → let j = journalAfter operations (emptyIn slice) (cs ++ c ∷ ds) in
-      scanOf (j .slice) (j .len) ≡ whole (length (base .records) + 1) (committedOf base + length (recordBytes (recordOf c)))
-  whole-if-finished all = scanned slice (cs ++ c ∷ ds) ∙ ap modelScan ends ∙ entered-all base (recordOf c) (budgetOf c) all
+      scanOf plain (j .slice) (j .len) ≡ whole (length (base .records) + 1) (committedOf base + length (recordBytes (recordOf c)))
+  whole-if-finished all = scanned slice (cs ++ c ∷ ds) ∙ ap endOf ends ∙ entered-all base (recordOf c) (budgetOf c) all
 
   -- it wrote none of it: whole
   pub whole-if-none : budgetOf c ≡ 0
       → let j = journalAfter operations (emptyIn slice) (cs ++ c ∷ ds) in
-      scanOf (j .slice) (j .len) ≡ whole (length (base .records)) (committedOf base)
-  whole-if-none none = scanned slice (cs ++ c ∷ ds) ∙ ap modelScan ends ∙ entered-none base (recordOf c) (budgetOf c) none
+      scanOf plain (j .slice) (j .len) ≡ whole (length (base .records)) (committedOf base)
+  whole-if-none none = scanned slice (cs ++ c ∷ ds) ∙ ap endOf ends ∙ entered-none base (recordOf c) (budgetOf c) none
 
 -- ---- exactly
 
@@ -163,7 +164,7 @@ pub record CutLast (slice : List ℕ) (cs : List Call) : Type 0 where
 module _ (slice : List ℕ) (cs : List Call) where
   -- what scan answers after the calls, and the model after them
   abbrev answered : ScanResult
-  answered = scanOf (journalAfter operations (emptyIn slice) cs .slice) (journalAfter operations (emptyIn slice) cs .len)
+  answered = scanOf plain (journalAfter operations (emptyIn slice) cs .slice) (journalAfter operations (emptyIn slice) cs .len)
 
   abbrev after : Model
   after = modelAfter (length slice) emptyModel cs
@@ -176,7 +177,7 @@ module _ (slice : List ℕ) (cs : List Call) where
   SaysWhole = answered ≡ whole (length (after .records)) (committedOf after)
 
   says : SaysWhole ⊎ SaysTorn
-  unfolding modelScan
+  unfolding endOf
   says = go (eqb (length (after .tail)) 0) refl
     where
       go : (b : Bool) → eqb (length (after .tail)) 0 ≡ b → SaysWhole ⊎ SaysTorn

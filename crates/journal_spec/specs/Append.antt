@@ -8,12 +8,13 @@ use lib.Ieee.{binary64, toBits}
 use Rattle.limit.specs.Formula.{sampleForm}
 use Rattle.limit.specs.Answer.{LimitResult, limited, refused}
 use Rattle.limit.specs.Limit.{limitOf}
-use Rattle.journal_spec.specs.Refusals.{roomRefusal, evenRefusal, unless, firstOf}
+use Rattle.journal_spec.specs.Refusals.{roomRefusal, evenRefusal, profileRefusal, unless, firstOf}
 use Rattle.journal_spec.specs.Section.{sectionRefusal}
-use Rattle.journal_spec.specs.Record.{Record, Last, lastOf, judgeDay, evenChance, lastChance, nameSection, chanceSection, timeSection, recordBytes}
-use Rattle.journal_spec.specs.Scan.{maxLength, recordsOf, Contents, standing, faulty, contentsOf}
+use Rattle.journal_spec.specs.Record.{Record, lastOf, judgeDay, evenChance, lastChance, nameSection, chanceSection, timeSection, recordBytes}
+use Rattle.journal_spec.specs.Profile.{keeps}
+use Rattle.journal_spec.specs.Scan.{maxLength, Placed, recordsOf, Contents, standing, faulty, contentsOf}
 use Rattle.journal_spec.specs.Log.{Gathered, gathered, misread}
-use Rattle.journal_spec.specs.Request.{Journal, Budget, Request, Offer, timesOf, offerOf, allowed, AppendResult, extended, declined, declinedAt}
+use Rattle.journal_spec.specs.Request.{Journal, Request, Offer, timesOf, offerOf, allowed, AppendResult, extended, declined, declinedAt}
 use Rattle.journal_spec.specs.Request.{damaged, Outcome}
 
 -- ---- the record that is offered
@@ -48,17 +49,18 @@ judgeEven chances = unless (leb (lastChance chances) evenChance) evenRefusal
 unfoldable pub judgeRoom : ℕ → ℕ → ℕ → ℕ
 judgeRoom room committed size = unless (leb (committed + size) (min room maxLength)) roomRefusal
 
--- the refusal of an offer, the first in the papers' order: 3, 4, 5, 17, 6, 9
-unfoldable pub appendRefusal : ℕ → Last → ℕ → Offer → ℕ
-appendRefusal room last committed o =
-    firstOf
-    (judgeDay last (o .day)
+-- the refusals of a request in the papers' order, after these records in a slice of `room` bytes: 3, 4, 5, 17, 6, 19, 9
+unfoldable pub appendRefusals : ℕ → List Placed → ℕ → Request → List ℕ
+appendRefusals room ps committed q =
+    let o = offerOf q in
+    judgeDay (lastOf (recordsOf ps)) (o .day)
     ∷ sectionRefusal nameSection (o .name)
     ∷ sectionRefusal chanceSection (o .chances)
     ∷ judgeEven (o .chances)
     ∷ sectionRefusal timeSection (o .times)
+    ∷ unless (keeps (q .rule) (offered o)) profileRefusal
     ∷ judgeRoom room committed (length (recordBytes (offered o)))
-    ∷ [])
+    ∷ []
 
 -- ---- what is answered and written
 
@@ -84,16 +86,16 @@ settle zero j committed new = extend (j .slice) committed new
 settle (suc n) j committed new = unchanged (declined (suc n)) j
 
 -- by what the journal holds: faults first
-unfoldable pub appendTo : Contents → Journal → Offer → Budget → Outcome
-appendTo (faulty n p) j o budget = unchanged (damaged n p) j
-appendTo (standing ps committed) j o budget =
-    let bytes = recordBytes (offered o) in
-    settle (appendRefusal (length (j .slice)) (lastOf (recordsOf ps)) committed o) j committed (take (allowed budget (length bytes)) bytes)
+unfoldable pub appendTo : Contents → Journal → Request → Outcome
+appendTo (faulty n p) j q = unchanged (damaged n p) j
+appendTo (standing ps committed) j q =
+    let bytes = recordBytes (offered (offerOf q)) in
+    settle (firstOf (appendRefusals (length (j .slice)) ps committed q)) j committed (take (allowed (q .budget) (length bytes)) bytes)
 
 -- by what the log comes to: a line that is refused is answered before the journal is read
 unfoldable pub appendWith : Gathered → Journal → Request → Outcome
 appendWith (misread n p) j q = unchanged (declinedAt n p) j
-appendWith (gathered ts) j q = appendTo (contentsOf (j .slice) (j .len)) j (offerOf q) (q .budget)
+appendWith (gathered ts) j q = appendTo (contentsOf (q .rule) (j .slice) (j .len)) j q
 
 -- append: after its checks, the record's bytes are written as far as the budget goes; document 01's append has all of them for its budget
 unfoldable pub appendOf : Journal → Request → Outcome

@@ -3,6 +3,7 @@
 use Prim.Native.Nat.{ℕ, max}
 use mathlib.Core.List.{List, [], _∷_}
 use Rattle.journal_spec.specs.Record.{IsDay}
+use Rattle.journal_spec.specs.Profile.{Rule}
 use Rattle.journal_spec.specs.Scan.{ScanResult, scanOf}
 use Rattle.journal_spec.specs.Read.{MarkResult, readPart, readMark}
 use Rattle.journal_spec.specs.Request.{Journal, Request, AppendResult, Outcome}
@@ -11,9 +12,9 @@ use Rattle.journal_spec.specs.Append.{appendOf}
 -- the operations that demand 3 speaks of
 pub record Operations : Type 0 where
   pub append : Journal → Request → Outcome
-  pub scan : List ℕ → ℕ → ScanResult
-  pub readPart : List ℕ → ℕ → ℕ → List ℕ
-  pub readMark : List ℕ → ℕ → ℕ → MarkResult
+  pub scan : Rule → List ℕ → ℕ → ScanResult
+  pub readPart : Rule → List ℕ → ℕ → ℕ → List ℕ
+  pub readMark : Rule → List ℕ → ℕ → ℕ → MarkResult
 
 -- the journal's own
 unfoldable pub operations : Operations

@@ -5,6 +5,7 @@ use mathlib.Core.List.{List, []}
 use lib.ListN.{length}
 use Rattle.journal_spec.specs.Bytes.{numberAt}
 use Rattle.journal_spec.specs.Record.{Record}
+use Rattle.journal_spec.specs.Profile.{plain}
 use Rattle.journal_spec.specs.Scan.{recordsOf, Contents, standing, faulty, contentsOf}
 
 -- the records that stand, none in a damaged journal
@@ -14,7 +15,7 @@ recordsHeld (faulty n p) = []
 
 -- those of the journal of a length in a slice
 unfoldable pub recordsUpto : List ℕ → ℕ → List Record
-recordsUpto slice len = recordsHeld (contentsOf slice len)
+recordsUpto slice len = recordsHeld (contentsOf plain slice len)
 
 -- those of the journal that takes all of some bytes
 unfoldable pub recordsIn : List ℕ → List Record

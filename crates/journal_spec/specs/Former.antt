@@ -14,6 +14,7 @@ use Rattle.journal_spec.specs.Reader.{Reader, field, then, found, fault,
 use Rattle.journal_spec.specs.Section.{Section, section}
 use Rattle.journal_spec.specs.Record.{Record, Last, lastOf, judgeForm, judgeDay, nameSection, lastChance}
 use Rattle.journal_spec.specs.Stages.{dayStage, timeStage}
+use Rattle.journal_spec.specs.Profile.{plain}
 use Rattle.journal_spec.specs.Scan.{maxLength, Placed, recordsOf, Contents, standing, faulty, statusOf, scanOf}
 use Rattle.journal_spec.specs.Read.{Mark, flat, few, normal, fewTimes, areEqual, partOf, partBytes, readPart, markIn, readMark}
 
@@ -81,6 +82,6 @@ wideContents = heldBy wideReader
 
 -- scan, and for each i both calls of reading, answer what they answered under that reader
 pub record ReadsUnchanged (slice : List ℕ) (len : ℕ) : Type 0 where
-  pub scan : scanOf slice len ≡ statusOf len (wideContents slice len)
-  pub part : (i : ℕ) → readPart slice len i ≡ partBytes slice (partOf (wideContents slice len) i)
-  pub mark : (i : ℕ) → readMark slice len i ≡ markIn (wideContents slice len) i
+  pub scan : scanOf plain slice len ≡ statusOf len (wideContents slice len)
+  pub part : (i : ℕ) → readPart plain slice len i ≡ partBytes slice (partOf (wideContents slice len) i)
+  pub mark : (i : ℕ) → readMark plain slice len i ≡ markIn (wideContents slice len) i

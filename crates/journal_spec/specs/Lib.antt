@@ -11,6 +11,7 @@ pub mod Record
 pub mod Tests
 pub mod Log
 -- what scan, reading and append answer
+pub mod Profile
 pub mod Scan
 pub mod Cursor
 pub mod Read

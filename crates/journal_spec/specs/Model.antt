@@ -4,6 +4,7 @@
 use Prim.Native.Nat.{ℕ, zero, suc, _+_}
 use mathlib.Core.List.{List, [], _∷_, _++_, map}
 use mathlib.Core.Bool.{Bool, cond, _&&_, _||_, not}
+use mathlib.Core.Option.{Option, none, some}
 use lib.ListN.{length, take}
 use lib.Dec.{leb, ltb}
 use lib.Ieee.{Float, binary64, toBits}
@@ -11,12 +12,13 @@ use Rattle.limit.specs.Times.{minTicks, maxTicks, minCount, maxCount, inRange, 
 use Rattle.limit.specs.Formula.{sampleForm, formulaOf}
 use Rattle.limit.specs.Answer.{chanceRefusal, timesRefusal}
 use Rattle.limit.specs.Limit.{minChance, maxChance}
-use Rattle.journal_spec.specs.Refusals.{dayRefusal, nameRefusal, roomRefusal, evenRefusal, unless, firstOf}
+use Rattle.journal_spec.specs.Refusals.{dayRefusal, nameRefusal, roomRefusal, evenRefusal, profileRefusal, unless, firstOf}
 use Rattle.journal_spec.specs.Tests.{each, rising, nameGood}
 use Rattle.journal_spec.specs.Log.{Gathered, gathered, misread}
 use Rattle.journal_spec.specs.Record.{Record, lastOf, minChances, maxChances, evenChance, recordBytes}
+use Rattle.journal_spec.specs.Profile.{Rule, keeps}
 use Rattle.journal_spec.specs.Scan.{maxLength}
-use Rattle.journal_spec.specs.Request.{Request, Offer, timesOf, offerOf, allowed, AppendResult, extended, declined, declinedAt}
+use Rattle.journal_spec.specs.Request.{Request, Offer, timesOf, offerOf, allowed, AppendResult, extended, declined, declinedAt, damaged}
 use Rattle.journal_spec.specs.Calls.{Call}
 
 -- document 01's book: a list of records and a torn tail
@@ -76,20 +78,32 @@ timesGood times = inRange minCount maxCount (length times) && each (inRange minT
 unfoldable pub noRoom : ℕ → Model → Offer → Bool
 noRoom room m o = ltb room (committedOf m + length (recordBytes (recordFor o))) || ltb maxLength (committedOf m + length (recordBytes (recordFor o)))
 
--- what declines an offer, in document 01's order
-unfoldable pub modelRefusals : ℕ → Model → Offer → List ℕ
-modelRefusals room m o =
+-- what declines a request, in the papers' order
+unfoldable pub modelRefusals : ℕ → Model → Request → List ℕ
+modelRefusals room m q =
+    let o = offerOf q in
     unless (not (dayFalls m o)) dayRefusal
     ∷ unless (nameGood (o .name)) nameRefusal
     ∷ unless (chancesGood (o .chances)) chanceRefusal
     ∷ unless (chancesEven (o .chances)) evenRefusal
     ∷ unless (timesGood (o .times)) timesRefusal
+    ∷ unless (keeps (q .rule) (recordFor o)) profileRefusal
     ∷ unless (not (noRoom room m o)) roomRefusal
     ∷ []
 
 -- the first of these, or 0
-unfoldable pub modelRefusal : ℕ → Model → Offer → ℕ
-modelRefusal room m o = firstOf (modelRefusals room m o)
+unfoldable pub modelRefusal : ℕ → Model → Request → ℕ
+modelRefusal room m q = firstOf (modelRefusals room m q)
+
+-- ---- what stands
+
+-- the place of the first record that breaks the rule, from the place `at` on
+unfoldable pub breakFrom : Rule → ℕ → List Record → Option ℕ
+breakFrom rule at [] = none
+breakFrom rule at (r ∷ rs) = cond (keeps rule r) (breakFrom rule (at + length (recordBytes r)) rs) (some at)
+
+unfoldable pub breakOf : Rule → Model → Option ℕ
+breakOf rule m = breakFrom rule 0 (m .records)
 
 -- ---- a call
 
@@ -114,9 +128,14 @@ firstTurned [] = taken
 firstTurned (taken ∷ vs) = firstTurned vs
 firstTurned (turned answer ∷ vs) = turned answer
 
--- the log is judged before the journal
+-- damaged by a record that stands and breaks the rule, at its first byte
+unfoldable pub byBreak : Option ℕ → Verdict
+byBreak none = taken
+byBreak (some at) = turned (damaged profileRefusal at)
+
+-- the log is judged before the journal, and the journal before what is offered
 unfoldable pub verdictOf : ℕ → Model → Request → Verdict
-verdictOf room m q = firstTurned (byLog (timesOf q) ∷ byNumber (modelRefusal room m (offerOf q)) ∷ [])
+verdictOf room m q = firstTurned (byLog (timesOf q) ∷ byBreak (breakOf (q .rule) m) ∷ byNumber (modelRefusal room m q) ∷ [])
 
 -- a call's answer, and the model after it
 pub record Entry : Type 0 where

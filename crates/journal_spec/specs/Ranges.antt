@@ -10,8 +10,9 @@ use Rattle.limit.specs.Formula.{plainForm, sampleForm}
 use Rattle.limit.specs.Limit.{minChance, maxChance}
 use Rattle.journal_spec.specs.Record.{Record, Last, IsDay, lastOf, minName, maxName, minByte, maxByte, minChances, maxChances}
 use Rattle.journal_spec.specs.Record.{evenChance, recordBytes}
+use Rattle.journal_spec.specs.Profile.{Rule, plain, profile, profileChances, profileTimes}
 use Rattle.journal_spec.specs.Scan.{maxLength}
-use Rattle.journal_spec.specs.Request.{Offer}
+use Rattle.journal_spec.specs.Request.{Request, Offer, offerOf}
 use Rattle.journal_spec.specs.Model.{Model, committedOf, workedOut, recordFor}
 
 -- each number of the list is one of low, low + 1, .., high
@@ -37,15 +38,31 @@ pub record TimeRanges (times : List ℕ) : Type 0 where
   pub most : length times ≤ maxCount
   pub range : Each minTicks maxTicks times
 
--- an offer that a journal with these records and this room takes
-pub record Accepted (room : ℕ) (m : Model) (o : Offer) : Type 0 where
+-- an offer whose fields a journal with these records takes
+pub record Offered (m : Model) (o : Offer) : Type 0 where
   pub day : lastOf (m .records) .day ≤ o .day
   pub name : NameRanges (o .name)
   pub chances : ChanceRanges (o .chances)
   pub even : (i : ℕ) → i < length (o .chances) → getD (o .chances) i 0 ≤ evenChance
   pub times : TimeRanges (o .times)
-  pub fitsSlice : committedOf m + length (recordBytes (recordFor o)) ≤ room
-  pub fitsJournal : committedOf m + length (recordBytes (recordFor o)) ≤ maxLength
+
+-- the profile's ranges
+pub record ProfileRanges (r : Record) : Type 0 where
+  pub form : r .form ≡ sampleForm
+  pub chances : r .chances ≡ profileChances
+  pub times : profileTimes ≤ length (r .times)
+
+-- a record keeps a rule
+abbrev pub Keeps : Rule → Record → Type 0
+Keeps plain r = Unit {0}
+Keeps profile r = ProfileRanges r
+
+-- a request that a journal with these records and this room takes
+pub record Accepted (room : ℕ) (m : Model) (q : Request) : Type 0 where
+  pub offer : Offered m (offerOf q)
+  pub rule : Keeps (q .rule) (recordFor (offerOf q))
+  pub fitsSlice : committedOf m + length (recordBytes (recordFor (offerOf q))) ≤ room
+  pub fitsJournal : committedOf m + length (recordBytes (recordFor (offerOf q))) ≤ maxLength
 
 -- a record that may stand after the record `last`
 pub record RecordRanges (last : Last) (r : Record) : Type 0 where

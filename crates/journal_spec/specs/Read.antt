@@ -7,6 +7,7 @@ use lib.ListN.{length, take, drop}
 use lib.Dec.{ltb, eqb}
 use Rattle.journal_spec.specs.Bytes.{numbersIn}
 use Rattle.journal_spec.specs.Refusals.{absentRefusal}
+use Rattle.journal_spec.specs.Profile.{Rule}
 use Rattle.journal_spec.specs.Scan.{Placed, Contents, standing, faulty, contentsOf}
 
 -- ---- the part
@@ -32,16 +33,16 @@ partOf (standing ps committed) i = partAt ps i
 partOf (faulty n p) i = noPart
 
 -- where record i stands
-unfoldable pub partPlace : List ℕ → ℕ → ℕ → Part
-partPlace slice len i = partOf (contentsOf slice len) i
+unfoldable pub partPlace : Rule → List ℕ → ℕ → ℕ → Part
+partPlace rule slice len i = partOf (contentsOf rule slice len) i
 
 -- the bytes of a part
 unfoldable pub partBytes : List ℕ → Part → List ℕ
 partBytes slice p = take (p .size) (drop (p .start) slice)
 
 -- reading's first call: the bytes of record i, empty where refused
-unfoldable pub readPart : List ℕ → ℕ → ℕ → List ℕ
-readPart slice len i = partBytes slice (partPlace slice len i)
+unfoldable pub readPart : Rule → List ℕ → ℕ → ℕ → List ℕ
+readPart rule slice len i = partBytes slice (partPlace rule slice len i)
 
 -- ---- the mark
 
@@ -100,5 +101,5 @@ markIn (standing ps committed) i = markAt ps i
 markIn (faulty n p) i = unmarked n
 
 -- reading's second call: the mark of record i, or the refusal's number
-unfoldable pub readMark : List ℕ → ℕ → ℕ → MarkResult
-readMark slice len i = markIn (contentsOf slice len) i
+unfoldable pub readMark : Rule → List ℕ → ℕ → ℕ → MarkResult
+readMark rule slice len i = markIn (contentsOf rule slice len) i

@@ -47,6 +47,10 @@ oldFormRefusal = 13
 abbrev pub evenRefusal : ℕ
 evenRefusal = 17
 
+-- 19: a record breaks the profile
+abbrev pub profileRefusal : ℕ
+profileRefusal = 19
+
 -- none where the test holds, else n
 unfoldable pub unless : Bool → ℕ → ℕ
 unless good n = cond good 0 n

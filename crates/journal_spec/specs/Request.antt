@@ -2,6 +2,7 @@
 -- Append's definition and the model share them.
 use Prim.Native.Nat.{ℕ}
 use mathlib.Core.List.{List, []}
+use Rattle.journal_spec.specs.Profile.{Rule}
 use Rattle.journal_spec.specs.Log.{Gathered, gathered, misread, gatherOf}
 
 -- document 01's volume: the bytes of the slice, and the journal's length in it
@@ -26,6 +27,7 @@ pub record Request : Type 0 where
   pub chances : List ℕ
   pub source : Source
   pub budget : Budget
+  pub rule : Rule
 
 -- document 01's offered leaf, without its limits
 pub record Offer : Type 0 where

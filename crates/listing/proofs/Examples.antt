@@ -17,7 +17,9 @@ use Rattle.journal_spec.specs.Reader.{run, then}
 use Rattle.journal_spec.specs.Section.{items, section}
 use Rattle.journal_spec.specs.Record.{lastOf, judgeForm, judgeDay, nameSection, lastChance, judgeChance, chanceSection, timeSection}
 use Rattle.journal_spec.specs.Record.{judgeLimit, limitSection, recordReader}
-use Rattle.journal_spec.specs.Scan.{recordsOf, contentsFrom, contentsOf, statusOf}
+use Rattle.journal_spec.specs.Profile.{keeps}
+use Rattle.journal_spec.specs.Profile as P
+use Rattle.journal_spec.specs.Scan.{recordsOf, judged, recordAt, contentsFrom, contentsOf, statusOf}
 use Rattle.journal_spec.specs.Read.{letterOf, allEqual, areEqual, markFrom, markOf}
 use Rattle.listing.specs.Listing.{spaced, lineOf, quotedLimit, quotedLimits, recordLine, wordWhole, wordTorn, wordDamaged}
 use Rattle.listing.specs.Listing.{stateLine, recordLines, listingOf}
@@ -36,20 +38,20 @@ exampleLine =
 
 pub record Examples : Type 0 where
   -- and `whole 1 33`
-  pub whole-listed : listingOf example ≡ exampleLine ++ (0x77 ∷ 0x68 ∷ 0x6f ∷ 0x6c ∷ 0x65 ∷ 0x20 ∷ 0x31 ∷ 0x20 ∷ 0x33 ∷ 0x33 ∷ 0x0a ∷ [])
+  pub whole-listed : listingOf P.plain example ≡ exampleLine ++ (0x77 ∷ 0x68 ∷ 0x6f ∷ 0x6c ∷ 0x65 ∷ 0x20 ∷ 0x31 ∷ 0x20 ∷ 0x33 ∷ 0x33 ∷ 0x0a ∷ [])
   -- `torn 0 0`
-  pub cut-listed : listingOf (take 32 example) ≡ 0x74 ∷ 0x6f ∷ 0x72 ∷ 0x6e ∷ 0x20 ∷ 0x30 ∷ 0x20 ∷ 0x30 ∷ 0x0a ∷ []
+  pub cut-listed : listingOf P.plain (take 32 example) ≡ 0x74 ∷ 0x6f ∷ 0x72 ∷ 0x6e ∷ 0x20 ∷ 0x30 ∷ 0x20 ∷ 0x30 ∷ 0x0a ∷ []
   -- `damaged 7 25`: the limit's lowest bit is set
   pub fault-listed :
-      listingOf (set example 25 1) ≡ 0x64 ∷ 0x61 ∷ 0x6d ∷ 0x61 ∷ 0x67 ∷ 0x65 ∷ 0x64 ∷ 0x20 ∷ 0x37 ∷ 0x20 ∷ 0x32 ∷ 0x35 ∷ 0x0a ∷ []
+      listingOf P.plain (set example 25 1) ≡ 0x64 ∷ 0x61 ∷ 0x6d ∷ 0x61 ∷ 0x67 ∷ 0x65 ∷ 0x64 ∷ 0x20 ∷ 0x37 ∷ 0x20 ∷ 0x32 ∷ 0x35 ∷ 0x0a ∷ []
   -- the example as a record of form 2 after itself: both lines and `whole 2 66`
-  pub forms-listed : listingOf (example ++ set example 0 2)
+  pub forms-listed : listingOf P.plain (example ++ set example 0 2)
       ≡ exampleLine ++ (exampleLine ++ (0x77 ∷ 0x68 ∷ 0x6f ∷ 0x6c ∷ 0x65 ∷ 0x20 ∷ 0x32 ∷ 0x20 ∷ 0x36 ∷ 0x36 ∷ 0x0a ∷ []))
   -- and before itself: `damaged 13 33`
-  pub old-form-listed : listingOf (set example 0 2 ++ example)
+  pub old-form-listed : listingOf P.plain (set example 0 2 ++ example)
       ≡ 0x64 ∷ 0x61 ∷ 0x6d ∷ 0x61 ∷ 0x67 ∷ 0x65 ∷ 0x64 ∷ 0x20 ∷ 0x31 ∷ 0x33 ∷ 0x20 ∷ 0x33 ∷ 0x33 ∷ 0x0a ∷ []
   -- `whole 0 0`
-  pub empty-listed : listingOf [] ≡ 0x77 ∷ 0x68 ∷ 0x6f ∷ 0x6c ∷ 0x65 ∷ 0x20 ∷ 0x30 ∷ 0x20 ∷ 0x30 ∷ 0x0a ∷ []
+  pub empty-listed : listingOf P.plain [] ≡ 0x77 ∷ 0x68 ∷ 0x6f ∷ 0x6c ∷ 0x65 ∷ 0x20 ∷ 0x30 ∷ 0x20 ∷ 0x30 ∷ 0x0a ∷ []
 
 pub listed-examples : Examples
 unfolding ofInt ofBits toBits isNan eq lt add mul div sqrtIn fErfcinv
@@ -57,7 +59,7 @@ unfolding ofInt ofBits toBits isNan eq lt add mul div sqrtIn fErfcinv
     formKnown chanceInRange judge limitOf glyphOf digits orMore placesIn placesOf decimalDigits
     valueOf joined unless outside firstOf run then items section
     lastOf judgeForm judgeDay nameSection lastChance judgeChance chanceSection timeSection judgeLimit limitSection recordReader
-    recordsOf contentsFrom contentsOf statusOf letterOf allEqual areEqual markFrom markOf
+    recordsOf judged recordAt keeps contentsFrom contentsOf statusOf letterOf allEqual areEqual markFrom markOf
     spaced lineOf quotedLimit quotedLimits recordLine wordWhole wordTorn wordDamaged stateLine recordLines listingOf
 listed-examples = record {
   whole-listed = refl;

@@ -5,6 +5,7 @@ use Prim.Native.Nat.{ℕ}
 use mathlib.Core.List.{List}
 use lib.ListN.{length}
 use Rattle.limit.specs.Answer.{formRefusal}
+use Rattle.journal_spec.specs.Profile.{plain}
 use Rattle.journal_spec.specs.Scan.{Placed, standing, damaged, statusOf}
 use Rattle.journal_spec.specs.Former.{formerContents, StopsAtSample}
 use Rattle.journal_spec.proofs.Former.{reads-as-before}
@@ -15,7 +16,7 @@ abbrev pub formerListing : List ℕ → List ℕ
 formerListing bytes = listingBy (length bytes) (formerContents bytes (length bytes))
 
 pub lists-as-before : (bytes : List ℕ) (ps : List Placed) (committed : ℕ)
-    → formerContents bytes (length bytes) ≡ standing ps committed → formerListing bytes ≡ listingOf bytes
+    → formerContents bytes (length bytes) ≡ standing ps committed → formerListing bytes ≡ listingOf plain bytes
 unfolding listingOf
 lists-as-before bytes ps committed h = rw (h, reads-as-before bytes (length bytes) ps committed h) refl
 

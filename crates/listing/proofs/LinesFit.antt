@@ -7,6 +7,7 @@ use native.Mathlib.Omega.{arith}
 use lib.ListN.{length}
 use Rattle.journal_spec.specs.Bytes.{joined, AreBytes}
 use Rattle.journal_spec.specs.Record.{Record, lastOf, recordBytes, recordsBytes}
+use Rattle.journal_spec.specs.Profile.{Rule}
 use Rattle.journal_spec.specs.Scan.{ScanResult, scanOf}
 use Rattle.journal_spec.specs.Ranges.{AllRanges}
 use Rattle.listing.specs.Lines.{Position, startOf, endOf, noLine, stepBy, step, maxLine, LinesWithin}
@@ -34,7 +35,7 @@ within-left (r ∷ rs) earlier pre tail b state (suc k) f e h =
     )
 
 -- Any number of calls from the start on writes lines of at most `maxLine` bytes.
-pub lines-fit : (b : List ℕ) → AreBytes b → (calls : ℕ) → LinesWithin maxLine calls (startOf b) b
-lines-fit b are calls =
-    let s = starting b are in
-    rw (s .start) (within-left (s .records) [] [] (s .tail) b (scanOf b (length b)) calls (s .follow) (s .bytes) (scan-numbered b are))
+pub lines-fit : (rule : Rule) (b : List ℕ) → AreBytes b → (calls : ℕ) → LinesWithin maxLine calls (startOf rule b) b
+lines-fit rule b are calls =
+    let s = starting rule b are in
+    rw (s .start) (within-left (s .records) [] [] (s .tail) b (scanOf rule b (length b)) calls (s .follow) (s .bytes) (scan-numbered rule b are))

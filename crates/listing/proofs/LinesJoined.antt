@@ -7,6 +7,7 @@ use native.Mathlib.Omega.{arith}
 use lib.ListN.{length}
 use Rattle.journal_spec.specs.Bytes.{joined, AreBytes}
 use Rattle.journal_spec.specs.Record.{Record, lastOf, recordBytes, recordsBytes}
+use Rattle.journal_spec.specs.Profile.{Rule}
 use Rattle.journal_spec.specs.Scan.{ScanResult, whole, torn, damaged, scanOf}
 use Rattle.journal_spec.specs.Ranges.{AllRanges}
 use Rattle.listing.specs.Listing.{newline, spaced, lineOf, recordLine, stateLine, listingOf}
@@ -56,7 +57,8 @@ lines-left (r ∷ rs) earlier pre tail b state (suc k) f e h =
     rw (step-next (lastOf earlier) r rs pre more b state (f .0) bytes) (onward-record r _ ∙ rw (later, append-assoc) refl)
 
 -- Any number of calls above the number of the records listed writes the listing.
-pub lines-joined : (b : List ℕ) → AreBytes b → (calls : ℕ) → listedOf (scanOf b (length b)) < calls → linesFrom calls (startOf b) b ≡ listingOf b
-lines-joined b are calls h =
-    let s = starting b are in
-    rw (s .start, s .text) (lines-left (s .records) [] [] (s .tail) b (scanOf b (length b)) calls (s .follow) (s .bytes) (omega (arith, s .count)))
+pub lines-joined : (rule : Rule) (b : List ℕ) → AreBytes b → (calls : ℕ) → listedOf (scanOf rule b (length b)) < calls
+    → linesFrom calls (startOf rule b) b ≡ listingOf rule b
+lines-joined rule b are calls h =
+    let s = starting rule b are in
+    rw (s .start, s .text) (lines-left (s .records) [] [] (s .tail) b (scanOf rule b (length b)) calls (s .follow) (s .bytes) (omega (arith, s .count)))

@@ -11,11 +11,13 @@ use lib.Dec.{eqb}
 use Rattle.journal_spec.specs.Bytes.{joined, AreBytes}
 use Rattle.journal_spec.specs.Reader.{found, then}
 use Rattle.journal_spec.specs.Record.{Record, Last, lastOf, recordReader, recordBytes, recordsBytes}
+use Rattle.journal_spec.specs.Profile.{Rule}
 use Rattle.journal_spec.specs.Scan.{Placed, recordsOf, Contents, standing, faulty, contentsOf, ScanResult, whole, torn, statusOf, scanOf}
 use Rattle.journal_spec.specs.Ranges.{RecordRanges, AllRanges}
 use Rattle.journal_spec.proofs.Ranged.{reads-back}
 use Rattle.journal_spec.proofs.Scanning.{recordsOf-placed, length-placed}
 use Rattle.journal_spec.proofs.Explained.{holding}
+use Rattle.journal_spec.proofs.Profiles.{rule-then-plain}
 use Rattle.listing.specs.Listing.{recordLine, recordLines, stateLine, listingOf}
 use Rattle.listing.specs.Plain.{plain, plainRecordAt}
 use Rattle.listing.specs.Lines.{Position, listedOf, before, startOf, recordStep, stepBy, step}
@@ -63,23 +65,23 @@ listed-standing len ps committed = go (eqb committed len)
     go false = refl
 
 -- the records of a listing and where they stand
-pub record Starting (b : List ℕ) : Type 0 where
+pub record Starting (rule : Rule) (b : List ℕ) : Type 0 where
   pub records : List Record
   pub tail : List ℕ
   pub bytes : b ≡ recordsBytes records ++ tail
   pub follow : AllRanges [] records
-  pub count : listedOf (scanOf b (length b)) ≡ length records
-  pub start : startOf b ≡ leaving [] records (scanOf b (length b))
-  pub text : listingOf b ≡ joined (map recordLine records) ++ stateLine (scanOf b (length b))
+  pub count : listedOf (scanOf rule b (length b)) ≡ length records
+  pub start : startOf rule b ≡ leaving [] records (scanOf rule b (length b))
+  pub text : listingOf rule b ≡ joined (map recordLine records) ++ stateLine (scanOf rule b (length b))
 
-pub starting : (b : List ℕ) → AreBytes b → Starting b
+pub starting : (rule : Rule) (b : List ℕ) → AreBytes b → Starting rule b
 unfolding scanOf startOf before listingOf recordLines recordsBytes joined listedOf statusOf
-starting b are = go (contentsOf b (length b)) refl
+starting rule b are = go (contentsOf rule b (length b)) refl
   where
-    go : (c : Contents) → contentsOf b (length b) ≡ c → Starting b
+    go : (c : Contents) → contentsOf rule b (length b) ≡ c → Starting rule b
     go (faulty n p) e = record { records = []; tail = b; bytes = refl; follow = tt; count = rw e refl; start = rw e refl; text = rw e refl }
     go (standing ps committed) e =
-        let x = holding b (length b) ps committed are e in
+        let x = holding b (length b) ps committed are (rule-then-plain rule b (length b) ps committed e .0) in
         let count = listed-standing (length b) ps committed ∙ ap length (x .places) ∙ length-placed 0 (x .records) in
         let same : recordsOf ps ≡ x .records = ap recordsOf (x .places) ∙ recordsOf-placed 0 (x .records) in
         record {

@@ -8,6 +8,7 @@ use lib.ListN.{length}
 use Rattle.hex.specs.Text.{Put}
 use Rattle.journal_spec.specs.Reader.{Found, found, fault, short}
 use Rattle.journal_spec.specs.Record.{Record}
+use Rattle.journal_spec.specs.Profile.{Rule}
 use Rattle.journal_spec.specs.Scan.{ScanResult, whole, torn, damaged, scanOf}
 use Rattle.journal.specs.Answers.{meaning}
 use Rattle.listing.specs.Listing.{recordLine, stateLine}
@@ -36,9 +37,9 @@ listedOf (damaged n p) = 0
 unfoldable pub before : ScanResult → Position
 before s = record { at = 0; left = listedOf s; ended = false; state = s }
 
--- the start of the listing of some bytes, all of them the journal
-unfoldable pub startOf : List ℕ → Position
-startOf b = before (scanOf b (length b))
+-- the start of the listing of some bytes, all of them the journal, by a rule
+unfoldable pub startOf : Rule → List ℕ → Position
+startOf rule b = before (scanOf rule b (length b))
 
 -- a line, and the position behind it
 pub record Step : Type 0 where

@@ -6,6 +6,7 @@ use lib.ListN.{length}
 use Rattle.hex.specs.Hex.{hexDigits, decimalDigits}
 use Rattle.journal_spec.specs.Bytes.{joined}
 use Rattle.journal_spec.specs.Record.{Record}
+use Rattle.journal_spec.specs.Profile.{Rule}
 use Rattle.journal_spec.specs.Scan.{recordsOf, Contents, standing, faulty, contentsOf, ScanResult, whole, torn, damaged, statusOf}
 use Rattle.journal_spec.specs.Read.{letterOf, markOf}
 
@@ -65,6 +66,6 @@ recordLines (faulty n p) = []
 abbrev pub listingBy : ℕ → Contents → List ℕ
 listingBy len c = recordLines c ++ stateLine (statusOf len c)
 
--- The listing of some bytes, all of them the journal.
-unfoldable pub listingOf : List ℕ → List ℕ
-listingOf bytes = listingBy (length bytes) (contentsOf bytes (length bytes))
+-- The listing of some bytes, all of them the journal, by a rule.
+unfoldable pub listingOf : Rule → List ℕ → List ℕ
+listingOf rule bytes = listingBy (length bytes) (contentsOf rule bytes (length bytes))

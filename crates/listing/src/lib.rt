@@ -5,10 +5,12 @@ ghost use mathlib.Core.Bool.{false};
 ghost use Prim.Native.Nat.{_-_, _<_};
 ghost use Rattle.listing.specs.Lines.{positionOf, listedOf, startOf, step, recordStep, endOf, Writes};
 ghost use Rattle.journal.specs.Answers.{meaning};
+ghost use Rattle.journal.specs.Handed.{asRule};
 ghost use Rattle.listing.specs.Plain.{plainRecordAt};
 use crate::spans::spans_at;
 use crate::words::put_record;
 use crate::words::put_state;
+use journal::Rule;
 use journal::Status;
 
 mod spans;
@@ -35,11 +37,11 @@ pub struct Line {
     pub cursor: Cursor,
 }
 
-// The start of the listing of some bytes, all of them the journal. The one scan is made here.
-pub fn start(v: &[u8]) -> Cursor
-    ensures { λ r. ⌜ positionOf r ≡ startOf (now (v .entry)) ⌝ }
+// The start of the listing of some bytes, all of them the journal, by a rule. The one scan is made here.
+pub fn start(v: &[u8], rule: Rule) -> Cursor
+    ensures { λ r. ⌜ positionOf r ≡ startOf (asRule rule) (now (v .entry)) ⌝ }
 {
-    let status = journal::scan(v, v.len());
+    let status = journal::scan_by(v, v.len(), rule);
     let left = listed(status);
     Cursor {
         at: 0,

@@ -6,6 +6,7 @@ use mathlib.Core.List.{List}
 use native.Mathlib.Omega.{arith}
 use lib.ListN.{length}
 use Rattle.journal_spec.specs.Record.{Record, recordsBytes}
+use Rattle.journal_spec.specs.Profile.{plain}
 use Rattle.journal_spec.specs.Scan.{scanOf}
 use Rattle.journal_spec.specs.Append.{written}
 use Rattle.journal_spec.specs.Cursor.{recordsUpto}
@@ -22,7 +23,7 @@ module _ (a : List ℕ) (la : ℕ) (b : List ℕ) (lb : ℕ) (buffer : List ℕ)
   unfolding mergeOf
   length-fits n h =
       let rs : List Record = mergedOf (recordsUpto a la) (recordsUpto b lb) in
-      let x = accepted rs buffer (scanOf a la) (scanOf b lb) n h in
+      let x = accepted rs buffer (scanOf plain a la) (scanOf plain b lb) n h in
       let size : length (written buffer 0 (recordsBytes rs)) ≡ length buffer =
       written-length buffer 0 (recordsBytes rs) (omega (arith, x .0 .room, lengths-are rs)) in
       omega (arith, x .1, x .0 .room, size, ap (λ (o : MergeOutcome). length (o .buffer)) (x .0 .outcome))

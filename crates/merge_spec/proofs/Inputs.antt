@@ -9,12 +9,13 @@ use borrow.Author.Tests.{eq-eqb}
 use Rattle.journal_spec.specs.Bytes.{AreBytes}
 use Rattle.journal_spec.specs.Refusals.{lengthRefusal}
 use Rattle.journal_spec.specs.Record.{Record, recordsBytes}
+use Rattle.journal_spec.specs.Profile.{plain}
 use Rattle.journal_spec.specs.Scan.{maxLength, standing, faulty, contentsOf, whole, statusOf, scanOf}
 use Rattle.journal_spec.specs.Model.{lengthsOf}
 use Rattle.journal_spec.specs.Cursor.{recordsHeld, recordsUpto, recordsIn}
 use Rattle.journal_spec.proofs.Reading.{by-order}
 use Rattle.journal_spec.specs.Ranges.{AllRanges}
-use Rattle.journal_spec.proofs.Scanning.{torn-none, placedFrom, recordsOf-placed, length-placed, contents-of, contents-long}
+use Rattle.journal_spec.proofs.Scanning.{torn-none, placedFrom, recordsOf-placed, length-placed, plain-contents, contents-long}
 use Rattle.journal_spec.proofs.Explained.{whole-explained}
 use Rattle.journal_spec.proofs.Placing.{lengths-are}
 
@@ -23,7 +24,7 @@ pub record Whole (slice : List ℕ) (len : ℕ) : Type 0 where
   pub bytes : take len slice ≡ recordsBytes (recordsUpto slice len)
   pub length′ : len ≡ lengthsOf (recordsUpto slice len)
   pub follow : AllRanges [] (recordsUpto slice len)
-  pub scan : scanOf slice len ≡ whole (length (recordsUpto slice len)) len
+  pub scan : scanOf plain slice len ≡ whole (length (recordsUpto slice len)) len
 
 -- records end to end, and nothing else
 module _ (slice : List ℕ) (len : ℕ) (fits : len ≤ min (length slice) maxLength) (rs : List Record) (bytes : take len slice ≡ recordsBytes rs)
@@ -31,10 +32,10 @@ module _ (slice : List ℕ) (len : ℕ) (fits : len ≤ min (length slice) maxLe
   long : len ≡ length (recordsBytes rs)
   long = sym (length-take-le len slice (omega arith)) ∙ ap length bytes
 
-  contents : contentsOf slice len ≡ standing (placedFrom 0 rs) len
+  contents : contentsOf plain slice len ≡ standing (placedFrom 0 rs) len
   contents =
       let all : recordsBytes rs ++ [] ≡ recordsBytes rs = append-nil (recordsBytes rs) in
-      contents-of slice len rs [] (omega arith) (omega arith) (bytes ∙ sym all) (long ∙ sym (ap length all)) follow (torn-none rs)
+      plain-contents slice len rs [] (omega arith) (omega arith) (bytes ∙ sym all) (long ∙ sym (ap length all)) follow (torn-none rs)
       ∙ ap (standing (placedFrom 0 rs)) (sym long)
 
   pub records-upto : recordsUpto slice len ≡ rs
@@ -52,15 +53,15 @@ module _ (slice : List ℕ) (len : ℕ) (fits : len ≤ min (length slice) maxLe
   }
 
 -- a journal that scan accepts is no longer than its slice and the longest journal
-not-long : (slice : List ℕ) (len n c : ℕ) → scanOf slice len ≡ whole n c → len ≤ min (length slice) maxLength
+not-long : (slice : List ℕ) (len n c : ℕ) → scanOf plain slice len ≡ whole n c → len ≤ min (length slice) maxLength
 unfolding scanOf statusOf
 not-long slice len n c h =
     by-order len (min (length slice) maxLength) (λ k. k)
     (λ k.
-    let e : statusOf len (faulty lengthRefusal 0) ≡ whole n c = ap (statusOf len) (sym (contents-long slice len k)) ∙ h in
+    let e : statusOf len (faulty lengthRefusal 0) ≡ whole n c = ap (statusOf len) (sym (contents-long plain slice len k)) ∙ h in
     let z : _≡_ {A = ℕ} 0 1 = cc in absurd (omega arith))
 
-pub whole-scanned : (slice : List ℕ) (len n c : ℕ) → AreBytes slice → scanOf slice len ≡ whole n c → Whole slice len
+pub whole-scanned : (slice : List ℕ) (len n c : ℕ) → AreBytes slice → scanOf plain slice len ≡ whole n c → Whole slice len
 whole-scanned slice len n c b h =
     let a = whole-explained slice len n c b h .0 in
     whole-of slice len (not-long slice len n c h) (a .records) (a .bytes ∙ append-nil (recordsBytes (a .records))) (a .follow)

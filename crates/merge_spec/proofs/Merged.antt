@@ -9,16 +9,17 @@ use native.Mathlib.Nat.{zero-add}
 use lib.ListN.{length, take, drop}
 use Rattle.journal_spec.specs.Bytes.{AreBytes}
 use Rattle.journal_spec.specs.Record.{Record, recordsBytes, lastOf}
+use Rattle.journal_spec.specs.Profile.{plain}
 use Rattle.journal_spec.specs.Scan.{maxLength, whole, scanOf}
 use Rattle.journal_spec.specs.Append.{written}
 use Rattle.journal_spec.specs.Calls.{operations, Call}
 use Rattle.journal_spec.specs.Model.{Model, lengthsOf, committedOf}
-use Rattle.journal_spec.specs.Demand.{modelScan, Demand3From}
+use Rattle.journal_spec.specs.Demand.{endOf, Demand3From}
 use Rattle.journal_spec.specs.Cursor.{recordsUpto}
 use Rattle.journal_spec.proofs.Cursor.{AllGood, follow-good}
 use Rattle.journal_spec.specs.Ranges.{AllRanges}
 use Rattle.journal_spec.proofs.Placing.{written-length, written-take, written-drop, lengths-are}
-use Rattle.journal_spec.proofs.Demand.{Holds, agrees, holds-records, demand3-from}
+use Rattle.journal_spec.proofs.Demand.{Holds, agrees, plain-scan, holds-records, demand3-from}
 use Rattle.merge_spec.specs.Records.{dropped, kept, mergedOf}
 use Rattle.merge_spec.specs.Merge.{merged, MergeOutcome, mergeOf}
 use Rattle.merge_spec.proofs.Tally.{tally}
@@ -95,9 +96,9 @@ module _ (rs : List Record) (buffer : List ℕ) (f : AllRanges [] rs) (k : lengt
       let size : length (written buffer 0 (recordsBytes rs)) ≡ length buffer = written-length buffer 0 (recordsBytes rs) enough in
       rw size at (holds-records (written buffer 0 (recordsBytes rs)) (lengthsOf rs) rs (omega arith) (omega arith) put-bytes f)
 
-  put-scan : scanOf (written buffer 0 (recordsBytes rs)) (lengthsOf rs) ≡ whole (length rs) (lengthsOf rs)
-  unfolding operations modelScan committedOf
-  put-scan = agrees (length buffer) _ _ put-holds .scan
+  put-scan : scanOf plain (written buffer 0 (recordsBytes rs)) (lengthsOf rs) ≡ whole (length rs) (lengthsOf rs)
+  unfolding operations endOf committedOf
+  put-scan = agrees (length buffer) _ _ put-holds .scan plain ∙ plain-scan (modelOf rs)
 
 module _ (slice₁ : List ℕ) (len₁ : ℕ) (slice₂ : List ℕ) (len₂ : ℕ) (buffer : List ℕ) where
   -- the records of the inputs
@@ -120,7 +121,7 @@ module _ (slice₁ : List ℕ) (len₁ : ℕ) (slice₂ : List ℕ) (len₂ : �
     pub bytes : take n after ≡ recordsBytes (mergedOf firsts seconds)
     pub beyond : drop n after ≡ drop n buffer
     pub holds : Holds (length buffer) (record { slice = after; len = n }) (modelOf (mergedOf firsts seconds))
-    pub scan : scanOf after n ≡ whole (length (mergedOf firsts seconds)) n
+    pub scan : scanOf plain after n ≡ whole (length (mergedOf firsts seconds)) n
     pub count : length (mergedOf firsts seconds) + length (dropped firsts seconds) ≡ length firsts + length seconds
 
   -- THE THEOREM: where the merge answers a length, the buffer holds the merged journal
@@ -128,7 +129,7 @@ module _ (slice₁ : List ℕ) (len₁ : ℕ) (slice₂ : List ℕ) (len₂ : �
     pub merged-journal : MergedJournal n
     unfolding mergeOf
     merged-journal =
-        let a = accepted (mergedOf firsts seconds) buffer (scanOf slice₁ len₁) (scanOf slice₂ len₂) n h in
+        let a = accepted (mergedOf firsts seconds) buffer (scanOf plain slice₁ len₁) (scanOf plain slice₂ len₂) n h in
         let x = a .0 in
         let w = whole-scanned slice₁ len₁ (x .first .0) (x .first .1) b₁ (x .first .2) in
         let v = whole-scanned slice₂ len₂ (x .second .0) (x .second .1) b₂ (x .second .2) in

@@ -7,6 +7,7 @@ use mathlib.Core.Option.{Option, none, some}
 use lib.ListN.{length}
 use lib.Dec.{leb}
 use Rattle.journal_spec.specs.Record.{Record, recordsBytes}
+use Rattle.journal_spec.specs.Profile.{plain}
 use Rattle.journal_spec.specs.Scan.{maxLength, ScanResult, whole, torn, scanOf}
 use Rattle.journal_spec.specs.Scan as Scan
 use Rattle.journal_spec.specs.Refusals.{roomRefusal, oldFormRefusal}
@@ -99,4 +100,4 @@ mergeBy first second rs buffer = settleMerge (firstRefusal (mergeRefusals first 
 -- the merge: of two slices with the journals' lengths in them, and the third buffer
 unfoldable pub mergeOf : List ℕ → ℕ → List ℕ → ℕ → List ℕ → MergeOutcome
 mergeOf slice₁ len₁ slice₂ len₂ buffer =
-    mergeBy (scanOf slice₁ len₁) (scanOf slice₂ len₂) (mergedOf (recordsUpto slice₁ len₁) (recordsUpto slice₂ len₂)) buffer
+    mergeBy (scanOf plain slice₁ len₁) (scanOf plain slice₂ len₂) (mergedOf (recordsUpto slice₁ len₁) (recordsUpto slice₂ len₂)) buffer

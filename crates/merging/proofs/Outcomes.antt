@@ -8,6 +8,7 @@ use lib.ListN.{length, take, getD}
 use lib.Seq.{length-take-le}
 use Rattle.journal_spec.specs.Bytes.{AreBytes}
 use Rattle.journal_spec.specs.Record.{Record, recordsBytes, lastOf}
+use Rattle.journal_spec.specs.Profile.{plain}
 use Rattle.journal_spec.specs.Scan.{maxLength, whole, scanOf}
 use Rattle.journal_spec.specs.Append.{written}
 use Rattle.journal_spec.specs.Model.{lengthsOf}
@@ -110,7 +111,7 @@ module _ (v : List ℕ) (len : ℕ) (u : List ℕ) (wlen : ℕ) (buffer : List �
   abbrev result : List Record
   result = mergedOf (recordsUpto v len) (recordsUpto u wlen)
 
-  ready : (w : Whole v len) (x : Whole u wlen) (n c m d : ℕ) → scanOf v len ≡ whole n c → scanOf u wlen ≡ whole m d → Ready
+  ready : (w : Whole v len) (x : Whole u wlen) (n c m d : ℕ) → scanOf plain v len ≡ whole n c → scanOf plain u wlen ≡ whole m d → Ready
   unfolding mergeOf
   ready w x n c m d p q = record {
     first = whole-bytes v len w;
@@ -120,9 +121,9 @@ module _ (v : List ℕ) (len : ℕ) (u : List ℕ) (wlen : ℕ) (buffer : List �
     outcome = rw (p, q, whole-alone v len w, whole-alone u wlen x) (whole-rows n c m d result buffer);
   }
 
-  means : AreBytes v → AreBytes u → (x y : Status) → meaning x ≡ scanOf v len → meaning y ≡ scanOf u wlen → Means (inputsOf x y)
+  means : AreBytes v → AreBytes u → (x y : Status) → meaning x ≡ scanOf plain v len → meaning y ≡ scanOf plain u wlen → Means (inputsOf x y)
   unfolding mergeOf meaning inputsOf secondOf outcomeOf answerOf whoseOf
-  means bv bu (J.Damaged f) y p q = rw (← p) (sym (first-damaged result buffer (f .number) (f .place) (scanOf u wlen)))
+  means bv bu (J.Damaged f) y p q = rw (← p) (sym (first-damaged result buffer (f .number) (f .place) (scanOf plain u wlen)))
   means bv bu (J.Whole n c) (J.Damaged f) p q = rw (← p, ← q) (sym (second-damaged result buffer n c (f .number) (f .place)))
   means bv bu (J.Torn n c) (J.Damaged f) p q = rw (← p, ← q) (sym (second-damaged-torn result buffer n c (f .number) (f .place)))
   means bv bu (J.Torn n c) (J.Whole m d) p q = rw (← p, ← q) (sym (first-torn result buffer n c m d))
@@ -132,6 +133,6 @@ module _ (v : List ℕ) (len : ℕ) (u : List ℕ) (wlen : ℕ) (buffer : List �
       ready (whole-scanned v len n c bv (sym p)) (whole-scanned u wlen m d bu (sym q)) n c m d (sym p) (sym q)
 
   -- by the bytes of both slices, the scans' answers, and what was made of them
-  pub means-by : ((i : ℕ) → getD v i 0 < 256) → ((i : ℕ) → getD u i 0 < 256) → (x y : Status) → meaning x ≡ scanOf v len → meaning y ≡ scanOf u wlen
+  pub means-by : ((i : ℕ) → getD v i 0 < 256) → ((i : ℕ) → getD u i 0 < 256) → (x y : Status) → meaning x ≡ scanOf plain v len → meaning y ≡ scanOf plain u wlen
       → (s t : Inputs) → s ≡ inputsOf x y → s ≡ t → Means t
   means-by hv hu x y p q s t e f = subst Means (sym e ∙ f) (means (are-bytes v hv) (are-bytes u hu) x y p q)

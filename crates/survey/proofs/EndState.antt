@@ -5,12 +5,13 @@ use mathlib.Core.Bool.{false}
 use mathlib.Core.List.{List}
 use Prim.Native.Nat.{ℕ}
 use lib.ListN.{length}
+use Rattle.journal_spec.specs.Profile.{Rule}
 use Rattle.journal_spec.specs.Scan.{scanOf}
 use Rattle.listing.specs.Listing.{stateLine}
 use Rattle.listing.specs.Lines.{Position, positionOf, startOf, before, step, stepBy}
 use Rattle.listing.specs.declared.Cursor.{Cursor}
 
-pub state-text : (c : Cursor) (v : List ℕ) → positionOf c ≡ startOf v
-    → step (positionOf (record { at = 0; left = 0; ended = false; status = c .status })) v .text ≡ stateLine (scanOf v (length v))
+pub state-text : (rule : Rule) (c : Cursor) (v : List ℕ) → positionOf c ≡ startOf rule v
+    → step (positionOf (record { at = 0; left = 0; ended = false; status = c .status })) v .text ≡ stateLine (scanOf rule v (length v))
 unfolding positionOf startOf before step stepBy
-state-text c v e = ap (λ (p : Position). stateLine (p .state)) e
+state-text rule c v e = ap (λ (p : Position). stateLine (p .state)) e

@@ -3,11 +3,22 @@
 mod output;
 mod state;
 
+use journal::Rule;
+
 fn main() {
-    if os::arg_count() > 1 {
-        output::usage();
+    if os::arg_count() == 1 {
+        run(Rule::Plain);
         return;
     }
+    if os::arg_count() == 2 && arguments::is_argument(1, b"--profile") {
+        run(Rule::Profile);
+        return;
+    }
+    output::usage();
+}
+
+// By a rule.
+fn run(rule: Rule) {
     let mut room = arguments::input_room();
     let read = arguments::read_input(0, &mut room);
     if read.failed {
@@ -15,5 +26,5 @@ fn main() {
         return;
     }
     let size = read.size;
-    output::print_state(&room[..size]);
+    output::print_state(&room[..size], rule);
 }

@@ -1,21 +1,23 @@
-// Lists of appends, of times and through logs, from length 0 or from records of form 1, against the model of document 01's book.
+// Lists of appends, of times and through logs, plain and by the profile, from length 0 or from records that stand, against the model of
+// document 01's book.
 // Then single appends on any bytes, damaged journals among them.
 
 use super::alter::{byte_altered, field_altered};
 use super::history::{answer_words, call_ours, History};
-use super::requests::{any_request, length_of, offer_of_size, right_offer};
+use super::requests::{any_request, length_of, offer_of_size, profile_request, right_offer};
 use super::run::{compare_groups, Group, Run};
 use crate::options::Options;
 use crate::tally::Totals;
 use inputs::journal::LARGEST;
 use inputs::random::Random;
 use reference::model::{append, Offer, Request};
-use reference::samples::{filling, joined, records};
+use reference::samples::{filling, joined, old_records, profile_records, records};
 use reference::scan::{scan, Status, MAX_LENGTH};
 
-const GROUPS: [Group; 7] = [
+const GROUPS: [Group; 9] = [
     ("append, histories in small slices", 60_000, small_history),
     ("append, histories on form 1", 30_000, old_history),
+    ("append, histories by the profile", 15_000, profile_history),
     ("append, histories in full slices", 4, full_history),
     ("append, cut at every budget", 200, every_budget),
     (
@@ -24,6 +26,7 @@ const GROUPS: [Group; 7] = [
         every_budget_on_old,
     ),
     ("append, any journal", 150_000, any_journal),
+    ("append, any profile journal", 40_000, any_profile),
     ("append, almost full journals", 300, almost_full),
 ];
 
@@ -42,7 +45,34 @@ fn small_history(random: &mut Random, run: &mut Run) {
 
 fn old_history(random: &mut Random, run: &mut Run) {
     let room = random.below(1_500) as usize;
-    History::on_old(random, room).any_calls(random, run);
+    on_old(random, room).any_calls(random, run);
+}
+
+/// Records of form 1 with a torn one behind them, and so much room.
+fn on_old(random: &mut Random, room: usize) -> History {
+    let count = random.whole(2, 5);
+    let standing = old_records(random, count);
+    History::on(random, standing, room)
+}
+
+/// From length 0, or from records of the profile of which one may break it.
+fn profile_history(random: &mut Random, run: &mut Run) {
+    let count = random.below(5) as usize;
+    let room = random.below(3_000) as usize;
+    let mut history = match count {
+        0 => History::new(random, room),
+        _ => {
+            let standing = profile_records(random, count);
+            History::on(random, standing, room)
+        }
+    };
+    for _ in 0..random.whole(1, 10) {
+        let request = match random.below(8) {
+            0 => any_request(random, history.last_day(), history.room()),
+            _ => profile_request(random, history.last_day()),
+        };
+        history.call(random, run, &request);
+    }
 }
 
 /// Records until no more has room, in a slice around the longest journal: large ones that finish, and any calls between them.
@@ -69,7 +99,7 @@ fn every_budget(random: &mut Random, run: &mut Run) {
 
 /// The same after records of form 1, the first over a tail of that form.
 fn every_budget_on_old(random: &mut Random, run: &mut Run) {
-    let history = History::on_old(random, 2_000);
+    let history = on_old(random, 2_000);
     each_budget(random, run, history);
 }
 
@@ -99,7 +129,28 @@ fn any_journal(random: &mut Random, run: &mut Run) {
     for _ in 0..random.below(4) * 100 {
         v.push(random.bits() as u8);
     }
-    single(random, run, v, len, day);
+    let room = v.len().min(MAX_LENGTH).saturating_sub(len);
+    let request = any_request(random, day, room);
+    single(run, v, len, request);
+}
+
+/// The same on records of the profile.
+fn any_profile(random: &mut Random, run: &mut Run) {
+    let count = random.whole(1, 4) as usize;
+    let some = profile_records(random, count);
+    let day = some.last().map_or(0, |record| record.day);
+    let mut v = match random.below(4) {
+        0 => field_altered(random, some),
+        1 => byte_altered(random, joined(&some)),
+        _ => joined(&some),
+    };
+    let len = match random.below(3) {
+        0 => random.below(v.len() as u64 + 1) as usize,
+        _ => v.len(),
+    };
+    v.extend((0..random.below(4) * 300).map(|_| random.bits() as u8));
+    let request = profile_request(random, day);
+    single(run, v, len, request);
 }
 
 /// Journals that leave room for about one record below the longest.
@@ -108,19 +159,24 @@ fn almost_full(random: &mut Random, run: &mut Run) {
     let mut v = filling(random, MAX_LENGTH - room, |_| LARGEST);
     let len = v.len();
     v.resize(MAX_LENGTH + random.below(3) as usize - 1, 0xa5);
-    single(random, run, v, len.min(MAX_LENGTH), 7);
+    let request = any_request(random, 7, v.len().min(MAX_LENGTH).saturating_sub(len));
+    single(run, v, len.min(MAX_LENGTH), request);
 }
 
-fn single(random: &mut Random, run: &mut Run, v: Vec<u8>, len: usize, day: u16) {
-    let room = v.len().min(MAX_LENGTH).saturating_sub(len);
-    let request = any_request(random, day, room);
+fn single(run: &mut Run, v: Vec<u8>, len: usize, request: Request) {
     let (mut ours, mut expected) = (v.clone(), v);
     let words = call_ours(&mut ours, len, &request);
     let answer = answer_words(append(&mut expected, len, &request));
     let after = scan(&expected, answer[1] as usize);
     let tail = answer[0] == 0 && matches!(after, Status::Torn { .. });
     let input = || format!("{request:?} at length {len} in {ours:02x?}");
-    run.take_call([words, answer], [&ours, &expected], tail, input);
+    run.take_call(
+        request.rule,
+        [words, answer],
+        [&ours, &expected],
+        tail,
+        input,
+    );
 }
 
 /// The call of an offer's own times.

@@ -1,12 +1,16 @@
 // A list of calls on one journal, with the model beside it: after each call the answer, every byte of the slice, scan and both reading calls.
-// A call is made by the C function that it needs: with a budget or without, with times or through a log.
+// A call is made by the C function that it needs: with a budget or without, with times or through a log, plain or by the profile.
 
 use super::requests::any_request;
 use super::run::Run;
+use super::words::by;
 use inputs::random::Random;
+use ours::PROFILE;
 use reference::limit::{Form, Sums};
 use reference::model::{Answer, Model, Request};
-use reference::samples::{joined, old_records, records};
+use reference::profile::Rule;
+use reference::record::Record;
+use reference::samples::{joined, records};
 use reference::scan::MAX_LENGTH;
 
 pub fn answer_words(answer: Answer) -> [u64; 3] {
@@ -25,11 +29,22 @@ pub fn call_ours(v: &mut [u8], len: usize, request: &Request) -> [u64; 3] {
         chances: &request.offer.chances,
         times: &request.offer.times,
     };
-    match (&request.log, request.budget) {
-        (None, None) => ours::journal_append(v, len, offer),
-        (None, Some(k)) => ours::journal_append_upto(v, len, offer, k),
-        (Some(log), None) => ours::journal_append_log(v, len, offer, log),
-        (Some(log), Some(k)) => ours::journal_append_log_upto(v, len, offer, log, k),
+    // A plain call with an odd budget goes through the functions with options too.
+    let k = request.budget.unwrap_or(usize::MAX);
+    let options = match (request.rule, request.budget) {
+        (Rule::Plain, None) => None,
+        (Rule::Plain, Some(k)) => (k % 2 == 1).then_some(0),
+        (Rule::Profile, _) => Some(PROFILE),
+    };
+    match (&request.log, options, request.budget) {
+        (None, Some(options), _) => ours::journal_append_with(v, len, offer, k, options),
+        (Some(log), Some(options), _) => {
+            ours::journal_append_log_with(v, len, offer, log, k, options)
+        }
+        (None, _, None) => ours::journal_append(v, len, offer),
+        (None, _, Some(k)) => ours::journal_append_upto(v, len, offer, k),
+        (Some(log), _, None) => ours::journal_append_log(v, len, offer, log),
+        (Some(log), _, Some(k)) => ours::journal_append_log_upto(v, len, offer, log, k),
     }
 }
 
@@ -37,17 +52,19 @@ impl Run<'_> {
     /// One call's answer and every byte after it; `tail` says whether it leaves a torn tail.
     pub fn take_call(
         &mut self,
+        rule: Rule,
         words: [[u64; 3]; 2],
         v: [&[u8]; 2],
         tail: bool,
         input: impl Fn() -> String,
     ) {
+        let by = by(rule);
         self.kinds.add(match words[1] {
-            [0, ..] if tail => "append, cut".into(),
-            [0, ..] => "append, finished".into(),
-            [1, number, _] => format!("append, declined {number:>2}"),
-            [2, number, _] => format!("append, damaged {number:>2}"),
-            [_, number, _] => format!("append, declined {number:>2} at a line"),
+            [0, ..] if tail => format!("{by}append, cut"),
+            [0, ..] => format!("{by}append, finished"),
+            [1, number, _] => format!("{by}append, declined {number:>2}"),
+            [2, number, _] => format!("{by}append, damaged {number:>2}"),
+            [_, number, _] => format!("{by}append, declined {number:>2} at a line"),
         });
         self.tally.take(words, &input);
         // The place of the first byte that differs, counted from 1.
@@ -71,19 +88,23 @@ impl Run<'_> {
         }
     }
 
-    /// What scan and reading say of the journal after a call, against the model.
+    /// What scan and reading, plain and by the profile, say of the journal after a call, against the model.
     fn take_shown(&mut self, random: &mut Random, v: &[u8], len: usize, model: &Model) {
-        let (status, count) = (model.status(), model.entries.len());
+        let count = model.entries.len();
         let input = || format!("{model:?}");
-        self.take_scan(v, len, status, input);
-        let near = random.below(count as u64 + 1) as usize;
-        let huge = random.bits() as usize;
-        let every: Vec<usize> = match count {
-            0..8 => (0..count + 2).chain([huge]).collect(),
-            _ => vec![0, near, count - 1, count, huge],
-        };
-        for i in every {
-            self.take_reading((v, len, i), (status, &model.entries), input);
+        for rule in [Rule::Plain, Rule::Profile] {
+            let status = model.status(rule);
+            self.take_scan(rule, (v, len), status, input);
+            let near = random.below(count as u64 + 1) as usize;
+            let huge = random.bits() as usize;
+            let every: Vec<usize> = match (rule, count) {
+                (Rule::Profile, _) => vec![near],
+                (_, 0..8) => (0..count + 2).chain([huge]).collect(),
+                _ => vec![0, near, count - 1, count, huge],
+            };
+            for i in every {
+                self.take_reading(rule, (v, len, i), (status, &model.entries), input);
+            }
         }
     }
 }
@@ -111,10 +132,8 @@ impl History {
         History::from(v, 0, Model::default())
     }
 
-    /// Records of form 1 with some bytes of one more, none or almost all, and so many bytes behind them.
-    pub fn on_old(random: &mut Random, room: usize) -> History {
-        let count = random.whole(2, 5);
-        let mut standing = old_records(random, count);
+    /// Records with some bytes of the last one, none or almost all, and so many bytes behind them.
+    pub fn on(random: &mut Random, mut standing: Vec<Record>, room: usize) -> History {
         let torn = standing.pop().map_or(vec![], |record| record.bytes());
         let k = random.below(torn.len() as u64) as usize;
         let model = Model::of(&standing, &torn[..k]);
@@ -154,6 +173,7 @@ impl History {
         let tail = !self.model.tail.is_empty();
         let input = || format!("{request:?} at length {before}");
         run.take_call(
+            request.rule,
             [ours, answer_words(answer)],
             [&self.v, &self.expected],
             tail,

@@ -9,6 +9,7 @@ use crate::tally::Totals;
 use inputs::log::{line, lines_of, nearly, other_line, NEARLY};
 use inputs::random::Random;
 use reference::model::{append, Offer, Request};
+use reference::samples::records;
 
 const GROUPS: [Group; 4] = [
     ("log, nearly right lines", 300, nearly_right),
@@ -27,9 +28,13 @@ pub fn compare(options: &Options, totals: &mut Totals) {
 
 /// A journal of some records with a torn tail or none, and room for more.
 fn some_history(random: &mut Random) -> History {
-    match random.below(2) {
-        0 => History::on_old(random, 2_000),
-        _ => History::new(random, 2_000),
+    let count = random.below(4);
+    match count {
+        0 => History::new(random, 2_000),
+        _ => {
+            let standing = records(random, count);
+            History::on(random, standing, 2_000)
+        }
     }
 }
 
@@ -39,6 +44,7 @@ fn through(random: &mut Random, offer: &Offer, lines: &[Vec<u8>]) -> Request {
         offer: offer.clone(),
         log: Some(lines.concat()),
         budget: (random.below(2) == 0).then(|| random.below(100) as usize),
+        ..Request::default()
     }
 }
 
@@ -115,13 +121,13 @@ fn every_text(_: &mut Random, run: &mut Run) {
                     times: Vec::new(),
                 },
                 log: Some([line(b"a", 9), text].concat()),
-                budget: None,
+                ..Request::default()
             };
             let mut expected = v;
             let words = call_ours(&mut v, 0, &request);
             let answer = answer_words(append(&mut expected, 0, &request));
             let input = || format!("{request:?}");
-            run.take_call([words, answer], [&v, &expected], false, input);
+            run.take_call(request.rule, [words, answer], [&v, &expected], false, input);
             v = expected;
         }
     }

@@ -1,5 +1,5 @@
-// Scan, the part and the mark, over random bytes, valid journals, altered ones, cuts at every length, and lengths beyond.
-// The bytes behind the length are random where they stand.
+// Scan, the part and the mark, plain and by the profile, over random bytes, valid journals, altered ones, cuts at every length, and lengths
+// beyond. The bytes behind the length are random where they stand.
 
 use super::alter::{byte_altered, field_altered};
 use super::run::{compare_groups, Group, Run};
@@ -7,10 +7,11 @@ use crate::options::Options;
 use crate::tally::Totals;
 use inputs::journal::{LARGEST, SMALLEST};
 use inputs::random::Random;
-use reference::samples::{filling, full, joined, records};
+use reference::profile::Rule;
+use reference::samples::{filling, full, joined, profile_records, records};
 use reference::scan::{scan_all, MAX_LENGTH};
 
-const GROUPS: [Group; 7] = [
+const GROUPS: [Group; 9] = [
     ("journal, random bytes", 300_000, random_bytes),
     ("journal, whole records", 200_000, whole_records),
     ("journal, one field altered", 600_000, one_field_altered),
@@ -18,22 +19,31 @@ const GROUPS: [Group; 7] = [
     ("journal, cut at every length", 1_000, every_cut),
     ("journal, lengths beyond", 50_000, lengths_beyond),
     ("journal, full journals", 20, full_journals),
+    ("journal, profile records", 100_000, of_profile),
+    ("journal, profile, cut at every length", 60, profile_cut),
 ];
 
 pub fn compare(options: &Options, totals: &mut Totals) {
     compare_groups(&GROUPS, options, totals);
 }
 
-/// Compares all three calls on the first `len` bytes of a slice, reading at the edges of the records' number and at random.
+/// Compares all three calls, plain and by the profile, on the first `len` bytes of a slice; the plain ones read at the edges of the records'
+/// number and at random, the others near it.
 fn compare_at(random: &mut Random, run: &mut Run, v: &[u8], len: usize) {
-    let (status, entries) = scan_all(v, len);
     let input = || format!("length {len} in {}", hex(v));
-    run.take_scan(v, len, status, input);
-    let count = entries.len();
-    let near = random.below(count as u64 + 3) as usize;
-    let huge = random.bits() as usize;
-    for i in [0, count.saturating_sub(1), count, near, huge] {
-        run.take_reading((v, len, i), (status, &entries), input);
+    for rule in [Rule::Plain, Rule::Profile] {
+        let (status, entries) = scan_all(rule, v, len);
+        run.take_scan(rule, (v, len), status, input);
+        let count = entries.len();
+        let near = random.below(count as u64 + 3) as usize;
+        let huge = random.bits() as usize;
+        let every: &[usize] = match rule {
+            Rule::Plain => &[0, count.saturating_sub(1), count, near, huge],
+            Rule::Profile => &[near],
+        };
+        for i in every {
+            run.take_reading(rule, (v, len, *i), (status, &entries), input);
+        }
     }
 }
 
@@ -140,5 +150,29 @@ fn full_journals(random: &mut Random, run: &mut Run) {
         ] {
             compare_at(random, run, v, len);
         }
+    }
+}
+
+/// Records of the profile, one of which may break it; whole, cut, or with a field or a byte altered.
+fn of_profile(random: &mut Random, run: &mut Run) {
+    let count = random.whole(1, 4) as usize;
+    let some = profile_records(random, count);
+    let v = match random.below(4) {
+        0 => field_altered(random, some),
+        1 => byte_altered(random, joined(&some)),
+        _ => joined(&some),
+    };
+    let len = match random.below(3) {
+        0 => random.below(v.len() as u64 + 1) as usize,
+        _ => v.len(),
+    };
+    compare_at(random, run, &v, len);
+}
+
+/// Every length of such a journal: a record that breaks the profile is refused when its last byte stands, and not before.
+fn profile_cut(random: &mut Random, run: &mut Run) {
+    let v = joined(&profile_records(random, 2));
+    for len in 0..=v.len() {
+        compare_at(random, run, &v, len);
     }
 }

@@ -1,21 +1,54 @@
 // What a call of append is handed, drawn at random: offers that are right, that just fit, or that break rules; logs that have their times;
-// budgets.
+// budgets; and the rule that it goes by.
 
+use inputs::journal::{profile_broken, profile_record};
 use inputs::journal::{record, record_of_size, Fields, LARGEST, OFFERED, SMALLEST};
 use inputs::journal::{CHANCES, NAME_BYTES, TIMES};
 use inputs::log::{lines_of, spoiled};
 use inputs::random::Random;
 use reference::model::{Offer, Request};
+use reference::profile::Rule;
 
-/// A request: of times, or through a log; with a budget or without.
+/// A request: of times, or through a log; with a budget or without; mostly plain.
 pub fn any_request(random: &mut Random, last_day: u16, room: usize) -> Request {
     let offer = any_offer(random, last_day, room);
+    let rule = match random.below(8) {
+        0 => Rule::Profile,
+        _ => Rule::Plain,
+    };
+    of_offer(random, offer, rule)
+}
+
+/// A request whose offer is of the profile or breaks it, or another rule; mostly by the profile.
+pub fn profile_request(random: &mut Random, last_day: u16) -> Request {
+    let day = last_day.saturating_add(random.below(2) as u16);
+    let mut fields = profile_record(random, day);
+    if random.below(5) == 0 {
+        profile_broken(random, &mut fields);
+    }
+    let mut offer = offer_of(fields);
+    if random.below(8) == 0 {
+        break_rule(random, &mut offer, last_day);
+    }
+    let rule = match random.below(5) {
+        0 => Rule::Plain,
+        _ => Rule::Profile,
+    };
+    of_offer(random, offer, rule)
+}
+
+fn of_offer(random: &mut Random, offer: Offer, rule: Rule) -> Request {
     let log = match random.below(3) {
         0 => Some(any_log(random, &offer)),
         _ => None,
     };
     let budget = any_budget(random, &offer);
-    Request { offer, log, budget }
+    Request {
+        offer,
+        log,
+        budget,
+        rule,
+    }
 }
 
 /// A log that has the offer's times; or, now and then, no line of its name, or lines that are spoiled.

@@ -5,6 +5,7 @@ use super::words::{mark_word, part_words, scan_words, Kinds};
 use crate::options::Options;
 use crate::tally::{Extremes, Tally, Totals};
 use inputs::random::Random;
+use reference::profile::Rule;
 use reference::scan::{Entry, Status};
 
 /// A group's name, how many inputs it has at scale 1, and one of them.
@@ -33,26 +34,44 @@ pub fn compare_groups(groups: &[Group], options: &Options, totals: &mut Totals) 
 }
 
 impl Run<'_> {
-    /// Our scan of the first `len` bytes of a slice against the status that is expected.
-    pub fn take_scan(&mut self, v: &[u8], len: usize, status: Status, input: impl Fn() -> String) {
+    /// Our scan by a rule of the first `len` bytes of a slice against the status that is expected.
+    pub fn take_scan(
+        &mut self,
+        rule: Rule,
+        (v, len): (&[u8], usize),
+        status: Status,
+        input: impl Fn() -> String,
+    ) {
         let words = scan_words(status);
-        self.kinds.add_scan(words);
-        let sides = [ours::journal_scan(v, len), words];
-        self.tally.take(sides, || format!("scan, {}", input()));
+        self.kinds.add_scan(rule, words);
+        let ours = match rule {
+            Rule::Plain => ours::journal_scan(v, len),
+            Rule::Profile => ours::journal_profile_scan(v, len),
+        };
+        let said = || format!("{rule:?} scan, {}", input());
+        self.tally.take([ours, words], said);
     }
 
-    /// Our two reading calls for record i against what is expected to stand.
+    /// Our two reading calls by a rule for record i against what is expected to stand.
     pub fn take_reading(
         &mut self,
+        rule: Rule,
         (v, len, i): (&[u8], usize, usize),
         (status, entries): (Status, &[Entry]),
         input: impl Fn() -> String,
     ) {
-        let part = [ours::journal_part(v, len, i), part_words(entries, i)];
-        self.tally.take(part, || format!("part {i}, {}", input()));
-        let mark = [ours::journal_mark(v, len, i), mark_word(status, entries, i)];
-        self.kinds.add_mark(mark[1]);
-        let sides = mark.map(|word| [word]);
-        self.tally.take(sides, || format!("mark {i}, {}", input()));
+        let (part, mark) = match rule {
+            Rule::Plain => (ours::journal_part(v, len, i), ours::journal_mark(v, len, i)),
+            Rule::Profile => (
+                ours::journal_profile_part(v, len, i),
+                ours::journal_profile_mark(v, len, i),
+            ),
+        };
+        let said = |what: &str| format!("{rule:?} {what} {i}, {}", input());
+        self.tally
+            .take([part, part_words(status, entries, i)], || said("part"));
+        let expected = mark_word(status, entries, i);
+        self.kinds.add_mark(rule, expected);
+        self.tally.take([[mark], [expected]], || said("mark"));
     }
 }

@@ -1,30 +1,13 @@
--- `read` is the part of the slice at the part's place, which lies inside the slice.
+-- `read` is `read_by` by the plain rule.
 -- Assumes nothing.
-use native.Mathlib.Omega.{arith}
 use borrow.Author.Needs.{needs}
-use denote.Ref.{now}
-use Rattle.journal.proofs.Inside.{place-inside, read-part}
+use Rattle.journal.specs.Handed.{asRule}
 use Rattle.journal.proofs.read.Statement.{statement}
 use Rattle.journal.proofs.read.Tie as tie
 
-add-end : tie.Need-add-end
-add-end c =
-    let a = c .before .before .before .args in
-    let p = c .before .part-place in
-    omega (arith, place-inside (now (a .v)) (a .len) (a .i) (p .result) (p .ensures))
-
-part-result-end : tie.Need-part-result-end
-part-result-end c =
-    let a = c .before .before .before .args in
-    let p = c .before .part-place in
-    omega (arith, place-inside (now (a .v)) (a .len) (a .i) (p .result) (p .ensures))
-
 returns : tie.Need-returns
-returns c =
-    let a = c .before .before .before .before .args in
-    let p = c .before .before .part-place in
-    read-part (now (a .v)) (a .len) (a .i) (p .result) (p .ensures)
+unfolding asRule
+returns c = c .read-by .ensures
 
 pub read-spec : {M : Type 1} → statement M
-read-spec =
-    tie.close (tie.spec (λ c κs. search needs) add-end (λ c. search needs) (λ c. search needs) part-result-end returns)
+read-spec = tie.close (tie.spec (λ c κs. search needs) returns)

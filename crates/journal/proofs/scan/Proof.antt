@@ -1,40 +1,13 @@
--- `scan` is whole if the committed length is the length, else torn, and hands a fault on.
+-- `scan` is `scan_by` by the plain rule.
 -- Assumes nothing.
 use borrow.Author.Needs.{needs}
-use borrow.Author.Tests.{eq-eqb, ne-eqb}
-use denote.Ref.{now}
-use Rattle.journal.specs.Answers.{meaning}
-use Rattle.journal.proofs.Answering.{scan-stands, scan-damaged}
+use Rattle.journal.specs.Handed.{asRule}
 use Rattle.journal.proofs.scan.Statement.{statement}
 use Rattle.journal.proofs.scan.Tie as tie
 
 returns : tie.Need-returns
-unfolding meaning
-returns c =
-    let x = c .before .before .x .given in
-    let read = c .before .before .before .before in
-    let a = read .before .before .args in
-    rw (eq-eqb (x .0 .1 .0) (a .len) (c .if1 .taken))
-    at (scan-stands (now (a .v)) (a .len) 0 (read .contents-of .result) (read .contents-of .ensures)
-    (x .0 .0) (x .0 .1 .0) (x .0 .1 .1 .0) (x .0 .1 .1 .1 .0) (x .1))
-
-returns-2 : tie.Need-returns-2
-unfolding meaning
-returns-2 c =
-    let x = c .before .before .x .given in
-    let read = c .before .before .before .before in
-    let a = read .before .before .args in
-    rw (ne-eqb (x .0 .1 .0) (a .len) (c .if1 .left))
-    at (scan-stands (now (a .v)) (a .len) 0 (read .contents-of .result) (read .contents-of .ensures)
-    (x .0 .0) (x .0 .1 .0) (x .0 .1 .1 .0) (x .0 .1 .1 .1 .0) (x .1))
-
-returns-3 : tie.Need-returns-3
-unfolding meaning
-returns-3 c =
-    let x = c .before .x2 .given in
-    let read = c .before .before .before in
-    let a = read .before .before .args in
-    scan-damaged (now (a .v)) (a .len) 0 (read .contents-of .result) (read .contents-of .ensures) (x .0 .0) (x .1)
+unfolding asRule
+returns c = c .scan-by .ensures
 
 pub scan-spec : {M : Type 1} → statement M
-scan-spec = tie.close (tie.spec (λ c κs. search needs) (λ c. search needs) (λ c. search needs) returns returns-2 returns-3)
+scan-spec = tie.close (tie.spec (λ c κs. search needs) returns)

@@ -7,7 +7,7 @@ use Rattle.listing.proofs.start.Tie as tie
 
 returns : tie.Need-returns
 unfolding positionOf startOf before
-returns c = rw (c .listed .ensures, c .before .scan .ensures)
+returns c = rw (c .listed .ensures, c .before .scan-by .ensures)
 
 pub start-spec : {M : Type 1} → statement M
 start-spec = tie.close (tie.spec (λ c κs. search needs) (λ c κs. search needs) returns)

@@ -4,6 +4,7 @@ use mathlib.Core.Path.{sym, ap}
 use native.Mathlib.Omega.{arith}
 use borrow.Author.Needs.{needs}
 use denote.Ref.{now}
+use Rattle.journal.specs.Handed.{asRule}
 use Rattle.listing.specs.Lines.{Position, positionOf}
 use Rattle.capi.specs.Line.{positionAfter}
 use Rattle.capi.proofs.LineAt.{Going, going-next, going-ended, going-there}
@@ -17,6 +18,7 @@ abbrev μ-loop : tie.MeasureT-loop
 μ-loop v i cursor₀ left₀ cursor left = left
 
 loop-holds : tie.Need-loop-holds Inv-loop μ-loop
+unfolding asRule
 loop-holds c =
     let args = c .before .before .args in
     record { same = ap (λ (p : Position). positionAfter (args .i) p (now (args .v))) (sym (c .start .ensures)) }

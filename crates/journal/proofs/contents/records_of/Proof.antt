@@ -10,28 +10,28 @@ use Rattle.journal.proofs.contents.records_of.Statement.{statement}
 use Rattle.journal.proofs.contents.records_of.Tie as tie
 
 abbrev Inv-loop : tie.InvT-loop
-Inv-loop b i records₀ at₀ last₀ shown₀ records at last shown = Counting b i records at last shown
+Inv-loop b i rule records₀ at₀ last₀ shown₀ records at last shown = Counting rule b i records at last shown
 
 abbrev μ-loop : tie.MeasureT-loop
-μ-loop b i records₀ at₀ last₀ shown₀ records at last shown = length b - at
+μ-loop b i rule records₀ at₀ last₀ shown₀ records at last shown = length b - at
 
 loop-holds : tie.Need-loop-holds Inv-loop μ-loop
-loop-holds c = counting-start (now (c .before .args .b)) (c .before .args .i)
+loop-holds c = counting-start (c .before .args .rule) (now (c .before .args .b)) (c .before .args .i)
 
-record-at-requires : tie.Need-record-at-requires Inv-loop μ-loop
-record-at-requires c κs = c .loop .inv .going .inside
+record-by-requires : tie.Need-record-by-requires Inv-loop μ-loop
+record-by-requires c κs = c .loop .inv .going .inside
 
 -- where a record was read
 counted : (c : tie.After-known-told Inv-loop μ-loop)
-    → Counted (now (c .before .before .before .before .before .before .args .b)) (c .before .before .before .before .before .before .args .i)
+    → Counted (c .before .before .before .before .before .before .args .rule) (now (c .before .before .before .before .before .before .args .b)) (c .before .before .before .before .before .before .args .i)
     (c .before .before .before .before .loop .records) (c .before .before .before .before .loop .at)
     (c .before .before .before .before .loop .shown) (c .before .x .given .0 .0)
 counted c =
     let read = c .before .before .before in
     let l = read .before .loop in
     let a = read .before .before .before .args in
-    counting-more (now (a .b)) (a .i) (l .records) (l .at) (l .last) (l .shown) (l .inv)
-    (read .record-at .result) (read .record-at .ensures) (c .before .x .given .0 .0) (c .before .x .given .1)
+    counting-more (a .rule) (now (a .b)) (a .i) (l .records) (l .at) (l .last) (l .shown) (l .inv)
+    (read .record-by .result) (read .record-by .ensures) (c .before .x .given .0 .0) (c .before .x .given .1)
 
 shown-next-requires : tie.Need-shown-next-requires Inv-loop μ-loop
 shown-next-requires c κs = omega (arith, counted c .later)
@@ -52,16 +52,16 @@ returns c =
     let read = c .before .before in
     let l = read .before .loop in
     let a = read .before .before .before .args in
-    counting-short (now (a .b)) (a .i) (l .records) (l .at) (l .last) (l .shown) (l .inv)
-    (read .record-at .result) (read .record-at .ensures) (c .enum-told .given .1)
+    counting-short (a .rule) (now (a .b)) (a .i) (l .records) (l .at) (l .last) (l .shown) (l .inv)
+    (read .record-by .result) (read .record-by .ensures) (c .enum-told .given .1)
 
 returns-2 : tie.Need-returns-2 Inv-loop μ-loop
 returns-2 c =
     let read = c .before .before .before in
     let l = read .before .loop in
     let a = read .before .before .before .args in
-    counting-refused (now (a .b)) (a .i) (l .records) (l .at) (l .last) (l .shown) (l .inv)
-    (read .record-at .result) (read .record-at .ensures) (c .before .x2 .given .0 .0) (c .before .x2 .given .1)
+    counting-refused (a .rule) (now (a .b)) (a .i) (l .records) (l .at) (l .last) (l .shown) (l .inv)
+    (read .record-by .result) (read .record-by .ensures) (c .before .x2 .given .0 .0) (c .before .x2 .given .1)
 
 pub records-of-spec : {M : Type 1} → statement M
 records-of-spec =
@@ -70,7 +70,7 @@ records-of-spec =
     Inv-loop
     μ-loop
     loop-holds
-    record-at-requires
+    record-by-requires
     (λ c. search needs)
     shown-next-requires
     add-records

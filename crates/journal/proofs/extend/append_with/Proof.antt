@@ -2,25 +2,25 @@
 -- Assumes nothing.
 use mathlib.Core.Path.{refl}
 use borrow.Author.Needs.{needs}
-use Rattle.journal_spec.specs.Request.{gatherBy, timesOf, timesIn, offerOf}
-use Rattle.journal.specs.Handed.{offerFrom}
+use Rattle.journal_spec.specs.Request.{gatherBy, timesOf}
+use Rattle.journal.specs.Handed.{requestFrom}
 use Rattle.journal.proofs.Answering.{append-stands, append-damaged}
 use Rattle.journal.proofs.extend.append_with.Statement.{statement}
 use Rattle.journal.proofs.extend.append_with.Tie as tie
 
 returns : tie.Need-returns
-unfolding offerOf offerFrom timesIn timesOf gatherBy
+unfolding requestFrom timesOf gatherBy
 returns c =
     let extended = c .before .before in
     let told = extended .before .before .before .x .given in
     let read = extended .before .before .before .before .before .contents-of in
-    append-stands _ _ 0 (read .result) (read .ensures) _ _ _ _ (told .1) _ _ refl _ (extended .extend-by .ensures _)
+    append-stands _ _ _ 0 (read .result) (read .ensures) _ _ _ _ (told .1) _ _ refl refl _ (extended .extend-by .ensures _)
 
 returns-2 : tie.Need-returns-2
 unfolding timesOf gatherBy
 returns-2 c =
     let read = c .before .before .before .contents-of in
-    append-damaged _ _ 0 (read .result) (read .ensures) _ (c .before .x2 .given .1) _ _ refl
+    append-damaged _ _ _ 0 (read .result) (read .ensures) _ (c .before .x2 .given .1) _ _ refl refl
 
 pub append-with-spec : {M : Type 1} → statement M
 append-with-spec =

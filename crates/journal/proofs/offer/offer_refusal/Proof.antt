@@ -5,8 +5,8 @@ use native.Mathlib.Omega.{arith}
 use borrow.Author.Needs.{needs}
 use denote.Ref.{now}
 use Rattle.journal.specs.Records.{asLast}
-use Rattle.journal.specs.Handed.{offerFrom}
-use Rattle.journal.proofs.RefusalOrder.{chances-few, day-refused, name-refused, chances-refused, even-refused, times-refused, none-refused}
+use Rattle.journal.specs.Handed.{asRule, offerFrom}
+use Rattle.journal.proofs.RefusalOrder.{chances-few, day-refused, name-refused, chances-refused, even-refused, times-refused, rule-judged}
 use Rattle.journal.proofs.offer.offer_refusal.Statement.{statement}
 use Rattle.journal.proofs.offer.offer_refusal.Tie as tie
 
@@ -14,14 +14,14 @@ returns : tie.Need-returns
 unfolding offerFrom asLast
 returns c =
     let a = c .before .before .before .before .before .before .args in
-    day-refused (asLast (a .last)) (offerFrom (a .day) (now (a .name)) (now (a .chances)) (now (a .times))) (now (a .bits)) (omega arith)
+    day-refused (asRule (a .rule)) (asLast (a .last)) (offerFrom (a .day) (now (a .name)) (now (a .chances)) (now (a .times))) (now (a .bits)) (omega arith)
 
 returns-2 : tie.Need-returns-2
 unfolding offerFrom asLast
 returns-2 c =
     let name = c .before .name-refusal in
     let a = c .before .before .before .before .before .before .before .before .args in
-    name-refused (asLast (a .last)) (offerFrom (a .day) (now (a .name)) (now (a .chances)) (now (a .times))) (now (a .bits)) (omega arith)
+    name-refused (asRule (a .rule)) (asLast (a .last)) (offerFrom (a .day) (now (a .name)) (now (a .chances)) (now (a .times))) (now (a .bits)) (omega arith)
     (name .result) (omega arith) (name .ensures)
 
 returns-3 : tie.Need-returns-3
@@ -30,7 +30,7 @@ returns-3 c =
     let chances = c .before .chances-refusal in
     let named = c .before .before .before in
     let a = named .before .before .before .before .before .before .before .args in
-    chances-refused (asLast (a .last)) (offerFrom (a .day) (now (a .name)) (now (a .chances)) (now (a .times))) (now (a .bits)) (omega arith)
+    chances-refused (asRule (a .rule)) (asLast (a .last)) (offerFrom (a .day) (now (a .name)) (now (a .chances)) (now (a .times))) (now (a .bits)) (omega arith)
     (sym (named .name-refusal .ensures) ∙ omega arith) (chances .result) (omega arith) (chances .ensures)
 
 returns-4 : tie.Need-returns-4
@@ -40,12 +40,12 @@ returns-4 c =
     let chances = c .before .before .before in
     let named = chances .before .before in
     let a = named .before .before .before .before .before .before .before .args in
-    even-refused (asLast (a .last)) (offerFrom (a .day) (now (a .name)) (now (a .chances)) (now (a .times))) (now (a .bits)) (omega arith)
+    even-refused (asRule (a .rule)) (asLast (a .last)) (offerFrom (a .day) (now (a .name)) (now (a .chances)) (now (a .times))) (now (a .bits)) (omega arith)
     (sym (named .name-refusal .ensures) ∙ omega arith) (sym (chances .chances-refusal .ensures) ∙ omega arith)
     (even .result) (omega arith) (even .ensures)
 
-work-out-requires : tie.Need-work-out-requires
-work-out-requires c κs =
+rule-refusal-requires : tie.Need-rule-refusal-requires
+rule-refusal-requires c κs =
     let chances = c .before .before .before .before .before .before .before .before in
     let start = chances .before .before .before .before .before .before .before .before .before in
     (chances-few (now (start .args .chances)) (sym (chances .chances-refusal .ensures) ∙ omega arith), start .pre)
@@ -53,17 +53,17 @@ work-out-requires c κs =
 returns-5 : tie.Need-returns-5
 unfolding offerFrom asLast
 returns-5 c =
-    let worked = c .before .before .work-out in
+    let judged = c .before .before .rule-refusal in
     let told = c .before .before .before .before .before .g .given in
     let gathered = c .before .before .before .before .before .before .before in
     let even = gathered .before .before in
     let chances = even .before .before in
     let named = chances .before .before in
     let a = named .before .before .before .before .before .before .before .args in
-    none-refused (asLast (a .last)) (offerFrom (a .day) (now (a .name)) (now (a .chances)) (now (a .times))) _ (omega arith)
+    rule-judged (asRule (a .rule)) (asLast (a .last)) (offerFrom (a .day) (now (a .name)) (now (a .chances)) (now (a .times))) _ (omega arith)
     (sym (named .name-refusal .ensures) ∙ omega arith) (sym (chances .chances-refusal .ensures) ∙ omega arith)
     (sym (even .even-refusal .ensures) ∙ omega arith)
-    (gathered .gather .result) (gathered .gather .ensures) (told .0 .0) (told .1) (worked .ensures)
+    (gathered .gather .result) (gathered .gather .ensures) (told .0 .0) (told .1) (judged .result) (judged .ensures)
 
 returns-6 : tie.Need-returns-6
 unfolding offerFrom asLast
@@ -73,7 +73,7 @@ returns-6 c =
     let chances = even .before .before in
     let named = chances .before .before in
     let a = named .before .before .before .before .before .before .before .args in
-    times-refused (asLast (a .last)) (offerFrom (a .day) (now (a .name)) (now (a .chances)) (now (a .times))) (now (a .bits)) (omega arith)
+    times-refused (asRule (a .rule)) (asLast (a .last)) (offerFrom (a .day) (now (a .name)) (now (a .chances)) (now (a .times))) (now (a .bits)) (omega arith)
     (sym (named .name-refusal .ensures) ∙ omega arith) (sym (chances .chances-refusal .ensures) ∙ omega arith)
     (sym (even .even-refusal .ensures) ∙ omega arith)
     (gathered .gather .result) (gathered .gather .ensures) (c .enum-told .given .1)
@@ -91,7 +91,7 @@ offer-refusal-spec =
     returns-4
     (λ c κs. search needs)
     (λ c. search needs)
-    work-out-requires
+    rule-refusal-requires
     (λ c. search needs)
     (λ c. search needs)
     returns-5

@@ -9,22 +9,23 @@ use Rattle.journal.proofs.record.limits_part.Tie as tie
 returns : tie.Need-returns
 returns c = λ name list times stand good total.
     let read = c .before .before .before in
-    let a = read .before .before .before .args in
-    rw (read .before .flat-by .ensures)
+    let a = read .before .before .before .before .args in
+    rw (read .before .before .flat-by .ensures)
     (limits-part-read (now (a .b)) (a .chances) (a .n) (a .head .form) (a .sums) list times stand good total (a .at) (a .head .day) name
-    (read .limit-section-at .result) (read .limit-section-at .ensures) (c .before .x .given .0 .0) (c .before .x .given .1))
+    (read .limit-section-at .result) (read .limit-section-at .ensures) (c .before .x .given .0 .0) (c .before .x .given .1)
+    _ (read .before .record-in-profile .ensures list stand))
 
 returns-2 : tie.Need-returns-2
 returns-2 c = λ name list times stand good total.
     let read = c .before .before in
-    let a = read .before .before .before .args in
+    let a = read .before .before .before .before .args in
     limits-part-short (now (a .b)) (a .chances) (a .n) (a .head .form) (a .sums) list times stand good total (a .at) (a .head .day) name
     (read .limit-section-at .result) (read .limit-section-at .ensures) (c .enum-told .given .1)
 
 returns-3 : tie.Need-returns-3
 returns-3 c = λ name list times stand good total.
     let read = c .before .before .before in
-    let a = read .before .before .before .args in
+    let a = read .before .before .before .before .args in
     limits-part-refused (now (a .b)) (a .chances) (a .n) (a .head .form) (a .sums) list times stand good total (a .at) (a .head .day) name
     (read .limit-section-at .result) (read .limit-section-at .ensures) (c .before .x2 .given .0 .0) (c .before .x2 .given .1)
 
@@ -32,6 +33,7 @@ pub limits-part-spec : {M : Type 1} → statement M
 limits-part-spec =
     tie.close
     (tie.spec
+    (λ c κs. search needs)
     (λ c κs. search needs)
     (λ c κs. search needs)
     (λ c. search needs)

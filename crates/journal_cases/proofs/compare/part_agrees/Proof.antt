@@ -1,4 +1,4 @@
--- `part_agrees` hands the two words of the export on. Assumes nothing.
+-- `part_agrees` compares the two words. Assumes nothing.
 use Rattle.journal_cases.specs.Compare.{partAgrees}
 use borrow.Author.Needs.{needs}
 use Rattle.journal_cases.proofs.compare.part_agrees.Statement.{statement}
@@ -6,7 +6,7 @@ use Rattle.journal_cases.proofs.compare.part_agrees.Tie as tie
 
 returns : tie.Need-returns
 unfolding partAgrees
-returns c = rw (← c .before .journal-part .ensures) (c .agree .ensures)
+returns c = rw (← c .before .put-part .ensures) (c .agree .ensures)
 
 pub part-agrees-spec : {M : Type 1} → statement M
 part-agrees-spec =

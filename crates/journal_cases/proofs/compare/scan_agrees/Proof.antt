@@ -1,4 +1,4 @@
--- `scan_agrees` hands the three words of the export on. Assumes nothing.
+-- `scan_agrees` compares the three words. Assumes nothing.
 use Rattle.journal_cases.specs.Compare.{scanAgrees}
 use borrow.Author.Needs.{needs}
 use Rattle.journal_cases.proofs.compare.scan_agrees.Statement.{statement}
@@ -6,7 +6,7 @@ use Rattle.journal_cases.proofs.compare.scan_agrees.Tie as tie
 
 returns : tie.Need-returns
 unfolding scanAgrees
-returns c = rw (← c .before .journal-scan .ensures) (c .agree .ensures)
+returns c = rw (← c .before .put-scan .ensures) (c .agree .ensures)
 
 pub scan-agrees-spec : {M : Type 1} → statement M
 scan-agrees-spec =

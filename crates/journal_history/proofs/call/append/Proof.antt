@@ -13,41 +13,41 @@ returns : tie.Need-returns
 unfolding appendCalled requestOf timesOffered
 returns c =
     let asked = c .before .before in
-    let a = asked .before .before .before .before .before .before .before .args in
+    let a = asked .before .before .before .before .before .before .before .before .args in
     call-refused (a .s) _ (now (a .v)) (asked .have-room .result) _ _ (asked .have-room .ensures) (c .before .if1 .taken) (c .malformed .ensures)
 
-slice-relend-prefix-append : tie.Need-slice-relend-prefix-append
-slice-relend-prefix-append c =
+slice-relend-prefix-append-with : tie.Need-slice-relend-prefix-append-with
+slice-relend-prefix-append-with c =
     let asked = c .before in
-    let a = asked .before .before .before .before .before .before .before .args in
+    let a = asked .before .before .before .before .before .before .before .before .args in
     let room = room-found (a .s) _ _ _ _ (asked .have-room .result) (asked .have-room .ensures) (c .if1 .left) in
     omega (arith, room .slice)
 
-slice-aggregate-append : tie.Need-slice-aggregate-append
-slice-aggregate-append c =
+slice-aggregate-append-with : tie.Need-slice-aggregate-append-with
+slice-aggregate-append-with c =
     let asked = c .before .before in
-    let a = asked .before .before .before .before .before .before .before .args in
+    let a = asked .before .before .before .before .before .before .before .before .args in
     let room = room-found (a .s) _ _ _ _ (asked .have-room .result) (asked .have-room .ensures) (c .before .if1 .left) in
     sym (length-take-le (a .s .size) (now (a .v)) (room .slice))
 
-slice-aggregate-append-2 : tie.Need-slice-aggregate-append-2
-slice-aggregate-append-2 c =
+slice-aggregate-append-with-2 : tie.Need-slice-aggregate-append-with-2
+slice-aggregate-append-with-2 c =
     let asked = c .before .before .before in
-    let a = asked .before .before .before .before .before .before .before .args in
+    let a = asked .before .before .before .before .before .before .before .before .args in
     let room = room-found (a .s) _ _ _ _ (asked .have-room .result) (asked .have-room .ensures) (c .before .before .if1 .left) in
     sym (length-take-le (a .s .offered .name) (now (a .name)) (room .name))
 
-slice-aggregate-append-3 : tie.Need-slice-aggregate-append-3
-slice-aggregate-append-3 c =
+slice-aggregate-append-with-3 : tie.Need-slice-aggregate-append-with-3
+slice-aggregate-append-with-3 c =
     let asked = c .before .before .before .before in
-    let a = asked .before .before .before .before .before .before .before .args in
+    let a = asked .before .before .before .before .before .before .before .before .args in
     let room = room-found (a .s) _ _ _ _ (asked .have-room .result) (asked .have-room .ensures) (c .before .before .before .if1 .left) in
     sym (length-take-le (a .s .offered .chances) (now (a .chances)) (room .chances))
 
-slice-aggregate-append-4 : tie.Need-slice-aggregate-append-4
-slice-aggregate-append-4 c =
+slice-aggregate-append-with-4 : tie.Need-slice-aggregate-append-with-4
+slice-aggregate-append-with-4 c =
     let asked = c .before .before .before .before .before in
-    let a = asked .before .before .before .before .before .before .before .args in
+    let a = asked .before .before .before .before .before .before .before .before .args in
     let room = room-found (a .s) _ _ _ _ (asked .have-room .result) (asked .have-room .ensures) (c .before .before .before .before .if1 .left) in
     sym (length-take-le (a .s .offered .times) (now (a .times)) (room .times))
 
@@ -56,9 +56,9 @@ unfolding appendCalled requestOf timesOffered
 returns-2 c =
     let called = c .before .before .before in
     let asked = called .before .before .before .before .before .before in
-    let a = asked .before .before .before .before .before .before .before .args in
-    call-made (a .s) _ (now (a .v)) (asked .have-room .result) _ _ (asked .have-room .ensures) (called .append .result) _
-    (called .before .before .before .before .before .if1 .left) (called .append .ensures) (c .answered-by .ensures)
+    let a = asked .before .before .before .before .before .before .before .before .args in
+    call-made (a .s) _ (now (a .v)) (asked .have-room .result) _ _ (asked .have-room .ensures) (called .append-with .result) _
+    (called .before .before .before .before .before .if1 .left) (rw (asked .before .rule-in .ensures) at (called .append-with .ensures)) (c .answered-by .ensures)
 
 pub append-spec : {M : Type 1} → statement M
 append-spec =
@@ -67,12 +67,13 @@ append-spec =
     (λ c. search needs)
     (λ c κs. search needs)
     (λ c κs. search needs)
+    (λ c κs. search needs)
     returns
-    slice-relend-prefix-append
-    slice-aggregate-append
-    slice-aggregate-append-2
-    slice-aggregate-append-3
-    slice-aggregate-append-4
+    slice-relend-prefix-append-with
+    slice-aggregate-append-with
+    slice-aggregate-append-with-2
+    slice-aggregate-append-with-3
+    slice-aggregate-append-with-4
     (λ c κs. search needs)
     (λ c κs. search needs)
     (λ c. search needs)

@@ -15,45 +15,45 @@ returns : tie.Need-returns
 unfolding appendLogCalled requestOf logOffered
 returns c =
     let asked = c .before .before in
-    let a = asked .before .before .before .before .before .before .before .args in
+    let a = asked .before .before .before .before .before .before .before .before .args in
     call-refused (a .s) _ (now (a .v)) (asked .has-log .result) _ _ (asked .has-log .ensures) (c .before .if1 .taken) (c .malformed .ensures)
 
 -- where the test found room
 found : (c : tie.Else1)
-    → let a = c .before .before .before .before .before .before .before .before .args in
+    → let a = c .before .before .before .before .before .before .before .before .before .args in
     (logAt + a .l .z ≤ length (now (a .name)))
     × Room (a .s) (length (now (a .v))) (length (now (a .name))) (length (now (a .chances))) (length (now (a .times)))
 found c =
     let asked = c .before in
-    let a = asked .before .before .before .before .before .before .before .args in
+    let a = asked .before .before .before .before .before .before .before .before .args in
     log-found (a .s) (a .l) _ _ _ _ (asked .has-log .result) (asked .has-log .ensures) (c .if1 .left)
 
 add-end : tie.Need-add-end
 add-end c = omega (arith, found c)
 
-slice-relend-prefix-append-log : tie.Need-slice-relend-prefix-append-log
-slice-relend-prefix-append-log c = found c .1 .slice
+slice-relend-prefix-append-log-with : tie.Need-slice-relend-prefix-append-log-with
+slice-relend-prefix-append-log-with c = found c .1 .slice
 
-slice-aggregate-append-log : tie.Need-slice-aggregate-append-log
-slice-aggregate-append-log c = sym (length-take-le _ _ (found (c .before) .1 .slice))
+slice-aggregate-append-log-with : tie.Need-slice-aggregate-append-log-with
+slice-aggregate-append-log-with c = sym (length-take-le _ _ (found (c .before) .1 .slice))
 
-slice-aggregate-append-log-2 : tie.Need-slice-aggregate-append-log-2
-slice-aggregate-append-log-2 c = sym (length-take-le _ _ (found (c .before .before) .1 .name))
+slice-aggregate-append-log-with-2 : tie.Need-slice-aggregate-append-log-with-2
+slice-aggregate-append-log-with-2 c = sym (length-take-le _ _ (found (c .before .before) .1 .name))
 
-slice-aggregate-append-log-3 : tie.Need-slice-aggregate-append-log-3
-slice-aggregate-append-log-3 c = sym (length-take-le _ _ (found (c .before .before .before) .1 .chances))
+slice-aggregate-append-log-with-3 : tie.Need-slice-aggregate-append-log-with-3
+slice-aggregate-append-log-with-3 c = sym (length-take-le _ _ (found (c .before .before .before) .1 .chances))
 
-part-append-log-end : tie.Need-part-append-log-end
-part-append-log-end c = found (c .before .before .before) .0
+part-append-log-with-end : tie.Need-part-append-log-with-end
+part-append-log-with-end c = found (c .before .before .before) .0
 
 returns-2 : tie.Need-returns-2
 unfolding appendLogCalled requestOf logOffered
 returns-2 c =
     let called = c .before .before .before in
     let asked = called .before .before .before .before .before .before in
-    let a = asked .before .before .before .before .before .before .before .args in
-    let outcome = rw (log-part (a .l .z) (now (a .name))) at (called .append-log .ensures) in
-    call-made (a .s) _ (now (a .v)) (asked .has-log .result) _ _ (asked .has-log .ensures) (called .append-log .result) _
+    let a = asked .before .before .before .before .before .before .before .before .args in
+    let outcome = rw (log-part (a .l .z) (now (a .name)), asked .before .rule-in .ensures) at (called .append-log-with .ensures) in
+    call-made (a .s) _ (now (a .v)) (asked .has-log .result) _ _ (asked .has-log .ensures) (called .append-log-with .result) _
     (called .before .before .before .before .before .if1 .left) outcome (c .answered-by .ensures)
 
 pub append-log-spec : {M : Type 1} → statement M
@@ -63,15 +63,16 @@ append-log-spec =
     (λ c. search needs)
     (λ c κs. search needs)
     (λ c κs. search needs)
+    (λ c κs. search needs)
     returns
     add-end
-    slice-relend-prefix-append-log
-    slice-aggregate-append-log
-    slice-aggregate-append-log-2
-    slice-aggregate-append-log-3
+    slice-relend-prefix-append-log-with
+    slice-aggregate-append-log-with
+    slice-aggregate-append-log-with-2
+    slice-aggregate-append-log-with-3
     (λ c. search needs)
     (λ c. search needs)
-    part-append-log-end
+    part-append-log-with-end
     (λ c κs. search needs)
     (λ c κs. search needs)
     (λ c. search needs)

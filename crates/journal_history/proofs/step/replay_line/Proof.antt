@@ -1,28 +1,32 @@
 -- `replay_line` is its definition by its tests of the letter. Assumes nothing.
 use mathlib.Core.Path.{refl}
 use denote.Ref.{now}
+use Rattle.journal.specs.Handed.{asBudget}
 use Rattle.journal_history.proofs.Steps.{line-cut, line-append, line-log-cut, line-log-append, line-compared, line-stored}
 use Rattle.journal_history.proofs.step.replay_line.Statement.{statement}
 use Rattle.journal_history.proofs.step.replay_line.Tie as tie
 
 returns : tie.Need-returns
+unfolding asBudget
 returns c =
     let called = c .before .before in
     let first = called .before .before .before .before .before in
     let a = first .before .before .before .before .before .before .before .args in
     line-cut (a .l) (a .s) _ (now (a .v)) _ (now (a .expected)) (now (a .name)) (now (a .chances)) (now (a .times))
-    (first .if1 .taken) (called .append-upto .ensures)
+    (first .if1 .taken) (called .append .ensures)
 
 returns-2 : tie.Need-returns-2
+unfolding asBudget
 returns-2 c =
     let called = c .before .before in
     let second = called .before .before .before .before .before in
     let first = second .before .before in
     let a = first .before .before .before .before .before .before .before .args in
     line-append (a .l) (a .s) _ (now (a .v)) _ (now (a .expected)) (now (a .name)) (now (a .chances)) (now (a .times))
-    (first .if1 .left) (second .if2 .taken) (called .append .ensures)
+    (first .if1 .left) (second .if2 .taken) (called .append2 .ensures)
 
 returns-3 : tie.Need-returns-3
+unfolding asBudget
 returns-3 c =
     let called = c .before .before in
     let third = called .before .before .before .before .before in
@@ -30,9 +34,10 @@ returns-3 c =
     let first = second .before .before in
     let a = first .before .before .before .before .before .before .before .args in
     line-log-cut (a .l) (a .s) _ (now (a .v)) _ (now (a .expected)) (now (a .name)) (now (a .chances)) (now (a .times))
-    (first .if1 .left) (second .if2 .left) (third .if3 .taken) (called .append-log-upto .ensures)
+    (first .if1 .left) (second .if2 .left) (third .if3 .taken) (called .append-log .ensures)
 
 returns-4 : tie.Need-returns-4
+unfolding asBudget
 returns-4 c =
     let called = c .before .before in
     let fourth = called .before .before .before .before .before in
@@ -41,7 +46,7 @@ returns-4 c =
     let first = second .before .before in
     let a = first .before .before .before .before .before .before .before .args in
     line-log-append (a .l) (a .s) _ (now (a .v)) _ (now (a .expected)) (now (a .name)) (now (a .chances)) (now (a .times))
-    (first .if1 .left) (second .if2 .left) (third .if3 .left) (fourth .if4 .taken) (called .append-log .ensures)
+    (first .if1 .left) (second .if2 .left) (third .if3 .left) (fourth .if4 .taken) (called .append-log2 .ensures)
 
 returns-5 : tie.Need-returns-5
 returns-5 c =
@@ -81,25 +86,25 @@ replay-line-spec =
     tie.close
     (tie.spec
     (λ c κs. tt)
-    (λ c. c .before .before .append-upto .kept .1 .1 .0)
+    (λ c. c .before .before .append .kept .1 .1 .1 .0)
     (λ c. refl)
     (λ c. refl)
     (λ c. refl)
     returns
     (λ c κs. tt)
-    (λ c. c .before .before .append .kept .1 .1 .0)
+    (λ c. c .before .before .append2 .kept .1 .1 .1 .0)
     (λ c. refl)
     (λ c. refl)
     (λ c. refl)
     returns-2
     (λ c κs. tt)
-    (λ c. c .before .before .append-log-upto .kept .1 .1 .0)
+    (λ c. c .before .before .append-log .kept .1 .1 .1 .0)
     (λ c. refl)
     (λ c. refl)
     (λ c. refl)
     returns-3
     (λ c κs. tt)
-    (λ c. c .before .before .append-log .kept .1 .1 .0)
+    (λ c. c .before .before .append-log2 .kept .1 .1 .1 .0)
     (λ c. refl)
     (λ c. refl)
     (λ c. refl)

@@ -11,7 +11,7 @@ returns c =
     let called = c .before .before in
     let started = called .before .before in
     let v = now (started .before .before .before .args .v) in
-    rw (← state-text (started .start .result) v (started .start .ensures)) (called .next-line .ensures .bytes)
+    rw (← state-text _ (started .start .result) v (started .start .ensures)) (called .next-line .ensures .bytes)
 
 pub state-line-spec : {M : Type 1} → statement M
 state-line-spec = tie.close (tie.spec (λ c κs. search needs) (λ c κs. search needs) (λ c. search needs) returns)
