@@ -1,5 +1,5 @@
-/* limit [--form FORM] CHANCE TICKS..: the limit of the times at a chance in a million, as its 16 hexadecimal digits and in decimal,
-   or the refusal's number; under form 2, which every new record has, unless another is said. Shows how a C program calls the library. */
+/* limit [--form FORM] CHANCE TICKS..: mean, spread, quantile and limit of the times at a chance in a million, each as its 16 hexadecimal
+   digits and in decimal, or the refusal's number; under form 2, which every new record has, unless another is said. Shows how a C program calls the library. */
 #include <errno.h>
 #include <inttypes.h>
 #include <stdio.h>
@@ -41,15 +41,18 @@ int main(int argc, char **argv)
     }
     for (size_t i = 0; i < n; i++)
         times[i] = number(argv[(size_t)at + 1 + i]);
-    uint64_t out[2];
+    uint64_t out[5];
     limit_bits(form, times, n, number(argv[at]), out);
     free(times);
     if (out[0] == LIMIT_REFUSED) {
         printf("refused %" PRIu64 "\n", out[1]);
         return 1;
     }
-    double limit;
-    memcpy(&limit, &out[1], sizeof limit);
-    printf("%016" PRIx64 " %.17g\n", out[1], limit);
+    static const char *const names[] = {"mean", "spread", "quantile", "limit"};
+    for (size_t i = 0; i < 4; i++) {
+        double figure;
+        memcpy(&figure, &out[i + 1], sizeof figure);
+        printf("%-8s %016" PRIx64 " %.17g\n", names[i], out[i + 1], figure);
+    }
     return 0;
 }

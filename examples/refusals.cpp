@@ -124,7 +124,7 @@ int main()
     journal_append(largest.data(), largest.size(), 0, 1, reinterpret_cast<const std::uint8_t *>(name.data()), name.size(), chances.data(),
         chances.size(), times.data(), times.size(), a.word);
     say("the largest record", a.word[1], JOURNAL_MAX_RECORD);
-    std::uint64_t limit[2];
+    std::uint64_t limit[5];
     limit_bits(2, times.data(), times.size(), 500000, limit);
     say("answered", limit[0], LIMIT_ANSWERED);
     limit_bits(2, times.data(), times.size(), 0, limit);

@@ -15,7 +15,7 @@ extern "C" {
 
 #define JOURNAL_MAX_LENGTH 65536 /* the most bytes of a journal */
 #define JOURNAL_MAX_RECORD 652   /* the most bytes of a record */
-#define JOURNAL_MAX_LINE 233     /* the most bytes of a line of the listing, with its line end */
+#define JOURNAL_MAX_LINE 267     /* the most bytes of a line of the listing, with its line end */
 
 /* The first number of an answer: of the limit, of the band, of a scan, of an append, which may answer JOURNAL_DAMAGED too, and
    through a log JOURNAL_DECLINED_AT, for a line of it; and of a merge. */
@@ -55,9 +55,9 @@ uint64_t f_erfcinv_bits(uint64_t x);
 uint64_t f_erfinv_bits(uint64_t x);
 
 /* The limit of n times in ticks of ten microseconds at a chance in a million, under a form (1: the spread's divisor is n * n; 2: n * (n - 1)):
-   {LIMIT_ANSWERED, bits of the limit}, or {LIMIT_REFUSED, refusal}: FORM, CHANCES or TIMES, the first that holds.
-   times points to n numbers; out to two places. */
-void limit_bits(uint32_t form, const uint32_t *times, size_t n, uint32_t chance, uint64_t out[2]);
+   {LIMIT_ANSWERED, bits of mean, spread, quantile and limit}, or {LIMIT_REFUSED, refusal, 0, 0, 0}: FORM, CHANCES or TIMES, the first that
+   holds. times points to n numbers; out to five places. */
+void limit_bits(uint32_t form, const uint32_t *times, size_t n, uint32_t chance, uint64_t out[5]);
 
 /* The band around the mean of n times with share links in a million inside, under the divisor n * (n - 1):
    {BAND_ANSWERED, bits of the low end, bits of the high end}, or {BAND_REFUSED, refusal, 0}: SHARE or TIMES, the first that holds.

@@ -64,12 +64,15 @@ def divisor_of(form, n):
     return {OLD: n * n, NEW: n * (n - 1)}[form]
 
 
-def limit_of(times, chance, form):
-    """mean + (spread * 1.4142135623730951) * e, one rounding an operation, products from the left."""
+def mean_and_spread(times, form):
     n, total = len(times), sum(times)
     d = n * sum(time * time for time in times) - total * total
-    mean = float(total) / float(n)
-    spread = math.sqrt(float(d) / float(divisor_of(form, n)))
+    return float(total) / float(n), math.sqrt(float(d) / float(divisor_of(form, n)))
+
+
+def limit_of(times, chance, form):
+    """mean + (spread * 1.4142135623730951) * e, one rounding an operation, products from the left."""
+    mean, spread = mean_and_spread(times, form)
     return mean + (spread * 1.4142135623730951) * QUANTILE[chance]
 
 
@@ -123,6 +126,7 @@ class Leaf:
         raise KeyError(wanted)
 
     def line(self):
-        """The record's line of the listing."""
+        """The record's line of the listing, with mean and spread behind the mark (document 02, 2026-03)."""
+        moments = [f"{bits_of(x):016x}" for x in mean_and_spread(self.times, self.form)]
         pairs = [f"{chance}:{limit:016x}" for chance, limit in zip(self.chances, self.limits)]
-        return " ".join([self.name.decode("ascii"), str(self.day), mark_of(self.times), *pairs]) + "\n"
+        return " ".join([self.name.decode("ascii"), str(self.day), mark_of(self.times), *moments, *pairs]) + "\n"

@@ -1,4 +1,4 @@
-// The limit against the papers' formula under both forms, worked in rust/reference with the Rust's quantile and the hardware's root,
+// Mean, spread, quantile and limit against the papers' formula under both forms, worked in rust/reference with the Rust's quantile and the hardware's root,
 // over random and edge sets of times, chances and forms, those that are refused included.
 
 use crate::options::Options;
@@ -78,15 +78,15 @@ fn compare_at((form, times, chance): (u32, &[u32], u32), tally: &mut Tally, limi
     let input = || format!("times {times:?} at {chance} under form {form}");
     let sides = [ours::limit_bits(form, times, chance), answer(expected)];
     tally.take(sides, input);
-    if let Ok(limit) = expected {
+    if let Ok([.., limit]) = expected {
         limits.take(limit, tally, input);
     }
 }
 
-/// {0, bits of the limit} or {1, refusal}.
-fn answer(limit: Result<f64, u64>) -> [u64; 2] {
-    match limit {
-        Ok(limit) => [0, original::bits_of(limit)],
-        Err(refusal) => [1, refusal],
+/// {0, bits of the four figures} or {1, refusal, 0, 0, 0}.
+fn answer(figures: Result<[f64; 4], u64>) -> [u64; 5] {
+    match figures.map(|figures| figures.map(original::bits_of)) {
+        Ok([mean, spread, quantile, limit]) => [0, mean, spread, quantile, limit],
+        Err(refusal) => [1, refusal, 0, 0, 0],
     }
 }

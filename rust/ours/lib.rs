@@ -27,13 +27,13 @@ macro_rules! name_numbers {
 
 with_functions!(name_numbers);
 
-/// The limit of some times at a chance under a form: {0, its bits} or {1, refusal}.
-pub fn limit_bits(form: u32, times: &[u32], chance: u32) -> [u64; 2] {
+/// Mean, spread, quantile and limit of some times at a chance under a form: {0, their bits} or {1, refusal, 0, 0, 0}.
+pub fn limit_bits(form: u32, times: &[u32], chance: u32) -> [u64; 5] {
     unsafe extern "C" {
-        fn limit_bits(form: u32, times: *const u32, n: usize, chance: u32, out: *mut [u64; 2]);
+        fn limit_bits(form: u32, times: *const u32, n: usize, chance: u32, out: *mut [u64; 5]);
     }
-    let mut out = [0; 2];
-    // The pointer and the length are those of a slice, and out has its two places.
+    let mut out = [0; 5];
+    // The pointer and the length are those of a slice, and out has its five places.
     unsafe { limit_bits(form, times.as_ptr(), times.len(), chance, &mut out) };
     out
 }

@@ -62,14 +62,19 @@ impl Sums {
         self.squares += time * time;
     }
 
-    /// The limit at a chance that is in range, of times that are.
+    /// Mean, spread, quantile and limit at a chance that is in range, of times that are.
     #[allow(clippy::approx_constant)] // the digits are the paper's
-    pub fn limit_at(&self, form: Form, chance: u32) -> f64 {
+    pub fn figures_at(&self, form: Form, chance: u32) -> [f64; 4] {
         let d = self.n * self.squares - self.sum * self.sum;
         let mean = self.sum as f64 / self.n as f64;
         let spread = (d as f64 / form.divisor(self.n) as f64).sqrt();
         let e = f64::from_bits(original::f_erfcinv_bits(quantile_argument(chance.into())));
-        mean + (spread * 1.4142135623730951) * e
+        [mean, spread, e, mean + (spread * 1.4142135623730951) * e]
+    }
+
+    /// The limit alone.
+    pub fn limit_at(&self, form: Form, chance: u32) -> f64 {
+        self.figures_at(form, chance)[3]
     }
 }
 
@@ -85,8 +90,8 @@ pub fn time_fits(time: u32) -> bool {
     (1..=LAST_TIME).contains(&u64::from(time))
 }
 
-/// The limit itself, or the first refusal that holds.
-pub fn limit(form: u32, times: &[u32], chance: u32) -> Result<f64, u64> {
+/// Mean, spread, quantile and limit, or the first refusal that holds.
+pub fn limit(form: u32, times: &[u32], chance: u32) -> Result<[f64; 4], u64> {
     let form = Form::of(form).ok_or(2u64)?;
     if !chance_fits(chance) {
         return Err(5);
@@ -94,5 +99,5 @@ pub fn limit(form: u32, times: &[u32], chance: u32) -> Result<f64, u64> {
     if !count_fits(times.len()) || !times.iter().all(|time| time_fits(*time)) {
         return Err(6);
     }
-    Ok(Sums::of(times).limit_at(form, chance))
+    Ok(Sums::of(times).figures_at(form, chance))
 }

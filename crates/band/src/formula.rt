@@ -1,14 +1,9 @@
-// The band's formula in doubles, one function for each of the paper's named values.
-// Every whole number here is at most 2^53, so that each cast to f64 is exact.
-ghost use mathlib.Core.Bool.{true};
+// The band's formula in doubles, over mean and spread, which the limit works out.
+// A share is at most 2^32, so that its cast to f64 is exact.
 ghost use mathlib.Core.Path.{_≡_};
-ghost use Prim.Native.Nat.{_-_, _*_, _^_, _≤_};
-ghost use Rattle.limit.specs.Times.{minCount, maxCount};
-ghost use Rattle.limit.specs.Formula.{meanOf, spreadBy};
-ghost use Rattle.limit.specs.Sums.{isPlausible};
-ghost use Rattle.band.specs.Band.{endsFrom, endsOf, inverseOf};
+ghost use Rattle.band.specs.Band.{endsFrom, inverseOf};
 use crate::Ends;
-use limit::sums::Sums;
+use limit::Moments;
 
 // A share of w in a million is w / 1000000, which is what f_erfinv takes.
 const MILLION: f64 = 1000000.0;
@@ -16,32 +11,11 @@ const MILLION: f64 = 1000000.0;
 // The double nearest to the root of 2.
 const ROOT_TWO: f64 = 1.4142135623730951;
 
-// The ends for times with these sums, at a share in a million.
-pub(crate) fn ends_of(s: Sums, share: u32) -> Ends
-    requires { ⌜ isPlausible s ≡ true ⌝ }
-    ensures { λ r. ⌜ r ≡ endsOf (s .count) (s .sum) (s .squares) share ⌝ }
+// The ends around a mean, at a share in a million.
+pub(crate) fn ends_at(m: Moments, share: u32) -> Ends
+    ensures { λ r. ⌜ r ≡ endsFrom (m .mean) (m .spread) (inverseOf share) ⌝ }
 {
-    let n = s.count;
-    let sum = s.sum;
-    let squares = s.squares;
-    let d = n * squares - sum * sum;
-    ends_from(mean(n, sum), spread(n, d), inverse(share))
-}
-
-fn mean(n: u64, sum: u64) -> f64
-    requires { ⌜ (n ≤ 2 ^ 53) × (sum ≤ 2 ^ 53) ⌝ }
-    ensures { λ r. ⌜ r ≡ meanOf n sum ⌝ }
-{
-    sum as f64 / n as f64
-}
-
-// The sample divisor is n × (n - 1).
-fn spread(n: u64, d: u64) -> f64
-    requires { ⌜ (minCount ≤ n) × ((n ≤ maxCount) × (d ≤ 2 ^ 53)) ⌝ }
-    ensures { λ r. ⌜ r ≡ spreadBy (n * (n - 1)) d ⌝ }
-{
-    let divisor = n * (n - 1);
-    sqrt::sqrt(d as f64 / divisor as f64)
+    ends_from(m.mean, m.spread, inverse(share))
 }
 
 fn inverse(share: u32) -> f64

@@ -3,7 +3,8 @@
 ghost use mathlib.Core.Path.{_≡_};
 ghost use Rattle.band.specs.Answer.{meaning};
 ghost use Rattle.band.specs.Band.{bandOf, shareInRange};
-use limit::sums::Gathered;
+use limit::SAMPLE_FORM;
+use limit::Worked;
 
 mod formula;
 
@@ -34,10 +35,10 @@ pub fn band(times: &[u32], share: u32) -> Answer
     if !share_in_range(share) {
         return Answer::Refused(SHARE_REFUSAL);
     }
-    let g = limit::sums::gather(times);
-    match g {
-        Gathered::Within(s) => Answer::Band(formula::ends_of(s, share)),
-        Gathered::Outside => Answer::Refused(limit::TIMES_REFUSAL),
+    let worked = limit::moments_of_times(SAMPLE_FORM, times);
+    match worked {
+        Worked::Out(m) => Answer::Band(formula::ends_at(m, share)),
+        Worked::Refused(n) => Answer::Refused(n),
     }
 }
 

@@ -1,5 +1,5 @@
-// The limit of a set of times at a chance under a form, with its answer in two words.
-// 0 and the bits of the limit, or 1 and the refusal's number.
+// The limit of a set of times at a chance under a form, with its answer in five words.
+// 0 and the bits of mean, spread, quantile and limit, or 1 and the refusal's number.
 ghost use mathlib.Core.Path.{_≡_};
 ghost use Rattle.limit.specs.Limit.{limitOf};
 ghost use Rattle.capi.specs.Limit.{limitWords};
@@ -7,16 +7,20 @@ use limit::Answer;
 use sqrt::bits::bits_of;
 
 #[no_mangle]
-pub extern "C" fn limit_bits(form: u32, times: &[u32], chance: u32, out: &mut [u64; 2])
+pub extern "C" fn limit_bits(form: u32, times: &[u32], chance: u32, out: &mut [u64; 5])
     ensures { λ r. ⌜ now (out .exit) ≡ limitWords (limitOf form (now (times .entry)) chance) ⌝ }
 {
     let a = limit::limit(form as u64, times, chance);
     match a {
-        Answer::Limit(x) => {
-            *out = [0, bits_of(x)];
+        Answer::Limit(f) => {
+            let mean = bits_of(f.mean);
+            let spread = bits_of(f.spread);
+            let quantile = bits_of(f.quantile);
+            let limit = bits_of(f.limit);
+            *out = [0, mean, spread, quantile, limit];
         }
         Answer::Refused(n) => {
-            *out = [1, n as u64];
+            *out = [1, n as u64, 0, 0, 0];
         }
     }
 }

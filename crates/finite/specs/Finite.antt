@@ -8,7 +8,7 @@ use lib.ListN.{length}
 use lib.Ieee.{Float, binary64, sub, mul}
 use lib.Ieee.Scale.{finite}
 use Rattle.limit.specs.Times.{sumOf, squaresOf}
-use Rattle.limit.specs.Formula.{rootTwo, meanOf, spreadOf, quantileOf, limitFrom, formulaOf}
+use Rattle.limit.specs.Formula.{rootTwo, meanOf, spreadOf, quantileOf, limitFrom, formulaOf, figuresOf}
 use Rattle.limit.specs.Answer.{limited}
 use Rattle.limit.specs.Limit.{limitOf}
 use Rattle.band.specs.Answer.{banded}
@@ -21,10 +21,10 @@ pub record FiniteUnder (form n s q c : ℕ) : Type 0 where
   pub quantile : T (finite (quantileOf c))
   pub limit : T (finite (formulaOf form n s q c))
 
--- of a list of times: the four are finite, and the limit operation gives this limit, so that document 01's refusal 8 has no case
+-- of a list of times: the four are finite, and the limit operation gives them, so that document 01's refusal 8 has no case
 pub record FiniteLimits (form : ℕ) (ts : List ℕ) (c : ℕ) : Type 0 where
   pub under : FiniteUnder form (length ts) (sumOf ts) (squaresOf ts) c
-  pub given : limitOf form ts c ≡ limited (formulaOf form (length ts) (sumOf ts) (squaresOf ts) c)
+  pub given : limitOf form ts c ≡ limited (figuresOf form (length ts) (sumOf ts) (squaresOf ts) c)
 
 -- mean ± (spread × 1.4142135623730951) × e are both finite
 pub record Ends (mean spread e : Float) : Type 0 where

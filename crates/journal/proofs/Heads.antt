@@ -32,7 +32,7 @@ are-bytes : (b : List ℕ) → ((i : ℕ) → getD b i 0 < 256) → AreBytes b
 are-bytes [] h = tt
 are-bytes (x ∷ b) h = (h 0, are-bytes b (λ i. h (suc i)))
 
-number-below : (w at : ℕ) (b : List ℕ) → ((i : ℕ) → getD b i 0 < 256) → numberAt w at b < 256 ^ w
+pub number-below : (w at : ℕ) (b : List ℕ) → ((i : ℕ) → getD b i 0 < 256) → numberAt w at b < 256 ^ w
 unfolding numberAt
 number-below w at b h =
     let bs : List ℕ = take w (drop at b) in

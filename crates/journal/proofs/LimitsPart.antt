@@ -1,4 +1,4 @@
--- A record from its limits on: the section that the code reads, by the place of the chances and the sums of the times, finds what the
+-- A record from its limits on: the section that the code reads, by the place of the chances, mean and spread of the times, finds what the
 -- record's own section of limits finds. Assumes nothing.
 use mathlib.Core.Path.{_≡_, refl, sym, ap, ap₂, _∙_}
 use Prim.Native.Nat.{ℕ, _+_, _*_, _-_, _<_}
@@ -12,8 +12,8 @@ use Rattle.limit.specs.declared.sums.Sums.{Sums}
 use Rattle.limit.specs.Formula.{sampleForm}
 use Rattle.limit.specs.Times.{timesInRange}
 use Rattle.limit.specs.Sums.{sumsOf}
-use Rattle.limit.specs.Limit.{limitOf, limitOfSums}
-use Rattle.limit.proofs.Agreement.{limit-of-sums-agrees}
+use Rattle.limit.specs.Limit.{limitOf, momentsOfSums, limitOfMoments}
+use Rattle.limit.proofs.Agreement.{limit-of-moments-agrees}
 use Rattle.journal_spec.specs.Refusals.{limitRefusal, unless}
 use Rattle.journal_spec.specs.Reader.{Reader, field, Found, found, fault, short, run}
 use Rattle.journal_spec.specs.Section.{items, section}
@@ -67,20 +67,22 @@ refused-found short x h = let z : _≡_ {A = ℕ} 0 1 = cc in absurd (omega arit
 module _ (b : List ℕ) (chances n form : ℕ) (sums : Sums) (list times : List ℕ)
     (stand : Stands b chances n list) (good : timesInRange times ≡ true) (total : sums ≡ sumsOf times) where
   -- limit i is judged by the limit of the times at chance i
-  item-agrees : (xs : List ℕ) → length xs < n → limitItem b chances form sums xs ≡ judgeLimit (limitOf form times (getD list (length xs) 0))
+  item-agrees : (xs : List ℕ) → length xs < n → limitItem b chances (momentsOfSums form sums) xs ≡ judgeLimit (limitOf form times (getD list (length xs) 0))
   unfolding limitItem limitRefusalAt
   item-agrees xs h =
       ap judgeLimit
-      (ap₂ (limitOfSums form) total (sym (stand .numbers (length xs) h)) ∙ sym (limit-of-sums-agrees form times (getD list (length xs) 0) good))
+      (ap₂ (λ (s : Sums) (c : ℕ). limitOfMoments (momentsOfSums form s) c) total (sym (stand .numbers (length xs) h))
+      ∙ sym (limit-of-moments-agrees form times (getD list (length xs) 0) good))
 
-  items-agree : items 8 (limitItem b chances form sums) n [] ≡ items 8 (λ before. judgeLimit (limitOf form times (getD list (length before) 0))) n []
+  items-agree : items 8 (limitItem b chances (momentsOfSums form sums)) n []
+      ≡ items 8 (λ before. judgeLimit (limitOf form times (getD list (length before) 0))) n []
   items-agree =
-      same-items 8 (limitItem b chances form sums) (λ before. judgeLimit (limitOf form times (getD list (length before) 0))) n n [] item-agrees
+      same-items 8 (limitItem b chances (momentsOfSums form sums)) (λ before. judgeLimit (limitOf form times (getD list (length before) 0))) n n [] item-agrees
       (omega arith)
 
   module _ (at : ℕ) where
     by-count : (f : FieldRead) → f ≡ fieldBy 2 (λ k. unless (eqb k n) limitRefusal) at b
-        → afterField (λ k. items 8 (limitItem b chances form sums) k []) 2 at b f
+        → afterField (λ k. items 8 (limitItem b chances (momentsOfSums form sums)) k []) 2 at b f
         ≡ afterField (λ k. items 8 (λ before. judgeLimit (limitOf form times (getD list (length before) 0))) k []) 2 at b f
     unfolding afterField
     by-count (F.Value k) e =
@@ -90,18 +92,18 @@ module _ (b : List ℕ) (chances n form : ℕ) (sums : Sums) (list times : List 
     by-count F.Short e = refl
     by-count (F.Refused x) e = refl
 
-    sections-agree : run (section (limitsBy b n chances form sums)) at (drop at b) ≡ run (section (limitSection form list times)) at (drop at b)
+    sections-agree : run (section (limitsBy b n chances (momentsOfSums form sums))) at (drop at b) ≡ run (section (limitSection form list times)) at (drop at b)
     unfolding section limitsBy limitSection
     sections-agree =
         let next : ℕ → Reader (List ℕ) = λ k. items 8 (λ before. judgeLimit (limitOf form times (getD list (length before) 0))) k [] in
-        by-field 2 (λ k. unless (eqb k n) limitRefusal) (λ k. items 8 (limitItem b chances form sums) k []) at b
+        by-field 2 (λ k. unless (eqb k n) limitRefusal) (λ k. items 8 (limitItem b chances (momentsOfSums form sums)) k []) at b
         ∙ by-count (fieldBy 2 (λ k. unless (eqb k n) limitRefusal) at b) refl
         ∙ sym (by-field 2 (λ k. unless (eqb k n) limitRefusal) next at b)
         ∙ ap (λ (m : ℕ). run (field 2 (λ k. unless (eqb k m) limitRefusal) next) at (drop at b)) (sym (stand .count))
 
     -- ---- the record, by the answer of the code's section
 
-    module _ (day : ℕ) (name : List ℕ) (x : LimitsRead) (read : x ≡ limitSectionAt n chances form sums at b) where
+    module _ (day : ℕ) (name : List ℕ) (x : LimitsRead) (read : x ≡ limitSectionAt n chances (momentsOfSums form sums) at b) where
       ran : x ≡ limitsRead (run (section (limitSection form list times)) at (drop at b))
       unfolding limitSectionAt
       ran = read ∙ ap limitsRead sections-agree

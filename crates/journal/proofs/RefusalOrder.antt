@@ -13,7 +13,9 @@ use Rattle.limit.specs.declared.sums.Gathered.{Gathered}
 use Rattle.limit.specs.declared.sums.Gathered.the-variants as G
 use Rattle.limit.specs.Times.{minCount, maxCount}
 use Rattle.limit.specs.Sums.{sumsOf, gatheredMeaning, gatherOf}
-use Rattle.limit.specs.Answer.{timesRefusal}
+use Rattle.limit.specs.Answer.{timesRefusal, MomentsResult}
+use Rattle.limit.specs.Formula.{sampleForm}
+use Rattle.limit.specs.Limit.{momentsOfSums}
 use Rattle.limit.proofs.Gathered.{gathered-within, gathered-outside}
 use Rattle.journal_spec.specs.Refusals.{dayRefusal, profileRefusal, unless, firstOf}
 use Rattle.journal_spec.specs.Section.{sectionRefusal}
@@ -78,9 +80,13 @@ module _ (rule : Rule) (s : Sums) (chances bits : List ℕ) (here kept : Bool)
   unfolding unless
   rule-broken e = record { refusal = row false (not-true kept e); limits = λ h. absurd (omega arith) }
 
-  pub rule-kept : not kept ≡ false → take (length chances) bits ≡ limitsFrom s chances → RuleChecked rule s chances 0 bits
+  pub rule-kept : not kept ≡ false → (w : MomentsResult) → w ≡ momentsOfSums sampleForm s → take (length chances) bits ≡ limitsFrom w chances
+      → RuleChecked rule s chances 0 bits
   unfolding unless
-  rule-kept e worked = record { refusal = row true (not-false kept e); limits = λ h. worked }
+  rule-kept e w m worked = record {
+    refusal = row true (not-false kept e);
+    limits = λ h. worked ∙ ap (λ (x : MomentsResult). limitsFrom x chances) m;
+  }
 
 -- ---- one refusal after another
 
@@ -149,5 +155,5 @@ module _ (rule : Rule) (last : Last) (o : Offer) (bits : List ℕ) where
             let rule′ = ap (λ (x : Sums). ruleRefusal rule (o .chances) (x .count)) (within .sums) ∙ sym (offered-rule rule o) in
             record {
               refusal = j .refusal ∙ rule′ ∙ sym (after-even ∙ first-later _ _ t ∙ first-alone _);
-              limits = λ z. j .limits z ∙ limits-from s (o .times) (o .chances) (within .inside) (within .sums);
+              limits = λ z. j .limits z ∙ limits-from (momentsOfSums sampleForm s) s (o .times) (o .chances) refl (within .inside) (within .sums);
             }

@@ -4,8 +4,8 @@ use Prim.Native.Nat.{ℕ, _+_, _*_}
 use mathlib.Core.List.{List, []}
 use lib.ListN.{length, drop}
 use lib.Dec.{eqb}
-use Rattle.limit.specs.declared.sums.Sums.{Sums}
-use Rattle.limit.specs.Limit.{limitOfSums}
+use Rattle.limit.specs.Answer.{MomentsResult}
+use Rattle.limit.specs.Limit.{limitOfMoments}
 use Rattle.journal_spec.specs.Bytes.{numberAt}
 use Rattle.journal_spec.specs.Refusals.{limitRefusal, unless, outside}
 use Rattle.journal_spec.specs.Record.{judgeLimit}
@@ -57,22 +57,22 @@ limitsRead (found xs at rest) = L.Next at
 limitsRead (fault n p) = L.Refused (record { number = n; place = p })
 limitsRead short = L.Short
 
--- the refusal of a limit's bits, by the form, the sums of the times and the chance that stands at a place
-unfoldable pub limitRefusalAt : List ℕ → ℕ → Sums → ℕ → ℕ → ℕ
-limitRefusalAt b form s chance bits = judgeLimit (limitOfSums form s (numberAt 4 chance b)) bits
+-- the refusal of a limit's bits, by mean and spread and the chance that stands at a place
+unfoldable pub limitRefusalAt : List ℕ → MomentsResult → ℕ → ℕ → ℕ
+limitRefusalAt b w chance bits = judgeLimit (limitOfMoments w (numberAt 4 chance b)) bits
 
 -- the refusal of a limit after those before it: its chance is as many places on as there are limits before it
-unfoldable pub limitItem : List ℕ → ℕ → ℕ → Sums → List ℕ → ℕ → ℕ
-limitItem b chances form s before = limitRefusalAt b form s (chances + length before * 4)
+unfoldable pub limitItem : List ℕ → ℕ → MomentsResult → List ℕ → ℕ → ℕ
+limitItem b chances w before = limitRefusalAt b w (chances + length before * 4)
 
 -- the n limits at a place, where the chances stand from another on
-unfoldable pub limitsAt : ℕ → ℕ → ℕ → Sums → ℕ → List ℕ → LimitsRead
-limitsAt n chances form s at b = limitsRead (run (items 8 (limitItem b chances form s) n []) at (drop at b))
+unfoldable pub limitsAt : ℕ → ℕ → MomentsResult → ℕ → List ℕ → LimitsRead
+limitsAt n chances w at b = limitsRead (run (items 8 (limitItem b chances w) n []) at (drop at b))
 
--- the limits' section by the number of the chances, their place, the form and the sums of the times
-unfoldable pub limitsBy : List ℕ → ℕ → ℕ → ℕ → Sums → Section
-limitsBy b n chances form s = record { width = 8; count = λ k. unless (eqb k n) limitRefusal; item = limitItem b chances form s }
+-- the limits' section by the number of the chances, their place, mean and spread
+unfoldable pub limitsBy : List ℕ → ℕ → ℕ → MomentsResult → Section
+limitsBy b n chances w = record { width = 8; count = λ k. unless (eqb k n) limitRefusal; item = limitItem b chances w }
 
 -- that section at a place
-unfoldable pub limitSectionAt : ℕ → ℕ → ℕ → Sums → ℕ → List ℕ → LimitsRead
-limitSectionAt n chances form s at b = limitsRead (run (section (limitsBy b n chances form s)) at (drop at b))
+unfoldable pub limitSectionAt : ℕ → ℕ → MomentsResult → ℕ → List ℕ → LimitsRead
+limitSectionAt n chances w at b = limitsRead (run (section (limitsBy b n chances w)) at (drop at b))

@@ -8,7 +8,8 @@ use lib.ListN.{length, take}
 use lib.Dec.{leb}
 use Rattle.limit.specs.declared.sums.Sums.{Sums}
 use Rattle.limit.specs.Formula.{sampleForm}
-use Rattle.limit.specs.Limit.{limitOfSums}
+use Rattle.limit.specs.Answer.{MomentsResult}
+use Rattle.limit.specs.Limit.{momentsOfSums, limitOfMoments}
 use Rattle.journal_spec.specs.Refusals.{profileRefusal, unless, firstOf}
 use Rattle.journal_spec.specs.Record.{Record, Last, judgeDay, nameSection, chanceSection, timeSection, recordBytes}
 use Rattle.journal_spec.specs.Section.{sectionRefusal}
@@ -68,9 +69,9 @@ recordFrom day name chances times limits = record {
 abbrev pub bytesFrom : ℕ → List ℕ → List ℕ → List ℕ → List ℕ → List ℕ
 bytesFrom day name chances times limits = recordBytes (recordFrom day name chances times limits)
 
--- the bits of the limits of times with these sums, one for each chance in its order
-unfoldable pub limitsFrom : Sums → List ℕ → List ℕ
-limitsFrom s chances = map (λ (c : ℕ). limitBits (limitOfSums sampleForm s c)) chances
+-- the bits of the limits from mean and spread, one for each chance in its order
+unfoldable pub limitsFrom : MomentsResult → List ℕ → List ℕ
+limitsFrom w chances = map (λ (c : ℕ). limitBits (limitOfMoments w c)) chances
 
 -- the refusal of chances and times by a rule, of a record of form 2
 unfoldable pub ruleRefusal : Profile.Rule → List ℕ → ℕ → ℕ
@@ -79,7 +80,7 @@ ruleRefusal rule chances times = unless (keptBy rule (same chances profileChance
 -- chances in range and times with these sums were judged by a rule, and where it does not refuse the limits' bits stand first in `bits`
 pub record RuleChecked (rule : Profile.Rule) (s : Sums) (chances : List ℕ) (r : ℕ) (bits : List ℕ) : Type 0 where
   pub refusal : r ≡ ruleRefusal rule chances (s .count)
-  pub limits : r ≡ 0 → take (length chances) bits ≡ limitsFrom s chances
+  pub limits : r ≡ 0 → take (length chances) bits ≡ limitsFrom (momentsOfSums sampleForm s) chances
 
 -- the rows of append's refusals that need no room: 3, 4, 5, 17, 6, 19
 unfoldable pub offerRefusals : Profile.Rule → Last → Offer → List ℕ

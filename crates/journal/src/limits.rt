@@ -1,15 +1,16 @@
-// The limits of a record, as many as its chances: each is worked out once, under the record's form from the sums of the times at its chance,
-// and the bits that stand have to be its own.
+// The limits of a record, as many as its chances: each is worked out once, at its chance from mean and spread, which are the record's, and the
+// bits that stand have to be its own.
 ghost use mathlib.Core.Path.{_≡_};
 ghost use Prim.Native.Nat.{_+_, _*_, _≤_};
 ghost use lib.ListN.{length};
+ghost use Rattle.limit.specs.Answer.{momentsMeaning};
 ghost use Rattle.journal.specs.Found.{fieldBy, limitRefusalAt, limitsAt, limitSectionAt};
 use crate::Fault;
 use crate::field::FieldRead;
 use crate::field::field_at;
 use crate::number::number_at;
 use limit::Answer;
-use limit::sums::Sums;
+use limit::Worked;
 
 // Document 01's number for a count of limits or the bits of a limit that are not the record's own.
 pub(crate) const LIMIT_REFUSAL: u32 = 7;
@@ -21,36 +22,35 @@ pub(crate) enum LimitsRead {
     Refused(Fault),
 }
 
-// The limits' section at a place, for n chances that stand from another place on, a form and times with these sums.
+// The limits' section at a place, for n chances that stand from another place on, mean and spread.
 pub(crate) fn limit_section_at(
     b: &[u8],
     at: usize,
     n: u64,
     chances: usize,
-    form: u64,
-    sums: Sums,
+    worked: Worked,
 ) -> LimitsRead
     requires { ⌜ (at ≤ length (now b)) × (chances + n * 4 ≤ length (now b)) ⌝ }
-    ensures { λ r. ⌜ r ≡ limitSectionAt n chances form sums at (now (b .entry)) ⌝ }
+    ensures { λ r. ⌜ r ≡ limitSectionAt n chances (momentsMeaning worked) at (now (b .entry)) ⌝ }
 {
     let count = field_at(b, at, 2, n, n, LIMIT_REFUSAL);
     match count {
-        FieldRead::Value(_) => limits_at(b, at + 2, n, chances, form, sums),
+        FieldRead::Value(_) => limits_at(b, at + 2, n, chances, worked),
         FieldRead::Short => LimitsRead::Short,
         FieldRead::Refused(f) => LimitsRead::Refused(f),
     }
 }
 
 // The n limits at a place.
-fn limits_at(b: &[u8], at: usize, n: u64, chances: usize, form: u64, sums: Sums) -> LimitsRead
+fn limits_at(b: &[u8], at: usize, n: u64, chances: usize, worked: Worked) -> LimitsRead
     requires { ⌜ (at ≤ length (now b)) × (chances + n * 4 ≤ length (now b)) ⌝ }
-    ensures { λ r. ⌜ r ≡ limitsAt n chances form sums at (now (b .entry)) ⌝ }
+    ensures { λ r. ⌜ r ≡ limitsAt n chances (momentsMeaning worked) at (now (b .entry)) ⌝ }
 {
     let mut p = at;
     let mut chance = chances;
     let mut left = n;
     while 0 < left {
-        let x = limit_at(b, p, chance, form, sums);
+        let x = limit_at(b, p, chance, worked);
         match x {
             FieldRead::Value(_) => {
                 p += 8;
@@ -66,15 +66,15 @@ fn limits_at(b: &[u8], at: usize, n: u64, chances: usize, form: u64, sums: Sums)
 
 // The limit at a place, against the one worked out for the chance that stands at another. Where that one is refused, which no chance and
 // no times that were read are, no bits are right.
-fn limit_at(b: &[u8], at: usize, chance: usize, form: u64, sums: Sums) -> FieldRead
+fn limit_at(b: &[u8], at: usize, chance: usize, worked: Worked) -> FieldRead
     requires { ⌜ (at ≤ length (now b)) × (chance + 4 ≤ length (now b)) ⌝ }
-    ensures { λ r. ⌜ r ≡ fieldBy 8 (limitRefusalAt (now (b .entry)) form sums chance) at (now (b .entry)) ⌝ }
+    ensures { λ r. ⌜ r ≡ fieldBy 8 (limitRefusalAt (now (b .entry)) (momentsMeaning worked) chance) at (now (b .entry)) ⌝ }
 {
     let c = number_at(b, chance, 4);
-    let worked = limit::limit_of_sums(form, sums, c as u32);
-    match worked {
-        Answer::Limit(x) => {
-            let bits = sqrt::bits::bits_of(x);
+    let answer = limit::limit_of_moments(worked, c as u32);
+    match answer {
+        Answer::Limit(f) => {
+            let bits = sqrt::bits::bits_of(f.limit);
             field_at(b, at, 8, bits, bits, LIMIT_REFUSAL)
         }
         Answer::Refused(_) => field_at(b, at, 8, 1, 0, LIMIT_REFUSAL),

@@ -3,8 +3,8 @@
 ghost use mathlib.Core.Path.{_≡_};
 ghost use Prim.Native.Nat.{_≤_};
 ghost use lib.ListN.{length, take};
-ghost use Rattle.limit.specs.Formula.{sampleForm};
-ghost use Rattle.limit.specs.Limit.{limitOfSums};
+ghost use Rattle.limit.specs.Answer.{momentsMeaning};
+ghost use Rattle.limit.specs.Limit.{limitOfMoments};
 ghost use Rattle.journal_spec.specs.Refusals.{outside};
 ghost use Rattle.journal_spec.specs.Section.{sectionRefusal};
 ghost use Rattle.journal_spec.specs.Record.{nameSection, chanceSection, maxChances};
@@ -22,6 +22,7 @@ use crate::record::NAME;
 use limit::Answer;
 use limit::SAMPLE_FORM;
 use limit::TIMES_REFUSAL;
+use limit::Worked;
 use limit::sums::Gathered;
 use limit::sums::Sums;
 
@@ -145,30 +146,31 @@ fn rule_refusal(sums: Sums, chances: &[u32], rule: Rule, bits: &mut [u64]) -> u3
     if !kept_by(rule, in_profile) {
         return PROFILE_REFUSAL;
     }
-    work_out(sums, chances, bits);
+    let worked = limit::moments_of_sums(SAMPLE_FORM, sums);
+    work_out(worked, chances, bits);
     0
 }
 
-// The bits of the limits that times with these sums have at the chances.
-fn work_out(sums: Sums, chances: &[u32], bits: &mut [u64])
+// The bits of the limits at the chances, from mean and spread.
+fn work_out(worked: Worked, chances: &[u32], bits: &mut [u64])
     requires { ⌜ (length (now chances) ≤ maxChances) × (length (now bits) ≡ maxChances) ⌝ }
-    ensures { λ _. ⌜ take (length (now (chances .entry))) (now (bits .exit)) ≡ limitsFrom sums (now (chances .entry)) ⌝ }
+    ensures { λ _. ⌜ take (length (now (chances .entry))) (now (bits .exit)) ≡ limitsFrom (momentsMeaning worked) (now (chances .entry)) ⌝ }
 {
     let n = chances.len();
     let mut i: usize = 0;
     while i < n {
-        bits[i] = bits_at(sums, chances[i]);
+        bits[i] = bits_at(worked, chances[i]);
         i += 1;
     }
 }
 
-// The bits of the limit that times with these sums have at a chance, under form 2.
-fn bits_at(sums: Sums, chance: u32) -> u64
-    ensures { λ r. ⌜ r ≡ limitBits (limitOfSums sampleForm sums chance) ⌝ }
+// The bits of the limit at a chance, from mean and spread.
+fn bits_at(worked: Worked, chance: u32) -> u64
+    ensures { λ r. ⌜ r ≡ limitBits (limitOfMoments (momentsMeaning worked) chance) ⌝ }
 {
-    let worked = limit::limit_of_sums(SAMPLE_FORM, sums, chance);
-    match worked {
-        Answer::Limit(x) => sqrt::bits::bits_of(x),
+    let answer = limit::limit_of_moments(worked, chance);
+    match answer {
+        Answer::Limit(f) => sqrt::bits::bits_of(f.limit),
         Answer::Refused(_) => 0,
     }
 }

@@ -197,7 +197,7 @@ fn times_part(b: &[u8], at: usize, head: Head, chances: usize, n: u64) -> Record
     }
 }
 
-// The record from its limits on, with the sums of its times.
+// The record from its limits on, with the sums of its times: mean and spread are worked out once.
 fn limits_part(b: &[u8], at: usize, head: Head, chances: usize, n: u64, sums: Sums) -> RecordRead
     requires { ⌜ (at ≤ length (now b)) × (chances + n * 4 ≤ length (now b)) × (isPlausible sums ≡ true) ⌝ }
     ensures { λ r. ⌜ ((name list times : List ℕ) → Stands (now (b .entry)) chances n list → timesInRange times ≡ true → sums ≡ sumsOf times
@@ -208,7 +208,8 @@ fn limits_part(b: &[u8], at: usize, head: Head, chances: usize, n: u64, sums: Su
     let flat = flat_by(sums);
     let times = sums.count;
     let in_profile = record_in_profile(b, form, chances, n, times);
-    let x = limit_section_at(b, at, n, chances, form, sums);
+    let worked = limit::moments_of_sums(form, sums);
+    let x = limit_section_at(b, at, n, chances, worked);
     match x {
         LimitsRead::Next(next) => RecordRead::Read(Entry {
             next,

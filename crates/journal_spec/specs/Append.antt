@@ -21,7 +21,7 @@ use Rattle.journal_spec.specs.Request.{damaged, Outcome}
 
 -- the bits of a limit worked out; where it is refused the offer is declined, and the number stands for nothing
 unfoldable pub limitBits : LimitResult → ℕ
-limitBits (limited x) = toBits binary64 x
+limitBits (limited f) = toBits binary64 (f .limit)
 limitBits (refused n) = 0
 
 -- the limits of the times, one for each chance in its order

@@ -105,7 +105,7 @@ timeSection = record {
 -- The bits of a limit, against the limit worked out. Form, chances and times are in range where this is asked, so that `limitOf` refuses
 -- nothing.
 unfoldable pub judgeLimit : LimitResult → ℕ → ℕ
-judgeLimit (limited x) bits = unless (eqb bits (toBits binary64 x)) limitRefusal
+judgeLimit (limited f) bits = unless (eqb bits (toBits binary64 (f .limit))) limitRefusal
 judgeLimit (refused n) bits = limitRefusal
 
 -- the limits' section, under the record's own form: 7 for its count, as many limits as chances in their order, and for each

@@ -15,7 +15,7 @@ use Rattle.pxfm.specs.FastLogDd.{scaledOf, indexOf, factorOf, carryOf, reducedO
 use Rattle.pxfm.specs.Rationals.{paired14, pAsymptLong, qAsymptLong, inverfAsymptLong}
 use Rattle.pxfm.specs.Inverfc.{zetaSqrt, asymptotic, inverfcExtraSmall, fErfcinv, fErfcinvBits}
 use Rattle.limit.specs.Times.{inRange, timeInRange, allInRange, timesInRange, sumOf, squaresOf}
-use Rattle.limit.specs.Formula.{plainForm, sampleForm, meanOf, spreadBy, divisorOf, spreadOf, quantileOf, limitFrom, formulaOf}
+use Rattle.limit.specs.Formula.{plainForm, sampleForm, meanOf, spreadBy, divisorOf, spreadOf, quantileOf, limitFrom, formulaOf, figuresOf}
 use Rattle.limit.specs.Answer.{LimitResult, limited}
 use Rattle.limit.specs.Limit.{formKnown, chanceInRange, judge, limitOf}
 
@@ -23,9 +23,25 @@ use Rattle.limit.specs.Limit.{formKnown, chanceInRange, judge, limitOf}
 abbrev sqrtBits : ℕ → ℕ
 sqrtBits b = toBits binary64 (sqrtOf (ofBits binary64 b))
 
--- The limit with these bits.
-abbrev limitIs : ℕ → LimitResult
-limitIs b = limited (ofBits binary64 b)
+-- Mean, spread, quantile and limit with these bits.
+abbrev answered : ℕ → ℕ → ℕ → ℕ → LimitResult
+answered mean spread quantile limit =
+    limited (record {
+      mean = ofBits binary64 mean;
+      spread = ofBits binary64 spread;
+      quantile = ofBits binary64 quantile;
+      limit = ofBits binary64 limit;
+    })
+
+-- 100, 10 and the quantile of one chance in a million, the Rust's (tools/journal_quantiles).
+abbrev hundred : ℕ
+hundred = 0x4059_0000_0000_0000
+
+abbrev ten : ℕ
+ten = 0x4024_0000_0000_0000
+
+abbrev atOne : ℕ
+atOne = 0x400a_e3b1_9613_f297
 
 pub record Cases : Type 0 where
   pub quantile-at-zero : fErfcinvBits 0 ≡ 0x7ff0_0000_0000_0000
@@ -39,16 +55,16 @@ pub record Cases : Type 0 where
   pub root-of-minus-zero : sqrtBits 0x8000_0000_0000_0000 ≡ 0x8000_0000_0000_0000
   pub index-last : indexOf 0x16a0_9e66_7f3b_cc ≡ 181
   pub index-first : indexOf 0x16a0_9e66_7f3b_cd ≡ 0
-  pub limit-of-equal-times : limitOf plainForm (100 ∷ 100 ∷ []) 1 ≡ limitIs 0x4059_0000_0000_0000
-  pub limit-at-even-chance : limitOf plainForm (90 ∷ 110 ∷ []) 500_000 ≡ limitIs 0x4059_0000_0000_0000
+  pub limit-of-equal-times : limitOf plainForm (100 ∷ 100 ∷ []) 1 ≡ answered hundred 0 atOne hundred
+  pub limit-at-even-chance : limitOf plainForm (90 ∷ 110 ∷ []) 500_000 ≡ answered hundred ten 0 hundred
 
 -- The divisor by the form (document 02, 2026-04), at one chance in a million: 90 and 110 have D = 400, over 4 or over 2, and 90, 100 and 110
 -- have D = 600, over 6, which is the spread of 90 and 110 under form 1. The bits are worked out by tools/recompute's quantile and the processor.
 pub record FormCases : Type 0 where
-  pub plain-two : limitOf plainForm (90 ∷ 110 ∷ []) 1 ≡ limitIs 0x4062_7118_84f6_01d8
-  pub sample-two : limitOf sampleForm (90 ∷ 110 ∷ []) 1 ≡ limitIs 0x4064_e727_7ee6_3bd0
-  pub sample-three : limitOf sampleForm (90 ∷ 100 ∷ 110 ∷ []) 1 ≡ limitIs 0x4062_7118_84f6_01d8
-  pub sample-equal : limitOf sampleForm (100 ∷ 100 ∷ []) 1 ≡ limitIs 0x4059_0000_0000_0000
+  pub plain-two : limitOf plainForm (90 ∷ 110 ∷ []) 1 ≡ answered hundred ten atOne 0x4062_7118_84f6_01d8
+  pub sample-two : limitOf sampleForm (90 ∷ 110 ∷ []) 1 ≡ answered hundred 0x402c_48c6_001f_0ac0 atOne 0x4064_e727_7ee6_3bd0
+  pub sample-three : limitOf sampleForm (90 ∷ 100 ∷ 110 ∷ []) 1 ≡ answered hundred ten atOne 0x4062_7118_84f6_01d8
+  pub sample-equal : limitOf sampleForm (100 ∷ 100 ∷ []) 1 ≡ answered hundred 0 atOne hundred
 
 computed : Cases × FormCases
 unfolding leadingZeros ofBits toBits ofInt isNan eq lt le add sub mul div neg round isqrt roundRoot roundSqrt sqrtIn
@@ -56,7 +72,7 @@ unfolding leadingZeros ofBits toBits ofInt isNan eq lt le add sub mul div neg ro
     quickMultF64 mulAdd mulF64Add divOf recipOf fastSqrt toF64 ddF64MulAdd log2Dd
     powInverse p1 logPoly1 fastLogDdInvLo fastLogDdInvHi scaledOf indexOf factorOf carryOf reducedOf exponentOf partsOf fastLogDToDd
     paired14 pAsymptLong qAsymptLong inverfAsymptLong zetaSqrt asymptotic inverfcExtraSmall fErfcinv
-    inRange timeInRange allInRange timesInRange sumOf squaresOf meanOf spreadBy divisorOf spreadOf quantileOf limitFrom formulaOf
+    inRange timeInRange allInRange timesInRange sumOf squaresOf meanOf spreadBy divisorOf spreadOf quantileOf limitFrom formulaOf figuresOf
     formKnown chanceInRange judge limitOf
 computed = (
   record {

@@ -1,14 +1,22 @@
--- What the limit operation answers, in document 01's words: the limit itself, or one refusal number.
--- `meaning` says which of the two each case of the code's answer is.
+-- What the limit operation answers, in document 01's words: the limit itself, with mean, spread and quantile (document 02, 2026-03), or one
+-- refusal number. `meaning` says which of the two each case of the code's answer is.
 use Prim.Native.Nat.{ℕ}
-use lib.Ieee.{Float}
+use Rattle.limit.specs.declared.Moments.{Moments}
+use Rattle.limit.specs.declared.Figures.{Figures}
 use Rattle.limit.specs.declared.Answer.{Answer}
 use Rattle.limit.specs.declared.Answer.the-variants.{Limit, Refused}
+use Rattle.limit.specs.declared.Worked.{Worked}
+use Rattle.limit.specs.declared.Worked.the-variants as W
 
--- document 01's answer: the limit itself, or one refusal number
+-- the four figures, of which the limit is one, or one refusal number
 pub data LimitResult : Type 0 where
-  limited : Float → LimitResult
+  limited : Figures → LimitResult
   refused : ℕ → LimitResult
+
+-- mean and spread alone, or one refusal number
+pub data MomentsResult : Type 0 where
+  worked : Moments → MomentsResult
+  unworked : ℕ → MomentsResult
 
 -- refusal 2: any form but 1 and 2 (document 02, 2026-04)
 abbrev pub formRefusal : ℕ
@@ -24,5 +32,10 @@ timesRefusal = 6
 
 -- document 01's number and values for each case of the code's answer
 unfoldable pub meaning : Answer → LimitResult
-meaning (Limit x) = limited x
+meaning (Limit f) = limited f
 meaning (Refused n) = refused n
+
+-- the same of mean and spread
+unfoldable pub momentsMeaning : Worked → MomentsResult
+momentsMeaning (W.Out m) = worked m
+momentsMeaning (W.Refused n) = unworked n

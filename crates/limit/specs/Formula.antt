@@ -1,5 +1,5 @@
 -- Document 01's formula over doubles, one rounding an operation: mean, spread, quantile, and the limit from them; the spread's divisor is
--- that of the form (document 02, 2026-04).
+-- that of the form (document 02, 2026-04). The four are answered together (document 02, 2026-03).
 -- The whole numbers that enter it are at most 2 ^ 53, so that `double` loses nothing.
 use Prim.Native.Nat.{ℕ, _-_, _*_}
 use mathlib.Core.Bool.{cond}
@@ -8,6 +8,8 @@ use lib.IntN.{pos}
 use lib.Ieee.{Float, binary64, ofInt, ofBits, add, mul, div}
 use Rattle.sqrt.specs.Sqrt.{sqrtOf}
 use Rattle.pxfm.specs.Inverfc.{fErfcinv}
+use Rattle.limit.specs.declared.Moments.{Moments}
+use Rattle.limit.specs.declared.Figures.{Figures}
 
 -- a whole number as a double
 abbrev pub double : ℕ → Float
@@ -59,3 +61,15 @@ limitFrom mean spread e = add binary64 mean (mul binary64 (mul binary64 spread r
 -- the formula's value under a form for n times with sum s and sum of squares q, at the chance c
 unfoldable pub formulaOf : ℕ → ℕ → ℕ → ℕ → ℕ → Float
 formulaOf form n s q c = limitFrom (meanOf n s) (spreadOf form n s q) (quantileOf c)
+
+-- the four figures under a form for n times with sum s and sum of squares q, at the chance c
+unfoldable pub figuresOf : ℕ → ℕ → ℕ → ℕ → ℕ → Figures
+figuresOf form n s q c = record { mean = meanOf n s; spread = spreadOf form n s q; quantile = quantileOf c; limit = formulaOf form n s q c }
+
+-- the first two alone, which no chance changes
+unfoldable pub momentsOf : ℕ → ℕ → ℕ → ℕ → Moments
+momentsOf form n s q = record { mean = meanOf n s; spread = spreadOf form n s q }
+
+-- the four from them, at the chance c
+unfoldable pub figuresFrom : Moments → ℕ → Figures
+figuresFrom m c = record { mean = m .mean; spread = m .spread; quantile = quantileOf c; limit = limitFrom (m .mean) (m .spread) (quantileOf c) }

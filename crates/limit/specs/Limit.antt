@@ -1,15 +1,16 @@
 -- The limit operation of documents 01 and 02: the limit of a list of times at a chance under a form, or the first refusal that holds, in
--- the order 2, 5, 6. The same is said over the sums of the times, for a caller that has summed them already.
+-- the order 2, 5, 6. The same in two steps, for a caller that has summed the times and asks for several chances: mean and spread from the
+-- sums, once, and the limit from them.
 use Prim.Native.Nat.{ℕ}
 use mathlib.Core.Bool.{Bool, cond}
 use mathlib.Core.List.{List}
 use lib.ListN.{length}
-use lib.Ieee.{Float}
+use Rattle.limit.specs.declared.Figures.{Figures}
 use Rattle.limit.specs.declared.sums.Sums.{Sums}
 use Rattle.limit.specs.Times.{inRange, timesInRange, sumOf, squaresOf}
 use Rattle.limit.specs.Sums.{isPlausible}
-use Rattle.limit.specs.Formula.{plainForm, sampleForm, formulaOf}
-use Rattle.limit.specs.Answer.{LimitResult, limited, refused, formRefusal, chanceRefusal, timesRefusal}
+use Rattle.limit.specs.Formula.{plainForm, sampleForm, figuresOf, momentsOf, figuresFrom}
+use Rattle.limit.specs.Answer.{LimitResult, limited, refused, MomentsResult, worked, unworked, formRefusal, chanceRefusal, timesRefusal}
 
 -- the form is 1 or 2: what refusal 2 asks
 unfoldable pub formKnown : ℕ → Bool
@@ -28,18 +29,33 @@ chanceInRange = inRange minChance maxChance
 
 -- The order of the refusals: the form, then the chance, then the times. What is then worked out is finite (`finite-limits`, crate finite), so
 -- that nothing is refused of it (document 02, 2026-06).
-unfoldable pub judge : Bool → Bool → Bool → Float → LimitResult
-judge formGood chanceGood timesGood x =
+unfoldable pub judge : Bool → Bool → Bool → Figures → LimitResult
+judge formGood chanceGood timesGood f =
     cond formGood
     (cond chanceGood
-    (cond timesGood (limited x) (refused timesRefusal))
+    (cond timesGood (limited f) (refused timesRefusal))
     (refused chanceRefusal))
     (refused formRefusal)
 
--- the limit of the times at the chance c, under a form
+-- the limit of the times at the chance c, under a form, with mean, spread and quantile
 unfoldable pub limitOf : ℕ → List ℕ → ℕ → LimitResult
-limitOf form ts c = judge (formKnown form) (chanceInRange c) (timesInRange ts) (formulaOf form (length ts) (sumOf ts) (squaresOf ts) c)
+limitOf form ts c = judge (formKnown form) (chanceInRange c) (timesInRange ts) (figuresOf form (length ts) (sumOf ts) (squaresOf ts) c)
 
--- the limit of the times that have these sums, at the chance c, under a form
-unfoldable pub limitOfSums : ℕ → Sums → ℕ → LimitResult
-limitOfSums form s c = judge (formKnown form) (chanceInRange c) (isPlausible s) (formulaOf form (s .count) (s .sum) (s .squares) c)
+-- mean and spread of the times alone, under a form: 2, then 6
+unfoldable pub momentsOfTimes : ℕ → List ℕ → MomentsResult
+momentsOfTimes form ts =
+    cond (formKnown form)
+    (cond (timesInRange ts) (worked (momentsOf form (length ts) (sumOf ts) (squaresOf ts))) (unworked timesRefusal))
+    (unworked formRefusal)
+
+-- the same of the times that have these sums; 6 for sums that no times in range have
+unfoldable pub momentsOfSums : ℕ → Sums → MomentsResult
+momentsOfSums form s =
+    cond (formKnown form)
+    (cond (isPlausible s) (worked (momentsOf form (s .count) (s .sum) (s .squares))) (unworked timesRefusal))
+    (unworked formRefusal)
+
+-- the limit from them at the chance c: their refusal, then 5
+unfoldable pub limitOfMoments : MomentsResult → ℕ → LimitResult
+limitOfMoments (worked m) c = cond (chanceInRange c) (limited (figuresFrom m c)) (refused chanceRefusal)
+limitOfMoments (unworked n) c = refused n

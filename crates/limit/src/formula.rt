@@ -4,8 +4,10 @@ ghost use mathlib.Core.Bool.{true};
 ghost use mathlib.Core.Path.{_≡_};
 ghost use Prim.Native.Nat.{_^_, _≤_};
 ghost use Rattle.limit.specs.Times.{minCount, maxCount};
-ghost use Rattle.limit.specs.Formula.{divisorOf, formulaOf, limitFrom, meanOf, quantileOf, spreadBy};
+ghost use Rattle.limit.specs.Formula.{divisorOf, figuresFrom, limitFrom, meanOf, momentsOf, quantileOf, spreadBy};
 ghost use Rattle.limit.specs.Sums.{isPlausible};
+use crate::Figures;
+use crate::Moments;
 use crate::SAMPLE_FORM;
 use crate::sums::Sums;
 
@@ -15,20 +17,34 @@ const HALF_MILLION: f64 = 500000.0;
 // The double nearest to the root of 2.
 const ROOT_TWO: f64 = 1.4142135623730951;
 
-// The limit under a form of times with these sums, at a chance in a million.
-pub(crate) fn formula_of(form: u64, s: Sums, chance: u32) -> f64
+// Mean and spread under a form of times with these sums.
+pub(crate) fn moments(form: u64, s: Sums) -> Moments
     requires { ⌜ isPlausible s ≡ true ⌝ }
-    ensures { λ r. ⌜ r ≡ formulaOf form (s .count) (s .sum) (s .squares) chance ⌝ }
+    ensures { λ r. ⌜ r ≡ momentsOf form (s .count) (s .sum) (s .squares) ⌝ }
 {
     let n = s.count;
     let sum = s.sum;
     let squares = s.squares;
     let d = n * squares - sum * sum;
-    limit_from(
-        mean(n, sum),
-        spread_by(divisor_of(form, n), d),
-        quantile(chance),
-    )
+    let mean = mean_of(n, sum);
+    let spread = spread_by(divisor_of(form, n), d);
+    Moments { mean, spread }
+}
+
+// The four figures from mean and spread, at a chance in a million.
+pub(crate) fn figures(m: Moments, chance: u32) -> Figures
+    ensures { λ r. ⌜ r ≡ figuresFrom m chance ⌝ }
+{
+    let mean = m.mean;
+    let spread = m.spread;
+    let quantile = quantile_of(chance);
+    let limit = limit_from(mean, spread, quantile);
+    Figures {
+        mean,
+        spread,
+        quantile,
+        limit,
+    }
 }
 
 // What D is divided by under a form.
@@ -43,7 +59,7 @@ fn divisor_of(form: u64, n: u64) -> u64
     }
 }
 
-fn mean(n: u64, sum: u64) -> f64
+fn mean_of(n: u64, sum: u64) -> f64
     requires { ⌜ (n ≤ 2 ^ 53) × (sum ≤ 2 ^ 53) ⌝ }
     ensures { λ r. ⌜ r ≡ meanOf n sum ⌝ }
 {
@@ -57,7 +73,7 @@ fn spread_by(divisor: u64, d: u64) -> f64
     sqrt::sqrt(d as f64 / divisor as f64)
 }
 
-fn quantile(chance: u32) -> f64
+fn quantile_of(chance: u32) -> f64
     ensures { λ r. ⌜ r ≡ quantileOf chance ⌝ }
 {
     pxfm::err::inverfc::f_erfcinv(chance as f64 / HALF_MILLION)

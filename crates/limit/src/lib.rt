@@ -1,8 +1,9 @@
-// The limit of a set of link times at a chance under a form, as document 01's paragraph "Limit" and document 02's 2026-04 fix it, and
-// its refusals. `limit` takes the times; `limit_of_sums` takes their sums, for a caller that has read the times already.
+// The limit of a set of link times at a chance under a form, with mean, spread and quantile, as document 01's paragraph "Limit" and document
+// 02's 2026-03 and 2026-04 fix it, and its refusals. `limit` takes the times. A caller that has summed them and asks for several chances
+// works mean and spread out once, by `moments_of_sums`, and each limit from them, by `limit_of_moments`.
 ghost use mathlib.Core.Path.{_≡_};
-ghost use Rattle.limit.specs.Answer.{meaning};
-ghost use Rattle.limit.specs.Limit.{chanceInRange, formKnown, limitOf, limitOfSums};
+ghost use Rattle.limit.specs.Answer.{meaning, momentsMeaning, worked};
+ghost use Rattle.limit.specs.Limit.{chanceInRange, formKnown, limitOf, limitOfMoments, momentsOfSums, momentsOfTimes};
 use crate::ranges::in_range;
 use crate::sums::Gathered;
 use crate::sums::Sums;
@@ -28,9 +29,29 @@ pub const CHANCE_REFUSAL: u32 = 5;
 
 pub const TIMES_REFUSAL: u32 = 6;
 
-// The limit itself, or one refusal number.
+// Mean and spread of a set of times, in ticks.
+pub struct Moments {
+    pub mean: f64,
+    pub spread: f64,
+}
+
+// Mean and spread of a set of times, and the quantile and the limit at a chance.
+pub struct Figures {
+    pub mean: f64,
+    pub spread: f64,
+    pub quantile: f64,
+    pub limit: f64,
+}
+
+// The limit itself, with the other figures, or one refusal number.
 pub enum Answer {
-    Limit(f64),
+    Limit(Figures),
+    Refused(u32),
+}
+
+// Mean and spread, or one refusal number.
+pub enum Worked {
+    Out(Moments),
     Refused(u32),
 }
 
@@ -46,25 +67,56 @@ pub fn limit(form: u64, times: &[u32], chance: u32) -> Answer
     }
     let g = sums::gather(times);
     match g {
-        Gathered::Within(s) => Answer::Limit(formula::formula_of(form, s, chance)),
+        Gathered::Within(s) => {
+            let m = formula::moments(form, s);
+            Answer::Limit(formula::figures(m, chance))
+        }
         Gathered::Outside => Answer::Refused(TIMES_REFUSAL),
     }
 }
 
-// The limit of times whose sums are known. Sums outside the bounds that the sums of times in range meet are refused as such times are.
-pub fn limit_of_sums(form: u64, s: Sums, chance: u32) -> Answer
-    ensures { λ r. ⌜ meaning r ≡ limitOfSums form s chance ⌝ }
+// Mean and spread of the times alone, under a form. Times out of range are refused as the sums of no times are.
+pub fn moments_of_times(form: u64, times: &[u32]) -> Worked
+    ensures { λ r. ⌜ momentsMeaning r ≡ momentsOfTimes form (now (times .entry)) ⌝ }
+{
+    let g = sums::gather(times);
+    match g {
+        Gathered::Within(s) => moments_of_sums(form, s),
+        Gathered::Outside => moments_of_sums(form, Sums::new()),
+    }
+}
+
+// Mean and spread under a form of times whose sums are known. Sums outside the bounds that the sums of times in range meet are refused as
+// such times are.
+pub fn moments_of_sums(form: u64, s: Sums) -> Worked
+    ensures { λ r. ⌜ momentsMeaning r ≡ momentsOfSums form s ⌝ }
 {
     if !form_known(form) {
-        return Answer::Refused(FORM_REFUSAL);
+        return Worked::Refused(FORM_REFUSAL);
     }
+    if !s.is_plausible() {
+        return Worked::Refused(TIMES_REFUSAL);
+    }
+    Worked::Out(formula::moments(form, s))
+}
+
+// The limit at a chance from mean and spread; where these were refused, that refusal.
+pub fn limit_of_moments(m: Worked, chance: u32) -> Answer
+    ensures { λ r. ⌜ meaning r ≡ limitOfMoments (momentsMeaning m) chance ⌝ }
+{
+    match m {
+        Worked::Out(x) => limit_at(x, chance),
+        Worked::Refused(n) => Answer::Refused(n),
+    }
+}
+
+fn limit_at(m: Moments, chance: u32) -> Answer
+    ensures { λ r. ⌜ meaning r ≡ limitOfMoments (worked m) chance ⌝ }
+{
     if !chance_in_range(chance) {
         return Answer::Refused(CHANCE_REFUSAL);
     }
-    if !s.is_plausible() {
-        return Answer::Refused(TIMES_REFUSAL);
-    }
-    Answer::Limit(formula::formula_of(form, s, chance))
+    Answer::Limit(formula::figures(m, chance))
 }
 
 fn form_known(form: u64) -> bool

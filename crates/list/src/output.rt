@@ -43,7 +43,7 @@ fn print_line(v: &[u8], cursor: Cursor) -> Printed
 pub(crate) fn usage() {
     arguments::usage(
         b"usage: list [--profile] < VOLUME\n\
-        Prints a line for each record of the volume: name, day, mark, then chance:limit for each chance.\n\
+        Prints a line for each record of the volume: name, day, mark, mean, spread, then chance:limit for each chance.\n\
         The last line is the end state: whole or torn with records and committed bytes,\n\
         or, alone, damaged with the fault's number and place.\n\
         With --profile a record that breaks the profile for safety controllers is a fault too, number 19.\n",

@@ -8,8 +8,8 @@ use lib.Ieee.{ofInt, ofBits, toBits, isNan, eq, lt, add, mul, div}
 use Rattle.sqrt.specs.Sqrt.{sqrtIn}
 use Rattle.pxfm.specs.Inverfc.{fErfcinv}
 use Rattle.limit.specs.Times.{inRange, timeInRange, allInRange, timesInRange, sumOf, squaresOf}
-use Rattle.limit.specs.Formula.{meanOf, spreadBy, divisorOf, spreadOf, quantileOf, limitFrom, formulaOf}
-use Rattle.limit.specs.Limit.{formKnown, chanceInRange, judge, limitOf}
+use Rattle.limit.specs.Formula.{meanOf, spreadBy, divisorOf, spreadOf, quantileOf, limitFrom, formulaOf, figuresOf, momentsOf}
+use Rattle.limit.specs.Limit.{formKnown, chanceInRange, judge, limitOf, momentsOfTimes}
 use Rattle.hex.specs.Hex.{glyphOf, digits, orMore, placesIn, placesOf, decimalDigits}
 use Rattle.journal_spec.specs.Bytes.{valueOf, joined}
 use Rattle.journal_spec.specs.Refusals.{unless, outside, firstOf}
@@ -21,7 +21,7 @@ use Rattle.journal_spec.specs.Profile.{keeps}
 use Rattle.journal_spec.specs.Profile as P
 use Rattle.journal_spec.specs.Scan.{recordsOf, judged, recordAt, contentsFrom, contentsOf, statusOf}
 use Rattle.journal_spec.specs.Read.{letterOf, allEqual, areEqual, markFrom, markOf}
-use Rattle.listing.specs.Listing.{spaced, lineOf, quotedLimit, quotedLimits, recordLine, wordWhole, wordTorn, wordDamaged}
+use Rattle.listing.specs.Listing.{spaced, lineOf, meanBits, spreadBits, quotedLimit, quotedLimits, recordLine, wordWhole, wordTorn, wordDamaged}
 use Rattle.listing.specs.Listing.{stateLine, recordLines, listingOf}
 
 -- The 33 bytes of document 01.
@@ -30,10 +30,14 @@ example =
     1 ∷ 0 ∷ 1 ∷ 0 ∷ 1 ∷ 0 ∷ 0x41 ∷ 1 ∷ 0 ∷ 0x20 ∷ 0xa1 ∷ 0x07 ∷ 0 ∷ 2 ∷ 0 ∷ 0x64 ∷ 0 ∷ 0 ∷ 0 ∷ 0x64 ∷ 0 ∷ 0 ∷ 0 ∷ 1 ∷ 0 ∷
     0 ∷ 0 ∷ 0 ∷ 0 ∷ 0 ∷ 0 ∷ 0x59 ∷ 0x40 ∷ []
 
--- `A 1 S 500000:4059000000000000`
+-- `A 1 S 4059000000000000 0000000000000000 500000:4059000000000000`: 2026-03 gives this line with the mark F, and by 2026-07 the example lists
+-- as S
 abbrev exampleLine : List ℕ
 exampleLine =
-    0x41 ∷ 0x20 ∷ 0x31 ∷ 0x20 ∷ 0x53 ∷ 0x20 ∷ 0x35 ∷ 0x30 ∷ 0x30 ∷ 0x30 ∷ 0x30 ∷ 0x30 ∷ 0x3a ∷
+    0x41 ∷ 0x20 ∷ 0x31 ∷ 0x20 ∷ 0x53 ∷ 0x20 ∷
+    0x34 ∷ 0x30 ∷ 0x35 ∷ 0x39 ∷ 0x30 ∷ 0x30 ∷ 0x30 ∷ 0x30 ∷ 0x30 ∷ 0x30 ∷ 0x30 ∷ 0x30 ∷ 0x30 ∷ 0x30 ∷ 0x30 ∷ 0x30 ∷ 0x20 ∷
+    0x30 ∷ 0x30 ∷ 0x30 ∷ 0x30 ∷ 0x30 ∷ 0x30 ∷ 0x30 ∷ 0x30 ∷ 0x30 ∷ 0x30 ∷ 0x30 ∷ 0x30 ∷ 0x30 ∷ 0x30 ∷ 0x30 ∷ 0x30 ∷ 0x20 ∷
+    0x35 ∷ 0x30 ∷ 0x30 ∷ 0x30 ∷ 0x30 ∷ 0x30 ∷ 0x3a ∷
     0x34 ∷ 0x30 ∷ 0x35 ∷ 0x39 ∷ 0x30 ∷ 0x30 ∷ 0x30 ∷ 0x30 ∷ 0x30 ∷ 0x30 ∷ 0x30 ∷ 0x30 ∷ 0x30 ∷ 0x30 ∷ 0x30 ∷ 0x30 ∷ 0x0a ∷ []
 
 pub record Examples : Type 0 where
@@ -55,12 +59,12 @@ pub record Examples : Type 0 where
 
 pub listed-examples : Examples
 unfolding ofInt ofBits toBits isNan eq lt add mul div sqrtIn fErfcinv
-    inRange timeInRange allInRange timesInRange sumOf squaresOf meanOf spreadBy divisorOf spreadOf quantileOf limitFrom formulaOf
-    formKnown chanceInRange judge limitOf glyphOf digits orMore placesIn placesOf decimalDigits
+    inRange timeInRange allInRange timesInRange sumOf squaresOf meanOf spreadBy divisorOf spreadOf quantileOf limitFrom formulaOf figuresOf momentsOf
+    formKnown chanceInRange judge limitOf momentsOfTimes glyphOf digits orMore placesIn placesOf decimalDigits
     valueOf joined unless outside firstOf run then items section
     lastOf judgeForm judgeDay nameSection lastChance judgeChance chanceSection timeSection judgeLimit limitSection recordReader
     recordsOf judged recordAt keeps contentsFrom contentsOf statusOf letterOf allEqual areEqual markFrom markOf
-    spaced lineOf quotedLimit quotedLimits recordLine wordWhole wordTorn wordDamaged stateLine recordLines listingOf
+    spaced lineOf meanBits spreadBits quotedLimit quotedLimits recordLine wordWhole wordTorn wordDamaged stateLine recordLines listingOf
 listed-examples = record {
   whole-listed = refl;
   cut-listed = refl;

@@ -9,6 +9,7 @@ pub mod Rooms
 -- texts put one behind another
 pub mod Putting
 pub mod Texts
+pub mod Copying
 pub mod Pairs
 -- the calls
 pub mod Steps
@@ -20,6 +21,7 @@ pub mod Longest
 pub mod Faults
 pub mod LinesFit
 pub mod FormerListing
+pub mod Figures
 -- examples
 pub mod Examples
 -- nothing is left free

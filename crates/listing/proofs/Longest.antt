@@ -6,18 +6,20 @@ use mathlib.Core.List.{List, [], _∷_, _++_}
 use native.Mathlib.Omega.{arith}
 use native.Mathlib.Nat.{pow-le-pow-right}
 use lib.ListN.{length, length-append}
-use Rattle.hex.specs.Hex.{placesIn, placesOf, decimalDigits, digits}
+use Rattle.hex.specs.Hex.{placesIn, placesOf, decimalDigits, hexDigits, digits}
 use Rattle.hex.proofs.Cases.{split}
 use Rattle.hex.proofs.Writing.{length-digits}
 use Rattle.hex.proofs.Counting.{places-one, places-least}
+use Rattle.limit.specs.Answer.{MomentsResult}
+use Rattle.limit.specs.Limit.{momentsOfTimes}
 use Rattle.journal_spec.specs.Record.{Record, Last}
 use Rattle.journal_spec.specs.Read.{letterOf, markOf}
 use Rattle.journal_spec.specs.Ranges.{Each, RecordRanges}
 use Rattle.journal_spec.specs.Scan.{ScanResult, whole, torn, damaged}
-use Rattle.listing.specs.Listing.{space, lineOf, quotedLimit, quotedLimits, wordWhole, wordTorn, wordDamaged, recordLine, stateLine}
+use Rattle.listing.specs.Listing.{space, lineOf, meanBits, spreadBits, quotedLimit, quotedLimits, wordWhole, wordTorn, wordDamaged, recordLine, stateLine}
 use Rattle.listing.specs.Spaced.{eachSpaced}
 use Rattle.listing.specs.Lines.{maxLine}
-use Rattle.listing.proofs.Texts.{record-line, words-line}
+use Rattle.listing.proofs.Texts.{momentsPart, record-line, words-line}
 
 -- a number below 10^k has at most k digits
 places-most : (k n : ℕ) → 0 < k → n < 10 ^ k → placesOf n ≤ k
@@ -52,6 +54,13 @@ pairs-most (c ∷ cs) (l ∷ ls) h =
     rw (length-append (decimalDigits c ++ (0x3a ∷ _)) (eachSpaced (quotedLimits cs ls)), length-append (decimalDigits c))
     (omega (arith, length-digits 16 16 l))
 
+-- two spaces and twice 16 digits
+moments-length : (r : Record) → length (momentsPart r) ≡ 34
+moments-length r =
+    let moments : MomentsResult = momentsOfTimes (r .form) (r .times) in
+    rw (length-append (space ∷ hexDigits 16 (meanBits moments)) (space ∷ hexDigits 16 (spreadBits moments)))
+    (omega (arith, length-digits 16 16 (meanBits moments), length-digits 16 16 (spreadBits moments)))
+
 pub record-fits : (last : Last) (r : Record) → RecordRanges last r → length (recordLine r) ≤ maxLine
 record-fits last r k =
     let day : length (decimalDigits (r .day)) ≤ 5 = decimal-most 5 (r .day) (omega arith) (omega (arith, k .dayFits)) in
@@ -59,12 +68,13 @@ record-fits last r k =
     rw (
       ← record-line r,
       length-append (r .name ++ (space ∷ decimalDigits (r .day)) ++ (space ∷ letterOf (markOf (r .times)) ∷ [])
-          ++ eachSpaced (quotedLimits (r .chances) (r .limits))),
+          ++ momentsPart r ++ eachSpaced (quotedLimits (r .chances) (r .limits))),
+      length-append (r .name ++ (space ∷ decimalDigits (r .day)) ++ (space ∷ letterOf (markOf (r .times)) ∷ []) ++ momentsPart r),
       length-append (r .name ++ (space ∷ decimalDigits (r .day)) ++ (space ∷ letterOf (markOf (r .times)) ∷ [])),
       length-append (r .name ++ (space ∷ decimalDigits (r .day))),
       length-append (r .name),
     )
-    (omega (arith, day, pairs, k .name .most, k .chances .most))
+    (omega (arith, day, moments-length r, pairs, k .name .most, k .chances .most))
 
 -- a word of at most seven bytes and two numbers
 words-fit : (w : List ℕ) (n m : ℕ) → length w ≤ 7 → n < 10 ^ 20 → m < 10 ^ 20 → length (lineOf (w ∷ decimalDigits n ∷ decimalDigits m ∷ [])) ≤ maxLine

@@ -8,14 +8,15 @@ use native.Mathlib.Nat.{zero-min, min-zero, suc-min-suc, suc-mul, add-assoc, add
 use native.Mathlib.Numerals.{add-one}
 use lib.ListN.{length, take, drop, getD, replicate, length-take, length-drop}
 use lib.Seq.{take-at, drop-cons, take-take, drop-drop}
-use Rattle.hex.specs.Hex.{placesOf, decimalDigits, decimalOf}
+use Rattle.hex.specs.Hex.{placesOf, decimalDigits, decimalOf, hexDigits}
 use Rattle.hex.specs.declared.write.Decimal.{Decimal}
 use Rattle.hex.proofs.Writing.{length-digits}
+use Rattle.limit.specs.Limit.{momentsOfTimes}
 use Rattle.journal_spec.specs.Bytes.{valueOf, numberAt, numbersIn}
 use Rattle.journal_spec.specs.Record.{Record}
 use Rattle.journal_spec.specs.Read.{letterOf, markOf, timesIn}
 use Rattle.journal_spec.proofs.Reading.{drop-take}
-use Rattle.listing.specs.Listing.{space, newline, spaced, lineOf, quotedLimits, recordLine}
+use Rattle.listing.specs.Listing.{space, newline, spaced, lineOf, meanBits, spreadBits, quotedLimits, recordLine}
 use Rattle.listing.specs.Spaced.{eachSpaced}
 
 -- the digits that stand at the front of a decimal's array
@@ -70,15 +71,26 @@ pub words-line : (w n m : List ℕ) → w ++ (space ∷ n) ++ (space ∷ m) ++ (
 unfolding lineOf spaced
 words-line w n m = ap (λ (x : List ℕ). x ++ (newline ∷ [])) (append-assoc w (space ∷ n) (space ∷ m))
 
+-- mean and spread of a record, a space before each
+abbrev pub momentsPart : Record → List ℕ
+momentsPart r =
+    let moments = momentsOfTimes (r .form) (r .times) in
+    (space ∷ hexDigits 16 (meanBits moments)) ++ (space ∷ hexDigits 16 (spreadBits moments))
+
 -- the parts of a record's line
 pub record-line : (r : Record) → r .name ++ (space ∷ decimalDigits (r .day)) ++ (space ∷ letterOf (markOf (r .times)) ∷ [])
-    ++ eachSpaced (quotedLimits (r .chances) (r .limits)) ++ (newline ∷ []) ≡ recordLine r
+    ++ momentsPart r ++ eachSpaced (quotedLimits (r .chances) (r .limits)) ++ (newline ∷ []) ≡ recordLine r
 unfolding recordLine lineOf eachSpaced
 record-line r =
     let day : List ℕ = decimalDigits (r .day) in
     let mark : List ℕ = letterOf (markOf (r .times)) ∷ [] in
+    let mean : List ℕ = hexDigits 16 (meanBits (momentsOfTimes (r .form) (r .times))) in
+    let spread : List ℕ = hexDigits 16 (spreadBits (momentsOfTimes (r .form) (r .times))) in
     let pairs : List (List ℕ) = quotedLimits (r .chances) (r .limits) in
+    let rest : List ℕ = (space ∷ mean) ++ ((space ∷ spread) ++ eachSpaced pairs) in
     ap (λ (x : List ℕ). x ++ (newline ∷ []))
-    (append-assoc (r .name ++ (space ∷ day)) (space ∷ mark) (eachSpaced pairs)
-    ∙ append-assoc (r .name) (space ∷ day) ((space ∷ mark) ++ eachSpaced pairs)
-    ∙ sym (spaced-rest (r .name) (day ∷ mark ∷ pairs)))
+    (append-assoc (r .name ++ (space ∷ day) ++ (space ∷ mark)) ((space ∷ mean) ++ (space ∷ spread)) (eachSpaced pairs)
+    ∙ ap (λ (x : List ℕ). (r .name ++ (space ∷ day) ++ (space ∷ mark)) ++ x) (append-assoc (space ∷ mean) (space ∷ spread) (eachSpaced pairs))
+    ∙ append-assoc (r .name ++ (space ∷ day)) (space ∷ mark) rest
+    ∙ append-assoc (r .name) (space ∷ day) ((space ∷ mark) ++ rest)
+    ∙ sym (spaced-rest (r .name) (day ∷ mark ∷ mean ∷ spread ∷ pairs)))

@@ -80,9 +80,10 @@ unfoldable pub linesFrom : ℕ → Position → List ℕ → List ℕ
 linesFrom zero p b = []
 linesFrom (suc more) p b = onward (step p b .text) (linesFrom more (step p b .position) b)
 
--- the longest line: a name of 32 bytes, a day of 5 digits, the mark, 8 pairs of a chance of 6 digits and a limit of 16, and what separates them
+-- the longest line: a name of 32 bytes, a day of 5 digits, the mark, mean and spread of 16 each, 8 pairs of a chance of 6 digits and a limit of
+-- 16, and what separates them
 abbrev pub maxLine : ℕ
-maxLine = 233
+maxLine = 267
 
 -- each line of so many calls from a position on has at most `most` bytes
 abbrev pub LinesWithin : ℕ → ℕ → Position → List ℕ → Type 0

@@ -1,8 +1,11 @@
 -- The listing of a journal as bytes of text (document 01, Marks and listing): a line for each record, then the line of the end state.
--- Numbers are decimal, limits 16 lowercase hexadecimal digits; single spaces stand between words, and byte 0a ends each line.
+-- Numbers are decimal, mean, spread and limits 16 lowercase hexadecimal digits; single spaces stand between words, and byte 0a ends each line.
 use Prim.Native.Nat.{ℕ}
 use mathlib.Core.List.{List, [], _∷_, _++_, map}
 use lib.ListN.{length}
+use lib.Ieee.{binary64, toBits}
+use Rattle.limit.specs.Answer.{MomentsResult, worked, unworked}
+use Rattle.limit.specs.Limit.{momentsOfTimes}
 use Rattle.hex.specs.Hex.{hexDigits, decimalDigits}
 use Rattle.journal_spec.specs.Bytes.{joined}
 use Rattle.journal_spec.specs.Record.{Record}
@@ -37,9 +40,27 @@ quotedLimits [] limits = []
 quotedLimits (c ∷ cs) [] = []
 quotedLimits (c ∷ cs) (l ∷ ls) = quotedLimit c l ∷ quotedLimits cs ls
 
--- A record's line: name, day, mark, then `chance:limit` for each chance.
+-- The bits of mean and spread; 0 where they are refused, which they are for no record that stands.
+unfoldable pub meanBits : MomentsResult → ℕ
+meanBits (worked m) = toBits binary64 (m .mean)
+meanBits (unworked n) = 0
+
+unfoldable pub spreadBits : MomentsResult → ℕ
+spreadBits (worked m) = toBits binary64 (m .spread)
+spreadBits (unworked n) = 0
+
+-- A record's line: name, day, mark, mean and spread of the times under the record's form (document 02, 2026-03), then `chance:limit` for each
+-- chance.
 unfoldable pub recordLine : Record → List ℕ
-recordLine r = lineOf (r .name ∷ decimalDigits (r .day) ∷ (letterOf (markOf (r .times)) ∷ []) ∷ quotedLimits (r .chances) (r .limits))
+recordLine r =
+    let moments = momentsOfTimes (r .form) (r .times) in
+    lineOf
+    (r .name
+    ∷ decimalDigits (r .day)
+    ∷ (letterOf (markOf (r .times)) ∷ [])
+    ∷ hexDigits 16 (meanBits moments)
+    ∷ hexDigits 16 (spreadBits moments)
+    ∷ quotedLimits (r .chances) (r .limits))
 
 -- The words `whole`, `torn` and `damaged`.
 unfoldable pub wordWhole : List ℕ

@@ -1,5 +1,5 @@
 // The listing of a journal (document 01, Marks and listing), a line at a time: `start` scans the journal once, and each call of
-// `next_line` writes one line into a lent buffer. No limit is worked out again, and nothing is assumed of the bytes or the cursor.
+// `next_line` writes one line into a lent buffer. No quantile is worked out again, and nothing is assumed of the bytes or the cursor.
 ghost use mathlib.Core.Path.{_≡_};
 ghost use mathlib.Core.Bool.{false};
 ghost use Prim.Native.Nat.{_-_, _<_};
@@ -13,15 +13,16 @@ use crate::words::put_state;
 use journal::Rule;
 use journal::Status;
 
+mod moments;
 mod spans;
 mod text;
 mod words;
 
 pub use words::put_words;
 
-// The longest line: a name of 32 bytes, a day of 5 digits, the mark, 8 pairs of a chance of 6 digits and a limit of 16,
-// the spaces and colons between them and the line's end.
-pub const MAX_LINE: usize = 233;
+// The longest line: a name of 32 bytes, a day of 5 digits, the mark, mean and spread of 16 digits each, 8 pairs of a chance of 6 digits and a
+// limit of 16, the spaces and colons between them and the line's end.
+pub const MAX_LINE: usize = 267;
 
 // Where a listing stands: the place of the next record, how many are left, whether the end state's line is written, and that state.
 pub struct Cursor {

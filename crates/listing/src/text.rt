@@ -1,18 +1,22 @@
 // Numbers and pairs put into a lent buffer, one behind another. What has no room is left out, as in crate hex.
 // Each answers the place behind what it put.
 ghost use mathlib.Core.Path.{_≡_};
-ghost use mathlib.Core.List.{_∷_};
+ghost use mathlib.Core.List.{_∷_, _++_};
 ghost use Prim.Native.Nat.{_+_, _*_, _≤_, min};
 ghost use lib.ListN.{length};
-ghost use Rattle.hex.specs.Hex.{decimalDigits};
+ghost use Rattle.hex.specs.Hex.{decimalDigits, hexDigits};
 ghost use Rattle.hex.specs.Text.{Put};
+ghost use Rattle.limit.specs.Answer.{momentsMeaning};
 ghost use Rattle.journal_spec.specs.Bytes.{numbersIn};
-ghost use Rattle.listing.specs.Listing.{space, quotedLimit, quotedLimits};
+ghost use Rattle.listing.specs.Listing.{space, meanBits, spreadBits, quotedLimit, quotedLimits};
 ghost use Rattle.listing.specs.Spaced.{eachSpaced};
 ghost use Rattle.listing.specs.Spans.{Inside, numbersOf};
+use crate::moments::mean_bits;
+use crate::moments::spread_bits;
 use crate::spans::Span;
 use hex::put;
 use journal::number_in;
+use limit::Worked;
 
 // A number in decimal.
 pub(crate) fn put_decimal(out: &mut [u8], at: usize, n: u64) -> usize
@@ -22,6 +26,27 @@ pub(crate) fn put_decimal(out: &mut [u8], at: usize, n: u64) -> usize
     let digits = d.digits;
     let count = d.count;
     put(out, at, &digits[..count])
+}
+
+// Mean and spread, a space before each.
+pub(crate) fn put_moments(out: &mut [u8], at: usize, worked: Worked) -> usize
+    ensures { λ r. ⌜ Put (now (out .entry)) at
+        ((space ∷ hexDigits 16 (meanBits (momentsMeaning worked))) ++ (space ∷ hexDigits 16 (spreadBits (momentsMeaning worked))))
+        (now (out .exit)) r ⌝ }
+{
+    let mean = mean_bits(worked);
+    let spread = spread_bits(worked);
+    let p = put_bits(out, at, mean);
+    put_bits(out, p, spread)
+}
+
+// A space and the 16 digits of a bit pattern.
+fn put_bits(out: &mut [u8], at: usize, bits: u64) -> usize
+    ensures { λ r. ⌜ Put (now (out .entry)) at (space ∷ hexDigits 16 bits) (now (out .exit)) r ⌝ }
+{
+    let p = put(out, at, b" ");
+    let digits = hex::hex_of(bits);
+    put(out, p, &digits)
 }
 
 // A space and `chance:limit`.

@@ -12,10 +12,12 @@ ghost use Rattle.journal_spec.specs.Bytes.{numberAt};
 ghost use Rattle.journal_spec.specs.Read.{letterOf, markOf};
 ghost use Rattle.listing.specs.Listing.{space, lineOf, recordLine, stateLine};
 ghost use Rattle.listing.specs.Spans.{Inside, numbersOf, recordIn, spansAt};
+use crate::moments::moments_at;
 use crate::spans::Span;
 use crate::spans::Spans;
 use crate::text::put_decimal;
 use crate::text::put_limits;
+use crate::text::put_moments;
 use hex::put;
 use journal::Status;
 use journal::marks::letter_of;
@@ -29,8 +31,10 @@ pub(crate) fn put_record(b: &[u8], at: usize, s: Spans, out: &mut [u8]) -> usize
 {
     let p = put_front(b, at, s.name, out);
     let q = put_mark(b, s.times, out, p);
-    let r = put_limits(b, s.chances, s.limits, out, q);
-    put(out, r, b"\n")
+    let worked = moments_at(b, at, s.times);
+    let r = put_moments(out, q, worked);
+    let t = put_limits(b, s.chances, s.limits, out, r);
+    put(out, t, b"\n")
 }
 
 // The name, a space and the day.

@@ -1,16 +1,14 @@
--- `band` judges the share, then the times in one pass, as its definition does. The sums that the pass answers are plausible, since they are
--- those of times in range. Assumes nothing.
-use mathlib.Core.Path.{_≡_, _∙_, sym}
+-- `band` judges the share, then takes mean and spread as the limit answers them for the times under form 2, or their refusal.
+-- Assumes nothing.
+use mathlib.Core.Path.{_≡_, _∙_, sym, ap}
 use mathlib.Core.Bool.{true}
 use borrow.Author.Needs.{needs}
-use denote.Ref.{now}
 use borrow.Author.Tests.{not-true, not-false}
-use Rattle.limit.specs.Sums.{sumsOf}
-use Rattle.limit.proofs.Gathered.{GatheredWithin, gathered-within, gathered-outside}
-use Rattle.limit.proofs.Plausible.{times-plausible}
+use Rattle.limit.specs.Answer.{momentsMeaning}
 use Rattle.pxfm.proofs.Calls.{ok}
-use Rattle.band.specs.Answer.{meaning}
+use Rattle.band.specs.Answer.{banded, meaning}
 use Rattle.band.specs.Band.{shareInRange, judge, bandOf}
+use Rattle.band.proofs.Worked.{band-worked, band-unworked}
 use Rattle.band.proofs.band.Statement.{statement}
 use Rattle.band.proofs.band.Tie as tie
 
@@ -21,24 +19,20 @@ returns : tie.Need-returns
 unfolding meaning bandOf judge
 returns c = rw (sym (c .before .share-in-range .ensures) ∙ not-true _ (c .if1 .taken))
 
-gathered : (c : tie.After-g) → GatheredWithin (now (c .before .before .before .before .before .before .args .times)) (c .g .given .0 .0)
-gathered c = gathered-within _ _ (c .before .before .gather .ensures) _ (c .g .given .1)
-
-ends-of-requires : tie.Need-ends-of-requires
-ends-of-requires c κs = let g = gathered (c .before) in rw (g .sums) (times-plausible _ (g .inside))
-
 returns-2 : tie.Need-returns-2
-unfolding meaning bandOf judge sumsOf
+unfolding meaning momentsMeaning
 returns-2 c =
     let known = c .before .before in
-    let g = gathered known in
-    rw (good-share (known .before .before .before), g .inside, c .ends-of .ensures, g .sums)
+    let called = known .before .before in
+    ap banded (c .ends-at .ensures)
+    ∙ band-worked _ _ (good-share (called .before)) _ (called .moments-of-times .ensures) _ (ap momentsMeaning (known .worked .given .1))
 
 returns-3 : tie.Need-returns-3
-unfolding meaning bandOf judge
+unfolding meaning momentsMeaning
 returns-3 c =
-    let called = c .before .before in
-    rw (good-share (called .before), gathered-outside _ _ (called .gather .ensures) (c .enum-told .given .1))
+    let known = c .before in
+    let called = known .before .before in
+    band-unworked _ _ (good-share (called .before)) _ (called .moments-of-times .ensures) _ (ap momentsMeaning (known .worked2 .given .1))
 
 pub band-spec : {M : Type 1} → statement M
-band-spec = tie.close (tie.spec ok returns ok (λ c. search needs) ends-of-requires (λ c. search needs) returns-2 returns-3)
+band-spec = tie.close (tie.spec ok returns ok (λ c. search needs) ok (λ c. search needs) returns-2 returns-3)

@@ -5,6 +5,7 @@ use mathlib.Core.Bool.{true}
 use borrow.Author.Needs.{needs}
 use denote.Ref.{now}
 use borrow.Author.Tests.{not-true, not-false}
+use Rattle.limit.specs.Formula.{formulaOf, figuresOf, momentsOf, figuresFrom}
 use Rattle.limit.specs.Answer.{meaning}
 use Rattle.limit.specs.Sums.{sumsOf}
 use Rattle.limit.specs.Limit.{formKnown, chanceInRange, judge, limitOf}
@@ -32,19 +33,20 @@ gathered :
     → GatheredWithin (now (c .before .before .before .before .before .before .before .before .args .times)) (c .g .given .0 .0)
 gathered c = gathered-within _ _ (c .before .before .gather .ensures) _ (c .g .given .1)
 
-formula-of-requires : tie.Need-formula-of-requires
-formula-of-requires c κs = let g = gathered (c .before) in rw (g .sums) (times-plausible _ (g .inside))
+moments-requires : tie.Need-moments-requires
+moments-requires c κs = let g = gathered (c .before) in rw (g .sums) (times-plausible _ (g .inside))
 
 returns-3 : tie.Need-returns-3
-unfolding meaning limitOf judge sumsOf
+unfolding meaning limitOf judge sumsOf figuresOf formulaOf momentsOf figuresFrom
 returns-3 c =
-    let known = c .before .before in
+    let known = c .before .before .before in
     let g = gathered known in
     rw (
       good-form (known .before .before .before .before .before),
       good-chance (known .before .before .before),
       g .inside,
-      c .formula-of .ensures,
+      c .figures .ensures,
+      c .before .moments .ensures,
       g .sums,
     )
 
@@ -68,7 +70,8 @@ limit-spec =
     returns-2
     (λ c κs. search needs)
     (λ c. search needs)
-    formula-of-requires
+    moments-requires
+    (λ c κs. search needs)
     (λ c. search needs)
     returns-3
     returns-4)

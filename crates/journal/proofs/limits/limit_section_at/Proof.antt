@@ -4,6 +4,7 @@ use mathlib.Core.Path.{_∙_}
 use native.Mathlib.Omega.{arith}
 use borrow.Author.Needs.{needs}
 use denote.Ref.{now}
+use Rattle.limit.specs.Answer.{momentsMeaning}
 use Rattle.journal.proofs.LimitsLoop.{count-there, section-limits, limits-short, limits-refused}
 use Rattle.journal.proofs.limits.limit_section_at.Statement.{statement}
 use Rattle.journal.proofs.limits.limit_section_at.Tie as tie
@@ -13,7 +14,7 @@ limits-at-requires c κs =
     let read = c .before .before in
     let start = read .before .before in
     let a = start .args in
-    let there = count-there (now (a .b)) (a .at) (a .n) (a .chances) (a .form) (a .sums) (read .field-at .result) (read .field-at .ensures)
+    let there = count-there (now (a .b)) (a .at) (a .n) (a .chances) (momentsMeaning (a .worked)) (read .field-at .result) (read .field-at .ensures)
     (c .enum-told .given .0 .0) (c .enum-told .given .1) in
     (omega (arith, there .1, start .pre .0), start .pre .1)
 
@@ -22,20 +23,21 @@ returns c =
     let read = c .before .before .before in
     let a = read .before .before .args in
     c .limits-at .ensures
-    ∙ section-limits (now (a .b)) (a .at) (a .n) (a .chances) (a .form) (a .sums) (read .field-at .result) (read .field-at .ensures)
+    ∙ section-limits (now (a .b)) (a .at) (a .n) (a .chances) (momentsMeaning (a .worked)) (read .field-at .result) (read .field-at .ensures)
     (c .before .enum-told .given .0 .0) (c .before .enum-told .given .1)
 
 returns-2 : tie.Need-returns-2
 returns-2 c =
     let read = c .before .before in
     let a = read .before .before .args in
-    limits-short (now (a .b)) (a .at) (a .n) (a .chances) (a .form) (a .sums) (read .field-at .result) (read .field-at .ensures) (c .enum-told2 .given .1)
+    limits-short (now (a .b)) (a .at) (a .n) (a .chances) (momentsMeaning (a .worked)) (read .field-at .result) (read .field-at .ensures)
+    (c .enum-told2 .given .1)
 
 returns-3 : tie.Need-returns-3
 returns-3 c =
     let read = c .before .before .before in
     let a = read .before .before .args in
-    limits-refused (now (a .b)) (a .at) (a .n) (a .chances) (a .form) (a .sums) (read .field-at .result) (read .field-at .ensures)
+    limits-refused (now (a .b)) (a .at) (a .n) (a .chances) (momentsMeaning (a .worked)) (read .field-at .result) (read .field-at .ensures)
     (c .before .count .given .0 .0) (c .before .count .given .1)
 
 pub limit-section-at-spec : {M : Type 1} → statement M

@@ -13,10 +13,12 @@ returns c =
 
 returns-2 : tie.Need-returns-2
 returns-2 c =
-    let tested = c .before .before .before .before in
+    let moments = c .before .before .before .before in
+    let tested = moments .before in
     let here = tested .before .before .offer-in-profile in
     let kept = tested .before .kept-by in
-    rule-kept _ _ _ _ (here .result) (kept .result) (here .ensures) (kept .ensures) (tested .if1 .left) (c .before .before .work-out .ensures)
+    rule-kept _ _ _ _ (here .result) (kept .result) (here .ensures) (kept .ensures) (tested .if1 .left)
+    _ (moments .moments-of-sums .ensures) (c .before .before .work-out .ensures)
 
 pub rule-refusal-spec : {M : Type 1} → statement M
 rule-refusal-spec =
@@ -25,6 +27,7 @@ rule-refusal-spec =
     (λ c κs. search needs)
     (λ c κs. search needs)
     returns
+    (λ c κs. search needs)
     (λ c κs. search needs)
     (λ c. search needs)
     returns-2)

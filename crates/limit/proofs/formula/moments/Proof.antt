@@ -1,26 +1,17 @@
--- `formula_of` is the formula of its sums: plausible sums keep every product inside a u64 and every cast exact.
+-- `moments` is mean and spread of its sums: plausible sums keep every product inside a u64 and every cast exact.
 -- Assumes nothing.
 use native.Mathlib.Omega.{arith}
-use borrow.Author.Needs.{needs}
-use Rattle.limit.specs.Formula.{formulaOf, spreadOf}
+use Rattle.limit.specs.Formula.{momentsOf, spreadOf}
 use Rattle.limit.proofs.Plausible.{Plausible, plausible-facts}
 use Rattle.limit.proofs.Scatter.{sum-square-small, squares-product-small, scatter-at-most}
 use Rattle.limit.proofs.Divisor.{divisor-small}
-use Rattle.limit.proofs.formula.formula_of.Statement.{statement}
-use Rattle.limit.proofs.formula.formula_of.Tie as tie
+use Rattle.limit.proofs.formula.moments.Statement.{statement}
+use Rattle.limit.proofs.formula.moments.Tie as tie
 
--- The value is the formula's, by the five calls.
+-- The two are the formula's, by the three calls.
 returns : tie.Need-returns
-unfolding formulaOf spreadOf
-returns c =
-    let p = c .before .before in
-    rw (
-      c .limit-from .ensures,
-      c .before .quantile .ensures,
-      p .spread-by .ensures,
-      p .before .divisor-of .ensures,
-      p .before .before .mean .ensures,
-    )
+unfolding momentsOf spreadOf
+returns c = rw (c .spread-by .ensures, c .before .divisor-of .ensures, c .before .before .mean-of .ensures)
 
 -- What the products, the difference and the calls ask, from the sums' bounds.
 known : (c : tie.Start) → Plausible (c .args .s)
@@ -39,8 +30,8 @@ mul-d-2 c =
 sub-d : tie.Need-sub-d
 sub-d c = known c .squaresLow
 
-mean-requires : tie.Need-mean-requires
-mean-requires c κs = let p = known c in omega arith
+mean-of-requires : tie.Need-mean-of-requires
+mean-of-requires c κs = let p = known c in omega arith
 
 divisor-of-requires : tie.Need-divisor-of-requires
 divisor-of-requires c κs = let p = known (c .before) in (p .countLow, p .countHigh)
@@ -55,16 +46,14 @@ spread-by-requires c κs =
       scatter-at-most _ _ _ (p .countHigh) (p .sumHigh) (p .squaresHigh),
     )
 
-pub formula-of-spec : {M : Type 1} → statement M
-formula-of-spec =
+pub moments-spec : {M : Type 1} → statement M
+moments-spec =
     tie.close
     (tie.spec
     mul-d
     mul-d-2
     sub-d
-    mean-requires
+    mean-of-requires
     divisor-of-requires
     spread-by-requires
-    (λ c κs. search needs)
-    (λ c κs. search needs)
     returns)
