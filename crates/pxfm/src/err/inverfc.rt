@@ -6,7 +6,7 @@ ghost use Prim.Native.Nat.{_<_};
 ghost use lib.Ieee.{binary64, toBits, eq, lt, le};
 ghost use Rattle.pxfm.specs.DoubleDouble.{one, mulAdd, mulAddF64};
 ghost use Rattle.pxfm.specs.Argument.{tenth, threeQuarters, mirroredOf, coreArgument};
-ghost use Rattle.pxfm.specs.Rationals.{PlainRow, pairOf, at, p0p06To0p75, q0p06To0p75, pAsymptSmall, qAsymptSmall, pAsymptLong, qAsymptLong};
+ghost use Rattle.pxfm.specs.Rationals.{PlainRow, PlainRows10, pairOf, pairsOf10, at, p0p06To0p75, q0p06To0p75, pAsymptSmall, qAsymptSmall, pAsymptLong, qAsymptLong};
 ghost use Rattle.pxfm.specs.Rationals.{paired10, paired11, paired14, centredOf, inverf0p06To0p75, inverfAsymptSmall, inverfAsymptLong};
 ghost use Rattle.pxfm.specs.Inverfc.{taylor4Of, taylor7Of, horner10, quickRational, roundsAlike, middleOf, zetaSqrt, tailOf, erfCore};
 ghost use Rattle.pxfm.specs.Inverfc.{inverfcExtraSmall, signOf, centralOf, fErfcinv, fErfcinvBits};
@@ -320,43 +320,30 @@ fn taylor7(x: DoubleDouble) -> DoubleDouble
     DoubleDouble::quick_mult(r0, x)
 }
 
-// By Horner's rule, the upper five coefficients by their high parts alone.
-fn quick_num(vz: DoubleDouble) -> DoubleDouble
-    ensures { λ r. ⌜ r ≡ horner10 p0p06To0p75 vz ⌝ }
+// By Horner's rule, the upper five coefficients by their high parts alone. Both lists of the quicker rational are handed to this one function:
+// with two callers it is not inlined, and not vectorised, which takes longer (docs/DECISIONS.md 12).
+fn horner(vz: DoubleDouble, c: [[u64; 2]; 10]) -> DoubleDouble
+    requires { ⌜ PlainRows10 c ⌝ }
+    ensures { λ r. ⌜ r ≡ horner10 (pairsOf10 c) vz ⌝ }
 {
-    let p = P_0P06_TO_0P75;
     let ps = polyeval::f_polyeval5(
         vz.hi,
-        f64::from_bits(p[5][1]),
-        f64::from_bits(p[6][1]),
-        f64::from_bits(p[7][1]),
-        f64::from_bits(p[8][1]),
-        f64::from_bits(p[9][1]),
+        f64::from_bits(c[5][1]),
+        f64::from_bits(c[6][1]),
+        f64::from_bits(c[7][1]),
+        f64::from_bits(c[8][1]),
+        f64::from_bits(c[9][1]),
     );
-    let n4 = DoubleDouble::mul_f64_add(vz, ps, pair(p[4]));
-    let n3 = DoubleDouble::mul_add(vz, n4, pair(p[3]));
-    let n2 = DoubleDouble::mul_add(vz, n3, pair(p[2]));
-    let n1 = DoubleDouble::mul_add(vz, n2, pair(p[1]));
-    DoubleDouble::mul_add(vz, n1, pair(p[0]))
-}
-
-fn quick_den(vz: DoubleDouble) -> DoubleDouble
-    ensures { λ r. ⌜ r ≡ horner10 q0p06To0p75 vz ⌝ }
-{
-    let q = Q_0P06_TO_0P75;
-    let ps = polyeval::f_polyeval5(
-        vz.hi,
-        f64::from_bits(q[5][1]),
-        f64::from_bits(q[6][1]),
-        f64::from_bits(q[7][1]),
-        f64::from_bits(q[8][1]),
-        f64::from_bits(q[9][1]),
-    );
-    let n4 = DoubleDouble::mul_f64_add(vz, ps, pair(q[4]));
-    let n3 = DoubleDouble::mul_add(vz, n4, pair(q[3]));
-    let n2 = DoubleDouble::mul_add(vz, n3, pair(q[2]));
-    let n1 = DoubleDouble::mul_add(vz, n2, pair(q[1]));
-    DoubleDouble::mul_add(vz, n1, pair(q[0]))
+    let c4 = pair(c[4]);
+    let c3 = pair(c[3]);
+    let c2 = pair(c[2]);
+    let c1 = pair(c[1]);
+    let c0 = pair(c[0]);
+    let n4 = DoubleDouble::mul_f64_add(vz, ps, c4);
+    let n3 = DoubleDouble::mul_add(vz, n4, c3);
+    let n2 = DoubleDouble::mul_add(vz, n3, c2);
+    let n1 = DoubleDouble::mul_add(vz, n2, c1);
+    DoubleDouble::mul_add(vz, n1, c0)
 }
 
 // The quicker rational from 0.06 to 0.75.
@@ -364,8 +351,8 @@ fn quick_rational(x: DoubleDouble) -> DoubleDouble
     ensures { λ r. ⌜ r ≡ quickRational x ⌝ }
 {
     let vz = centred(x);
-    let num = quick_num(vz);
-    let den = quick_den(vz);
+    let num = horner(vz, P_0P06_TO_0P75);
+    let den = horner(vz, Q_0P06_TO_0P75);
     let r = DoubleDouble::div(num, den);
     DoubleDouble::quick_mult(r, x)
 }
