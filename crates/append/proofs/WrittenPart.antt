@@ -95,7 +95,8 @@ unfolding settle extend unchanged
 settled-unwritten zero j c new u = absurd (u _ refl)
 settled-unwritten (suc refusal) j c new u = refl
 
-pub append-unwritten : (slice : List ℕ) (len : ℕ) (rule : Rule) (o : Offer) → Unwritten (appendAll slice len rule o .answer) → appendAll slice len rule o .journal .slice ≡ slice
+pub append-unwritten : (slice : List ℕ) (len : ℕ) (rule : Rule) (o : Offer) → Unwritten (appendAll slice len rule o .answer)
+    → appendAll slice len rule o .journal .slice ≡ slice
 unfolding appendOf appendWith timesOf gatherBy timesIn offerOf appendTo unchanged
 append-unwritten slice len rule o = go (contentsOf rule slice len)
   where
@@ -135,7 +136,8 @@ empty s o (damaged n p) u = record { starts = refl; ends = refl; part = refl }
 abbrev pub Lendable : ℕ → ℕ → List ℕ → Type 0
 Lendable start end after = (start ≤ end) × (end ≤ length after) × (start ≤ maxLength)
 
-module _ (slice : List ℕ) (len : ℕ) (rule : Rule) (o : Offer) (answer : Appended) (after : List ℕ) (e : outcomeOf len answer after ≡ appendAll slice len rule o) where
+module _ (slice : List ℕ) (len : ℕ) (rule : Rule) (o : Offer) (answer : Appended) (after : List ℕ)
+    (e : outcomeOf len answer after ≡ appendAll slice len rule o) where
   said : appendMeaning answer ≡ appendAll slice len rule o .answer
   unfolding outcomeOf
   said = ap (λ (x : Outcome). x .answer) e

@@ -105,7 +105,8 @@ module _ (rule : Rule) (b : List ℕ) (i records at : ℕ) (last : Head) (shown 
   pub counting-short : x ≡ R.Short → C.Stands records at last shown ≡ recordsRead i (asRule rule) b
   unfolding recordsRead contentsRead
   counting-short told =
-      let e = going-short (asRule rule) b (g .ps) at (g .going) (short-found (recordAt (asRule rule) (lastOf (recordsOf (g .ps))) at (drop at b)) (sym told ∙ ran)) in
+      let e = going-short (asRule rule) b (g .ps) at (g .going)
+      (short-found (recordAt (asRule rule) (lastOf (recordsOf (g .ps))) at (drop at b)) (sym told ∙ ran)) in
       rw (e, g .count, g .head, g .seen)
 
   pub counting-refused : (f : Fault) → x ≡ R.Refused f → C.Damaged f ≡ recordsRead i (asRule rule) b

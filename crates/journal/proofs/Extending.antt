@@ -112,7 +112,8 @@ module _ (last : Last) (committed : ℕ) (q : Request) (j : Journal) (ps : List 
   unfolding appendTo
   offer-settled r z e =
       ap (λ (x : Record).
-      settle (judgeRoom (length (j .slice)) committed (length (recordBytes x))) j committed (take (allowed (q .budget) (length (recordBytes x))) (recordBytes x)))
+      settle (judgeRoom (length (j .slice)) committed (length (recordBytes x))) j committed
+      (take (allowed (q .budget) (length (recordBytes x))) (recordBytes x)))
       e
       ∙ ap (λ (n : ℕ). settle n j committed (take (allowed (q .budget) (length (recordBytes (offered o)))) (recordBytes (offered o))))
       (sym (refusals ∙ first-back (offerRefusals (q .rule) last o) _ z ∙ first-alone _))

@@ -124,7 +124,15 @@ module _ (b : List ℕ) (chances n form : ℕ) (sums : Sums) (list times : List 
 
       pub limits-part-read : (next : ℕ) → x ≡ L.Next next
           → (here : Bool) → here ≡ eqb form sampleForm && same list profileChances && leb profileTimes (sums .count)
-          → R.Read (record { next = next; form = form; day = day; flat = eqb (sums .count * sums .squares) (sums .sum * sums .sum); times = sums .count; in_profile = here })
+          → R.Read
+          (record {
+            next = next;
+            form = form;
+            day = day;
+            flat = eqb (sums .count * sums .squares) (sums .sum * sums .sum);
+            times = sums .count;
+            in_profile = here;
+          })
           ≡ recordRead (run (limitStage form day name list times) at (drop at b))
       unfolding limitStage after recordRead entryOf inProfile run sumsOf
       limits-part-read next told here is =

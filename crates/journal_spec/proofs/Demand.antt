@@ -246,7 +246,8 @@ module _ (room : ℕ) (j : Journal) (m : Model) (h : Holds room j m) (c : Call) 
   entry u v w = enterBy (firstTurned (u ∷ v ∷ w ∷ [])) m (recordFor (offerOf req)) taking
 
   step-standing : (b : Option ℕ)
-      → Step room j (appendTo (unlessBroken b (standing (placedFrom 0 (m .records)) (committedOf m))) j req) (entry taken (byBreak b) (byNumber (modelRefusal room m req)))
+      → Step room j (appendTo (unlessBroken b (standing (placedFrom 0 (m .records)) (committedOf m))) j req)
+      (entry taken (byBreak b) (byNumber (modelRefusal room m req)))
   unfolding appendTo unlessBroken unchanged byBreak firstTurned enterBy
   step-standing (some at) = record { answer = refl; holds = h; beyond = refl }
   step-standing none =

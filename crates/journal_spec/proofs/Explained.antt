@@ -79,7 +79,8 @@ goes-on ps at bs r e rest qs c read x =
 
 -- one turn of the scan, by what the record's reader finds; the turns after it are explained
 module _ (more : ℕ) (qs : List Placed) (c : ℕ)
-    (later : (ps : List Placed) (at : ℕ) (bs : List ℕ) → AreBytes bs → length bs ≤ more → contentsFrom plain more ps at bs ≡ standing qs c → Explained ps at bs qs c)
+    (later : (ps : List Placed) (at : ℕ) (bs : List ℕ) → AreBytes bs → length bs ≤ more → contentsFrom plain more ps at bs ≡ standing qs c
+    → Explained ps at bs qs c)
     (ps : List Placed) (at : ℕ) (bs : List ℕ) (b : AreBytes bs) (n : length bs ≤ suc more) (h : contentsFrom plain (suc more) ps at bs ≡ standing qs c) where
   one-turn : (f : Found Record) → recordAt plain (lastOf (recordsOf ps)) at bs ≡ f → Explained ps at bs qs c
   one-turn (found r e rest) ran =

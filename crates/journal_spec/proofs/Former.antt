@@ -164,7 +164,8 @@ former-fits : (slice : List ℕ) (len : ℕ) → leb len (min (length slice) max
 unfolding heldBy formerContents
 former-fits slice len e = rw e refl
 
-own-fits : (slice : List ℕ) (len : ℕ) → leb len (min (length slice) maxLength) ≡ true → contentsOf plain slice len ≡ contentsFrom plain len [] 0 (take len slice)
+own-fits : (slice : List ℕ) (len : ℕ) → leb len (min (length slice) maxLength) ≡ true
+    → contentsOf plain slice len ≡ contentsFrom plain len [] 0 (take len slice)
 unfolding contentsOf
 own-fits slice len e = rw e refl
 

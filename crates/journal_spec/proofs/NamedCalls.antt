@@ -132,7 +132,9 @@ entered : (room : ℕ) (m : Model) (n : ℕ) (budget : Budget) → lastOf (m .re
     → committedOf m + (32 + n) ≤ room → committedOf m + (32 + n) ≤ maxLength
     → enter room m (callNamed n budget) ≡ enterRecord m (recordFor (named n)) (allowed budget (length (recordBytes (recordFor (named n)))))
 unfolding enter enterBy verdictOf firstTurned byLog byNumber callNamed request named offerOf timesOf gatherBy timesIn
-entered room m n budget day least most fits fits′ = rw (accepted-exactly room m (request n budget) .1 (accepts room m n budget day least most fits fits′)) (plainly m (recordFor (named n)) (allowed budget (length (recordBytes (recordFor (named n))))))
+entered room m n budget day least most fits fits′ =
+    rw (accepted-exactly room m (request n budget) .1 (accepts room m n budget day least most fits fits′))
+    (plainly m (recordFor (named n)) (allowed budget (length (recordBytes (recordFor (named n))))))
 
 pub finished : (room : ℕ) (m : Model) (n : ℕ) → lastOf (m .records) .day ≤ 1 → 1 ≤ n → n ≤ 32
     → committedOf m + (32 + n) ≤ room → committedOf m + (32 + n) ≤ maxLength
@@ -178,6 +180,7 @@ full room m n day least most fits less =
     rw (p .day, p .name, p .chances, p .even, p .times, p .rule, named-length n, lt-ltb room (committedOf m + (32 + n)) less) refl
 
 -- what the model answers then
-pub turned-away : (room : ℕ) (m : Model) (n : ℕ) → modelRefusal room m (request n all) ≡ roomRefusal → enter room m (appendNamed n) .answer ≡ declined roomRefusal
+pub turned-away : (room : ℕ) (m : Model) (n : ℕ) → modelRefusal room m (request n all) ≡ roomRefusal
+    → enter room m (appendNamed n) .answer ≡ declined roomRefusal
 unfolding enter enterBy verdictOf firstTurned byLog byNumber callNamed request named offerOf timesOf gatherBy timesIn breakOf
 turned-away room m n e = rw e (rw (plain-keeps 0 (m .records)) (unfold byBreak firstTurned enterBy in refl))

@@ -77,7 +77,8 @@ plainly-from rule zero ps at bs qs c h =
     record { same = h; others = []; parts = sym p ∙ sym (append-nil ps); keep = tt }
 plainly-from rule (suc more) ps at bs qs c h = go (plainly-from rule more) (run (recordReader (lastOf (recordsOf ps))) at bs) refl
   where
-    go : ((ps : List Placed) (at : ℕ) (bs : List ℕ) (qs : List Placed) (c : ℕ) → contentsFrom rule more ps at bs ≡ standing qs c → Plainly rule more ps at bs qs c)
+    go : ((ps : List Placed) (at : ℕ) (bs : List ℕ) (qs : List Placed) (c : ℕ) → contentsFrom rule more ps at bs ≡ standing qs c
+        → Plainly rule more ps at bs qs c)
         → (f : Found Record) → run (recordReader (lastOf (recordsOf ps))) at bs ≡ f → Plainly rule (suc more) ps at bs qs c
     go later (found r e rest) ran =
         by-test (keeps rule r)

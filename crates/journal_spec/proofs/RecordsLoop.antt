@@ -46,7 +46,8 @@ module _ (rule : Rule) (b : List ℕ) (ps : List Placed) (at : ℕ) (g : Going r
   left f h differs = go (g .more) refl
     where
       go : (n : ℕ) → g .more ≡ n → 0 < g .more
-      go zero e = absurd (differs (sym h ∙ at-short rule (lastOf (recordsOf ps)) at (drop at b) (none-short (lastOf (recordsOf ps)) at b (omega (arith, g .enough)))))
+      go zero e =
+          absurd (differs (sym h ∙ at-short rule (lastOf (recordsOf ps)) at (drop at b) (none-short (lastOf (recordsOf ps)) at b (omega (arith, g .enough)))))
       go (suc n) e = omega arith
 
   pub going-short : recordAt rule (lastOf (recordsOf ps)) at (drop at b) ≡ short → contentsFrom rule (length b) [] 0 b ≡ standing ps at

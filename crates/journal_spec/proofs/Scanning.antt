@@ -211,7 +211,8 @@ module _ (rule : Rule) where
   -- ---- the answer
 
   -- a slice whose length is good
-  pub contents-fits : (slice : List ℕ) (len : ℕ) → len ≤ length slice → len ≤ maxLength → contentsOf rule slice len ≡ contentsFrom rule len [] 0 (take len slice)
+  pub contents-fits : (slice : List ℕ) (len : ℕ) → len ≤ length slice → len ≤ maxLength
+      → contentsOf rule slice len ≡ contentsFrom rule len [] 0 (take len slice)
   unfolding contentsOf
   contents-fits slice len h k = rw (le-leb len (min (length slice) maxLength) (omega arith)) refl
 

@@ -138,7 +138,8 @@ pub record ShownRecord (slice : List ℕ) (cs : List Call) (i : ℕ) : Type 0 wh
   pub parts : cs ≡ before ++ call ∷ others
   pub whole : finishes (length slice) (modelAfter (length slice) emptyModel before) call ≡ true
   pub place : i ≡ length (finished (length slice) emptyModel before)
-  pub part : readPart plain (journalAfter operations (emptyIn slice) cs .slice) (journalAfter operations (emptyIn slice) cs .len) i ≡ recordBytes (recordOf call)
+  pub part : readPart plain (journalAfter operations (emptyIn slice) cs .slice) (journalAfter operations (emptyIn slice) cs .len) i
+      ≡ recordBytes (recordOf call)
   pub fields : Given (offerBy call) (recordOf call)
   pub last : Last
   pub reads : run (recordReader last) 0 (recordBytes (recordOf call)) ≡ found (recordOf call) (length (recordBytes (recordOf call))) []

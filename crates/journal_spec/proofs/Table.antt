@@ -147,7 +147,8 @@ pub record RecordFault (rule : Rule) (at : ℕ) (bs : List ℕ) (n p : ℕ) : Ty
   pub inside : start + length rest ≤ at + length bs
 
 -- one turn of the scan, by what the record's reader finds
-module _ (rule : Rule) (more n p : ℕ) (later : (qs : List Placed) (e : ℕ) (rest : List ℕ) → contentsFrom rule more qs e rest ≡ faulty n p → RecordFault rule e rest n p)
+module _ (rule : Rule) (more n p : ℕ)
+    (later : (qs : List Placed) (e : ℕ) (rest : List ℕ) → contentsFrom rule more qs e rest ≡ faulty n p → RecordFault rule e rest n p)
     (ps : List Placed) (at : ℕ) (bs : List ℕ) (h : contentsFrom rule (suc more) ps at bs ≡ faulty n p) where
   by-found : (f : Found Record) → recordAt rule (lastOf (recordsOf ps)) at bs ≡ f → RecordFault rule at bs n p
   by-found (found r e rest) ran =
@@ -172,7 +173,8 @@ module _ (rule : Rule) (more n p : ℕ) (later : (qs : List Placed) (e : ℕ) (r
       let z : _≡_ {A = ℕ} 0 1 = cc in
       absurd (omega arith)
 
-pub contents-fault : (rule : Rule) (more : ℕ) (ps : List Placed) (at : ℕ) (bs : List ℕ) (n p : ℕ) → contentsFrom rule more ps at bs ≡ faulty n p → RecordFault rule at bs n p
+pub contents-fault : (rule : Rule) (more : ℕ) (ps : List Placed) (at : ℕ) (bs : List ℕ) (n p : ℕ)
+    → contentsFrom rule more ps at bs ≡ faulty n p → RecordFault rule at bs n p
 contents-fault rule zero ps at bs n p h = unfold contentsFrom in let z : _≡_ {A = ℕ} 0 1 = cc in absurd (omega arith)
 contents-fault rule (suc more) ps at bs n p h =
     by-found rule more n p (λ qs e rest. contents-fault rule more qs e rest n p) ps at bs h (recordAt rule (lastOf (recordsOf ps)) at bs) refl

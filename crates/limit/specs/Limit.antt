@@ -48,7 +48,7 @@ momentsOfTimes form ts =
     (cond (timesInRange ts) (worked (momentsOf form (length ts) (sumOf ts) (squaresOf ts))) (unworked timesRefusal))
     (unworked formRefusal)
 
--- the same of the times that have these sums; 6 for sums that no times in range have
+-- the same of the times that have these sums; 6 for sums that are not plausible, which no times in range have
 unfoldable pub momentsOfSums : ℕ → Sums → MomentsResult
 momentsOfSums form s =
     cond (formKnown form)

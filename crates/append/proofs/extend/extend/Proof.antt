@@ -29,7 +29,8 @@ unfolding offer offerFrom asBudget
 fits c =
     let appended = c .before .before .before .before .before in
     let a = appended .before .before .before .before .before .before .args in
-    let x = extended-said (now (a .v)) (a .len) (asRule (a .rule)) (offer appended) (appended .append-with .result) _ (appended .append-with .ensures) _ (c .before .answer .given .1) in
+    let x = extended-said (now (a .v)) (a .len) (asRule (a .rule)) (offer appended) (appended .append-with .result) _ (appended .append-with .ensures) _
+    (c .before .answer .given .1) in
     (omega (arith, x .place, offered-length (offer appended)), omega (arith, x .room))
 
 returns : tie.Need-returns

@@ -4,5 +4,8 @@ use Rattle.pxfm.proofs.Calls.{ok}
 use Rattle.band.proofs.formula.ends_at.Statement.{statement}
 use Rattle.band.proofs.formula.ends_at.Tie as tie
 
+returns : tie.Need-returns
+returns c = rw (c .ends-from .ensures, c .before .inverse .ensures)
+
 pub ends-at-spec : {M : Type 1} → statement M
-ends-at-spec = tie.close (tie.spec ok ok (λ c. rw (c .ends-from .ensures, c .before .inverse .ensures)))
+ends-at-spec = tie.close (tie.spec ok ok returns)

@@ -23,7 +23,8 @@ record-by-requires c κs = c .loop .inv .going .inside
 
 -- where a record was read
 counted : (c : tie.After-known-told Inv-loop μ-loop)
-    → Counted (c .before .before .before .before .before .before .args .rule) (now (c .before .before .before .before .before .before .args .b)) (c .before .before .before .before .before .before .args .i)
+    → Counted (c .before .before .before .before .before .before .args .rule) (now (c .before .before .before .before .before .before .args .b))
+    (c .before .before .before .before .before .before .args .i)
     (c .before .before .before .before .loop .records) (c .before .before .before .before .loop .at)
     (c .before .before .before .before .loop .shown) (c .before .x .given .0 .0)
 counted c =

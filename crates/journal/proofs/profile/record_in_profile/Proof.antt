@@ -13,10 +13,14 @@ returns : tie.Need-returns
 returns c = λ list stand. rw (ne-eqb _ sampleForm (c .if1 .taken))
 
 returns-2 : tie.Need-returns-2
-returns-2 c = λ list stand. rw (eq-eqb _ sampleForm (c .before .if1 .left)) (other-count list (c .before .before .before .args .times) (λ e. omega (arith, c .if2 .taken, stand .count, e)))
+returns-2 c = λ list stand.
+    rw (eq-eqb _ sampleForm (c .before .if1 .left))
+    (other-count list (c .before .before .before .args .times) (λ e. omega (arith, c .if2 .taken, stand .count, e)))
 
 returns-3 : tie.Need-returns-3
-returns-3 c = λ list stand. rw (eq-eqb _ sampleForm (c .before .before .if1 .left)) (few-times list (c .before .before .before .before .args .times) (c .if3 .taken))
+returns-3 c = λ list stand.
+    rw (eq-eqb _ sampleForm (c .before .before .if1 .left))
+    (few-times list (c .before .before .before .before .args .times) (c .if3 .taken))
 
 returns-4 : tie.Need-returns-4
 returns-4 c = λ list stand.

@@ -37,7 +37,13 @@ returns-5 c =
     let third = fourth .before in
     let second = third .before in
     let first = second .before in
-    rw (ne-eqb _ _ (first .if1 .left), ne-eqb _ _ (second .if2 .left), ne-eqb _ _ (third .if3 .left), ne-eqb _ _ (fourth .if4 .left), eq-eqb _ _ (c .if5 .taken))
+    rw (
+      ne-eqb _ _ (first .if1 .left),
+      ne-eqb _ _ (second .if2 .left),
+      ne-eqb _ _ (third .if3 .left),
+      ne-eqb _ _ (fourth .if4 .left),
+      eq-eqb _ _ (c .if5 .taken),
+    )
 
 returns-6 : tie.Need-returns-6
 unfolding caseKind
@@ -47,7 +53,14 @@ returns-6 c =
     let third = fourth .before in
     let second = third .before in
     let first = second .before in
-    rw (ne-eqb _ _ (first .if1 .left), ne-eqb _ _ (second .if2 .left), ne-eqb _ _ (third .if3 .left), ne-eqb _ _ (fourth .if4 .left), ne-eqb _ _ (fifth .if5 .left), eq-eqb _ _ (c .if6 .taken))
+    rw (
+      ne-eqb _ _ (first .if1 .left),
+      ne-eqb _ _ (second .if2 .left),
+      ne-eqb _ _ (third .if3 .left),
+      ne-eqb _ _ (fourth .if4 .left),
+      ne-eqb _ _ (fifth .if5 .left),
+      eq-eqb _ _ (c .if6 .taken),
+    )
 
 returns-7 : tie.Need-returns-7
 unfolding caseKind
@@ -58,7 +71,15 @@ returns-7 c =
     let third = fourth .before in
     let second = third .before in
     let first = second .before in
-    rw (ne-eqb _ _ (first .if1 .left), ne-eqb _ _ (second .if2 .left), ne-eqb _ _ (third .if3 .left), ne-eqb _ _ (fourth .if4 .left), ne-eqb _ _ (fifth .if5 .left), ne-eqb _ _ (sixth .if6 .left), eq-eqb _ _ (c .if7 .taken))
+    rw (
+      ne-eqb _ _ (first .if1 .left),
+      ne-eqb _ _ (second .if2 .left),
+      ne-eqb _ _ (third .if3 .left),
+      ne-eqb _ _ (fourth .if4 .left),
+      ne-eqb _ _ (fifth .if5 .left),
+      ne-eqb _ _ (sixth .if6 .left),
+      eq-eqb _ _ (c .if7 .taken),
+    )
 
 returns-8 : tie.Need-returns-8
 unfolding caseKind
@@ -69,7 +90,15 @@ returns-8 c =
     let third = fourth .before in
     let second = third .before in
     let first = second .before in
-    rw (ne-eqb _ _ (first .if1 .left), ne-eqb _ _ (second .if2 .left), ne-eqb _ _ (third .if3 .left), ne-eqb _ _ (fourth .if4 .left), ne-eqb _ _ (fifth .if5 .left), ne-eqb _ _ (sixth .if6 .left), ne-eqb _ _ (c .if7 .left))
+    rw (
+      ne-eqb _ _ (first .if1 .left),
+      ne-eqb _ _ (second .if2 .left),
+      ne-eqb _ _ (third .if3 .left),
+      ne-eqb _ _ (fourth .if4 .left),
+      ne-eqb _ _ (fifth .if5 .left),
+      ne-eqb _ _ (sixth .if6 .left),
+      ne-eqb _ _ (c .if7 .left),
+    )
 
 pub case-kind-spec : {M : Type 1} → statement M
 case-kind-spec = tie.close (tie.spec returns returns-2 returns-3 returns-4 returns-5 returns-6 returns-7 returns-8)

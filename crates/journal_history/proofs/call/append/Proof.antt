@@ -58,7 +58,8 @@ returns-2 c =
     let asked = called .before .before .before .before .before .before in
     let a = asked .before .before .before .before .before .before .before .before .args in
     call-made (a .s) _ (now (a .v)) (asked .have-room .result) _ _ (asked .have-room .ensures) (called .append-with .result) _
-    (called .before .before .before .before .before .if1 .left) (rw (asked .before .rule-in .ensures) at (called .append-with .ensures)) (c .answered-by .ensures)
+    (called .before .before .before .before .before .if1 .left) (rw (asked .before .rule-in .ensures) at (called .append-with .ensures))
+    (c .answered-by .ensures)
 
 pub append-spec : {M : Type 1} → statement M
 append-spec =
