@@ -1,7 +1,7 @@
 // The band against document 02's formula, worked in rust/reference over the Rust's erf_core and the hardware's root,
 // over random and edge sets of times and shares, those that are refused included.
 
-use crate::limit::random_times;
+use crate::limit::{random_times, COUNTS, TIMES};
 use crate::options::Options;
 use crate::tally::{Tally, Totals};
 use reference::band::band;
@@ -17,8 +17,6 @@ const SHARES: [u32; 9] = [
     1_000_000,
     u32::MAX,
 ];
-const TIMES: [u32; 8] = [0, 1, 2, 100, 1_048_574, 1_048_575, 1_048_576, u32::MAX];
-const COUNTS: [usize; 8] = [0, 1, 2, 3, 127, 128, 129, 1000];
 
 pub fn compare(options: &Options, totals: &mut Totals) {
     compare_edges(totals);

@@ -18,8 +18,8 @@ const CHANCES: [u32; 9] = [
     1_000_000,
     u32::MAX,
 ];
-const TIMES: [u32; 8] = [0, 1, 2, 100, 1_048_574, 1_048_575, 1_048_576, u32::MAX];
-const COUNTS: [usize; 8] = [0, 1, 2, 3, 127, 128, 129, 1000];
+pub const TIMES: [u32; 8] = [0, 1, 2, 100, 1_048_574, 1_048_575, 1_048_576, u32::MAX];
+pub const COUNTS: [usize; 8] = [0, 1, 2, 3, 127, 128, 129, 1000];
 
 pub fn compare(options: &Options, totals: &mut Totals) {
     let mut limits = Extremes::default();

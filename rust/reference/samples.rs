@@ -8,7 +8,8 @@ use inputs::journal::{profile_broken, profile_record, record, record_of_size, Fi
 use inputs::journal::{LARGEST, READ, SMALLEST};
 use inputs::random::Random;
 
-fn encoded(form: Form, fields: &Fields) -> Record {
+/// The record of some fields.
+pub fn encoded(form: Form, fields: &Fields) -> Record {
     Record::new(
         form,
         fields.day,
@@ -65,17 +66,21 @@ pub fn profile_records(random: &mut Random, count: usize) -> Vec<Record> {
     records
 }
 
+/// A record's size, the drawn one where it leaves no rest or room for another record.
+pub fn fitting(drawn: usize, rest: usize) -> usize {
+    match drawn {
+        size if size + SMALLEST <= rest => size,
+        _ if rest <= LARGEST => rest,
+        _ => rest - SMALLEST.max(rest - LARGEST),
+    }
+}
+
 /// Records that take so many bytes, each of the size that `draw` gives where the rest allows.
 pub fn filling(random: &mut Random, total: usize, draw: impl Fn(&mut Random) -> usize) -> Vec<u8> {
     let turn = random.below(total as u64 + 1) as usize;
     let mut bytes = Vec::new();
     while bytes.len() < total {
-        let rest = total - bytes.len();
-        let size = match draw(random) {
-            size if size + SMALLEST <= rest => size,
-            _ if rest <= LARGEST => rest,
-            _ => rest - SMALLEST.max(rest - LARGEST),
-        };
+        let size = fitting(draw(random), total - bytes.len());
         let form = form_at(bytes.len(), turn);
         bytes.extend(encoded(form, &record_of_size(random, 7, size, READ)).bytes());
     }

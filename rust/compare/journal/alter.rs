@@ -1,10 +1,29 @@
-// Journals with a byte or a field altered.
+// Journals with a byte or a field altered, of any records or of the profile.
 // A field is set to a value at the edge of its range or beyond it; a count may lie about its section; a record, or its limits alone, may be of
 // the other form.
 
 use inputs::journal::{CHANCES, CHANCE_COUNTS, FORMS, NAME_BYTES, NAME_COUNTS, TIMES, TIME_COUNTS};
 use inputs::random::Random;
 use reference::record::Record;
+use reference::samples::{joined, profile_records};
+
+/// Records of the profile, one of which may break it, whole or with a field or a byte altered; a length of them, all or some bytes; and the
+/// last record's day.
+pub fn any_of_profile(random: &mut Random) -> (Vec<u8>, usize, u16) {
+    let count = random.whole(1, 4) as usize;
+    let some = profile_records(random, count);
+    let day = some.last().map_or(0, |record| record.day);
+    let v = match random.below(4) {
+        0 => field_altered(random, some),
+        1 => byte_altered(random, joined(&some)),
+        _ => joined(&some),
+    };
+    let len = match random.below(3) {
+        0 => random.below(v.len() as u64 + 1) as usize,
+        _ => v.len(),
+    };
+    (v, len, day)
+}
 
 /// The journal of some records, one of them with a field altered.
 pub fn field_altered(random: &mut Random, mut records: Vec<Record>) -> Vec<u8> {

@@ -2,7 +2,7 @@
 // document 01's book.
 // Then single appends on any bytes, damaged journals among them.
 
-use super::alter::{byte_altered, field_altered};
+use super::alter::{any_of_profile, byte_altered, field_altered};
 use super::history::{answer_words, call_ours, History};
 use super::requests::{any_request, length_of, offer_of_size, profile_request, right_offer};
 use super::run::{compare_groups, Group, Run};
@@ -136,18 +136,7 @@ fn any_journal(random: &mut Random, run: &mut Run) {
 
 /// The same on records of the profile.
 fn any_profile(random: &mut Random, run: &mut Run) {
-    let count = random.whole(1, 4) as usize;
-    let some = profile_records(random, count);
-    let day = some.last().map_or(0, |record| record.day);
-    let mut v = match random.below(4) {
-        0 => field_altered(random, some),
-        1 => byte_altered(random, joined(&some)),
-        _ => joined(&some),
-    };
-    let len = match random.below(3) {
-        0 => random.below(v.len() as u64 + 1) as usize,
-        _ => v.len(),
-    };
+    let (mut v, len, day) = any_of_profile(random);
     v.extend((0..random.below(4) * 300).map(|_| random.bits() as u8));
     let request = profile_request(random, day);
     single(run, v, len, request);

@@ -12,7 +12,7 @@ use reference::limit::Form;
 use reference::merge::{merge, Merged};
 use reference::model::Model;
 use reference::record::Record;
-use reference::samples::{filling, joined, records};
+use reference::samples::{encoded, filling, fitting, joined, records};
 use reference::scan::MAX_LENGTH;
 
 const GROUPS: [Group; 4] = [
@@ -162,22 +162,10 @@ fn full(random: &mut Random, run: &mut Run) {
 fn one_form(random: &mut Random, total: usize, draw: impl Fn(&mut Random) -> usize) -> Vec<u8> {
     let (mut bytes, mut day) = (Vec::new(), 0);
     while bytes.len() < total {
-        let rest = total - bytes.len();
-        let size = match draw(random) {
-            size if size + SMALLEST <= rest => size,
-            _ if rest <= LARGEST => rest,
-            _ => rest - SMALLEST.max(rest - LARGEST),
-        };
+        let size = fitting(draw(random), total - bytes.len());
         day += random.below(2) as u16;
         let fields = record_of_size(random, day, size, READ);
-        let record = Record::new(
-            Form::Sample,
-            day,
-            &fields.name,
-            &fields.chances,
-            &fields.times,
-        );
-        bytes.extend(record.bytes());
+        bytes.extend(encoded(Form::Sample, &fields).bytes());
     }
     bytes
 }

@@ -1,7 +1,7 @@
 // Scan, the part and the mark, plain and by the profile, over random bytes, valid journals, altered ones, cuts at every length, and lengths
 // beyond. The bytes behind the length are random where they stand.
 
-use super::alter::{byte_altered, field_altered};
+use super::alter::{any_of_profile, byte_altered, field_altered};
 use super::run::{compare_groups, Group, Run};
 use crate::options::Options;
 use crate::tally::Totals;
@@ -155,17 +155,7 @@ fn full_journals(random: &mut Random, run: &mut Run) {
 
 /// Records of the profile, one of which may break it; whole, cut, or with a field or a byte altered.
 fn of_profile(random: &mut Random, run: &mut Run) {
-    let count = random.whole(1, 4) as usize;
-    let some = profile_records(random, count);
-    let v = match random.below(4) {
-        0 => field_altered(random, some),
-        1 => byte_altered(random, joined(&some)),
-        _ => joined(&some),
-    };
-    let len = match random.below(3) {
-        0 => random.below(v.len() as u64 + 1) as usize,
-        _ => v.len(),
-    };
+    let (v, len, _) = any_of_profile(random);
     compare_at(random, run, &v, len);
 }
 
