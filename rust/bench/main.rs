@@ -3,21 +3,21 @@
 
 mod log;
 mod merge;
+mod scan;
 
 use inputs::doubles::{low_part, moderate};
-use inputs::journal::{LARGEST, SMALLEST};
+use inputs::journal::LARGEST;
 use inputs::quantile::{chance, BELOW_ONE, CHANCES, ONE_TO_TWO};
 use inputs::random::Random;
 use original::steps;
 use ours::{number, Offer, Step};
-use reference::samples::{filling, full};
-use reference::scan::{scan, Status, MAX_LENGTH};
+use reference::samples::filling;
+use reference::scan::MAX_LENGTH;
 use std::cell::RefCell;
 use std::hint::black_box;
 use std::time::{Duration, Instant};
 
 type OnBits = extern "C" fn(u64) -> u64;
-type OnJournal = fn(&[u8]) -> u64;
 type OnLog = fn(&[u8], &[u8]) -> u64;
 type OnPart = fn(&RefCell<Vec<u8>>, usize) -> u64;
 
@@ -40,32 +40,10 @@ fn main() {
             call_bits,
         ),
     );
-    scan_rows(&mut random);
+    scan::rows(&mut random);
     append_rows(&mut random);
     log_rows(&mut random);
     merge::rows(&mut random);
-}
-
-/// The scan of full journals beside rust/reference's, in bytes a second.
-fn scan_rows(random: &mut Random) {
-    println!();
-    println!("| scan of 65,536 bytes | ours, MB/s | Rust, MB/s | ours / Rust, time |");
-    println!("|---|---|---|---|");
-    for (name, size) in [("smallest", SMALLEST), ("largest", LARGEST)] {
-        let journals: Vec<Vec<u8>> = (0..4).map(|_| full(random, |_| size)).collect();
-        let bytes: usize = journals.iter().map(Vec::len).sum();
-        let times = race(
-            [scan_ours as OnJournal, scan_reference],
-            &journals,
-            |scan, v| scan(v),
-        );
-        let [ours, rust] = times.map(|time| time.as_secs_f64());
-        let [ours_rate, rust_rate] = [ours, rust].map(|time| bytes as f64 / time / 1e6);
-        println!(
-            "| {name} records | {ours_rate:.1} | {rust_rate:.1} | {:.2} |",
-            ours / rust
-        );
-    }
 }
 
 /// The append of a largest record to journals of rising length, beside the scan of the same journal: what is left is the record's own cost.
@@ -137,18 +115,6 @@ fn append_largest(journal: &RefCell<Vec<u8>>, len: usize) -> u64 {
 
 fn scan_part(journal: &RefCell<Vec<u8>>, len: usize) -> u64 {
     ours::journal_scan(&journal.borrow(), len)[1]
-}
-
-/// The number of records that stand, where the journal is whole.
-fn scan_ours(v: &[u8]) -> u64 {
-    ours::journal_scan(v, v.len())[1]
-}
-
-fn scan_reference(v: &[u8]) -> u64 {
-    match scan(v, v.len()) {
-        Status::Whole { records, .. } => records as u64,
-        other => panic!("a full journal scans as {other:?}"),
-    }
 }
 
 fn quantile_rows(random: &mut Random) {

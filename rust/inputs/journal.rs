@@ -125,7 +125,8 @@ fn sized(random: &mut Random, day: u16, [name, chances, times]: [usize; 3], last
     }
 }
 
-fn rising_chances(random: &mut Random, n: usize, last: u64) -> Vec<u32> {
+/// So many chances up to `last`, which rise.
+pub fn rising_chances(random: &mut Random, n: usize, last: u64) -> Vec<u32> {
     let mut chances: Vec<u32> = Vec::new();
     while chances.len() < n {
         let drawn = match random.below(4) {

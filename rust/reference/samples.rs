@@ -77,12 +77,24 @@ pub fn fitting(drawn: usize, rest: usize) -> usize {
 
 /// Records that take so many bytes, each of the size that `draw` gives where the rest allows.
 pub fn filling(random: &mut Random, total: usize, draw: impl Fn(&mut Random) -> usize) -> Vec<u8> {
+    filling_with(random, total, draw, |_, _| ())
+}
+
+/// The same with other chances, as many: `set` is handed each record's in their order.
+pub fn filling_with(
+    random: &mut Random,
+    total: usize,
+    draw: impl Fn(&mut Random) -> usize,
+    mut set: impl FnMut(&mut Random, &mut Vec<u32>),
+) -> Vec<u8> {
     let turn = random.below(total as u64 + 1) as usize;
     let mut bytes = Vec::new();
     while bytes.len() < total {
         let size = fitting(draw(random), total - bytes.len());
         let form = form_at(bytes.len(), turn);
-        bytes.extend(encoded(form, &record_of_size(random, 7, size, READ)).bytes());
+        let mut fields = record_of_size(random, 7, size, READ);
+        set(random, &mut fields.chances);
+        bytes.extend(encoded(form, &fields).bytes());
     }
     bytes
 }

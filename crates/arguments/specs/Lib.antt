@@ -1,4 +1,5 @@
--- The definitions that the contracts cite: the word --help, decimal numbers, numbers separated by white space, and a path's folder.
+-- The definitions that the contracts cite: the word --help, decimal numbers, numbers separated by white space, a path's folder, and gathered output.
 pub mod Arguments
 pub mod Numbers
 pub mod Paths
+pub mod Gather

@@ -1,5 +1,5 @@
 // What the programs share. They read the word `--help`, a decimal number, decimal numbers separated by white space, and an input to its end;
-// they print their help, and say where standard output or a file fails. No public function has a `requires`.
+// they print their help, gather their output, and say where standard output or a file fails. No public function has a `requires`.
 mod digit;
 mod files;
 mod help;
@@ -8,6 +8,7 @@ mod number;
 mod numbers;
 mod output;
 mod path;
+mod pieces;
 
 pub use digit::Number;
 pub use files::complain;
@@ -25,3 +26,6 @@ pub use numbers::read_numbers;
 pub use output::print;
 pub use output::usage;
 pub use path::folder_end;
+pub use pieces::Gathered;
+pub use pieces::flush;
+pub use pieces::gather;

@@ -8,6 +8,7 @@ pub mod Fields
 pub mod Items
 pub mod RuleLoop
 pub mod Sections
+pub mod Remembering
 pub mod LimitsLoop
 -- the record
 pub mod Flat

@@ -6,12 +6,13 @@ use mathlib.Core.List.{List, [], _∷_, _++_}
 use native.Mathlib.Omega.{arith}
 use lib.ListN.{length, drop, length-append}
 use lib.Dec.{eqb}
-use lib.Ieee.{binary64, toBits}
+use lib.Ieee.{Float, binary64, toBits}
 use Rattle.limit.specs.declared.Answer.{Answer}
 use Rattle.limit.specs.declared.Answer.the-variants as A
 use Rattle.limit.specs.declared.Figures.{Figures}
 use Rattle.limit.specs.Answer.{meaning, limited, refused, MomentsResult}
-use Rattle.limit.specs.Limit.{limitOfMoments}
+use Rattle.limit.specs.Formula.{quantileOf}
+use Rattle.limit.specs.Limit.{limitOfMoments, limitOfQuantile}
 use Rattle.journal_spec.specs.Bytes.{numberAt}
 use Rattle.journal_spec.specs.Refusals.{limitRefusal, unless, outside}
 use Rattle.journal_spec.specs.Reader.{run}
@@ -28,6 +29,12 @@ use Rattle.journal.proofs.Fields.{afterField, by-field, same-field, rea
 use Rattle.journal.proofs.Items.{items-answer, items-more}
 
 -- ---- one limit
+
+-- the limit by a quantile is the one at the chance whose quantile that is
+pub limit-known : (w : MomentsResult) (c : ℕ) (e : Float) (answer : Answer)
+    → meaning answer ≡ limitOfQuantile w c e → e ≡ quantileOf c → meaning answer ≡ limitOfMoments w c
+unfolding limitOfMoments
+limit-known w c e answer is own = is ∙ ap (limitOfQuantile w c) own
 
 module _ (b : List ℕ) (w : MomentsResult) (chance at c : ℕ) (answer : Answer)
     (is : meaning answer ≡ limitOfMoments w c) (read : c ≡ numberAt 4 chance b) where

@@ -12,6 +12,7 @@ pub mod Stepped
 -- the rules of sections, fields and sections, the record, the pass over the records
 pub mod Rules
 pub mod Found
+pub mod Remembered
 pub mod Records
 pub mod Contents
 -- where each number of a record is written

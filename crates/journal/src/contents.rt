@@ -7,6 +7,8 @@ ghost use Rattle.journal.specs.Handed.{asRule};
 ghost use Rattle.journal.specs.Contents.{contentsRead, recordsRead, shownNext};
 use crate::Fault;
 use crate::profile::Rule;
+use crate::quantiles::NO_CHANCE;
+use crate::quantiles::PLACES;
 use crate::record::Entry;
 use crate::record::Head;
 use crate::record::RecordRead;
@@ -59,6 +61,9 @@ pub(crate) fn contents_of(v: &[u8], len: usize, i: usize, rule: Rule) -> Content
 fn records_of(b: &[u8], i: usize, rule: Rule) -> Contents
     ensures { λ r. ⌜ r ≡ recordsRead i (asRule rule) (now (b .entry)) ⌝ }
 {
+    let none = limit::quantile_of(NO_CHANCE);
+    let mut kept: [u32; PLACES] = [NO_CHANCE; PLACES];
+    let mut quantiles: [f64; PLACES] = [none; PLACES];
     let mut records: usize = 0;
     let mut at: usize = 0;
     let mut last = Head { form: 0, day: 0 };
@@ -69,7 +74,7 @@ fn records_of(b: &[u8], i: usize, rule: Rule) -> Contents
         times: 0,
     };
     loop {
-        let x = record_by(b, at, last, rule);
+        let x = record_by(b, at, last, rule, &mut kept, &mut quantiles);
         match x {
             RecordRead::Read(e) => {
                 shown = shown_next(shown, records == i, at, e);

@@ -21,6 +21,7 @@ pub mod marks;
 mod number;
 mod offer;
 mod profile;
+mod quantiles;
 mod reading;
 mod record;
 mod section;

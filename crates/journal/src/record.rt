@@ -10,6 +10,7 @@ ghost use Rattle.limit.specs.Times.{timesInRange};
 ghost use Rattle.limit.specs.Sums.{sumsOf, isPlausible};
 ghost use Rattle.journal_spec.specs.Reader.{run};
 ghost use Rattle.journal_spec.specs.Stages.{dayStage, nameStage, chanceStage, timeStage, limitStage};
+ghost use Rattle.journal.specs.Remembered.{Remembered};
 ghost use Rattle.journal.specs.Records.{asLast, recordRead, recordAt, recordBy, Stands};
 use crate::Fault;
 use crate::field::FieldRead;
@@ -20,6 +21,7 @@ use crate::profile::PROFILE_REFUSAL;
 use crate::profile::Rule;
 use crate::profile::kept_by;
 use crate::profile::record_in_profile;
+use crate::quantiles::PLACES;
 use crate::section::SectionRead;
 use crate::section::SectionRule;
 use crate::section::section_at;
@@ -102,11 +104,19 @@ pub(crate) enum RecordRead {
 }
 
 // The record at a place by a rule: one that is whole and breaks the rule is refused at its first byte. What is torn is not judged by it.
-pub(crate) fn record_by(b: &[u8], at: usize, last: Head, rule: Rule) -> RecordRead
-    requires { ⌜ at ≤ length (now b) ⌝ }
+pub(crate) fn record_by(
+    b: &[u8],
+    at: usize,
+    last: Head,
+    rule: Rule,
+    kept: &mut [u32; PLACES],
+    quantiles: &mut [f64; PLACES],
+) -> RecordRead
+    requires { ⌜ (at ≤ length (now b)) × Remembered (now kept) (now quantiles) ⌝ }
     ensures { λ r. ⌜ r ≡ recordBy rule last at (now (b .entry)) ⌝ }
+    ensures { λ _. ⌜ Remembered (now (kept .exit)) (now (quantiles .exit)) ⌝ }
 {
-    let x = record_at(b, at, last);
+    let x = record_at(b, at, last, kept, quantiles);
     match x {
         RecordRead::Read(e) => {
             if kept_by(rule, e.in_profile) {
@@ -124,9 +134,16 @@ pub(crate) fn record_by(b: &[u8], at: usize, last: Head, rule: Rule) -> RecordRe
 
 // The record at a place, after the record `last`. Its form is judged whole before its day: that there is such a form, then that forms
 // do not fall.
-fn record_at(b: &[u8], at: usize, last: Head) -> RecordRead
-    requires { ⌜ at ≤ length (now b) ⌝ }
+fn record_at(
+    b: &[u8],
+    at: usize,
+    last: Head,
+    kept: &mut [u32; PLACES],
+    quantiles: &mut [f64; PLACES],
+) -> RecordRead
+    requires { ⌜ (at ≤ length (now b)) × Remembered (now kept) (now quantiles) ⌝ }
     ensures { λ r. ⌜ r ≡ recordAt last at (now (b .entry)) ⌝ }
+    ensures { λ _. ⌜ Remembered (now (kept .exit)) (now (quantiles .exit)) ⌝ }
 {
     let x = field_at(b, at, 2, PLAIN_FORM, SAMPLE_FORM, FORM_REFUSAL);
     match x {
@@ -137,7 +154,7 @@ fn record_at(b: &[u8], at: usize, last: Head) -> RecordRead
                     place: at,
                 });
             }
-            day_part(b, at + 2, last, form)
+            day_part(b, at + 2, last, form, kept, quantiles)
         }
         FieldRead::Short => RecordRead::Short,
         FieldRead::Refused(f) => RecordRead::Refused(f),
@@ -145,63 +162,122 @@ fn record_at(b: &[u8], at: usize, last: Head) -> RecordRead
 }
 
 // The record from its day on.
-fn day_part(b: &[u8], at: usize, last: Head, form: u64) -> RecordRead
-    requires { ⌜ at ≤ length (now b) ⌝ }
+fn day_part(
+    b: &[u8],
+    at: usize,
+    last: Head,
+    form: u64,
+    kept: &mut [u32; PLACES],
+    quantiles: &mut [f64; PLACES],
+) -> RecordRead
+    requires { ⌜ (at ≤ length (now b)) × Remembered (now kept) (now quantiles) ⌝ }
     ensures { λ r. ⌜ r ≡ recordRead (run (dayStage (asLast last) form) at (drop at (now (b .entry)))) ⌝ }
+    ensures { λ _. ⌜ Remembered (now (kept .exit)) (now (quantiles .exit)) ⌝ }
 {
     let x = field_at(b, at, 2, last.day, MAX_DAY, DAY_REFUSAL);
     match x {
-        FieldRead::Value(day) => name_part(b, at + 2, Head { form, day }),
+        FieldRead::Value(day) => name_part(b, at + 2, Head { form, day }, kept, quantiles),
         FieldRead::Short => RecordRead::Short,
         FieldRead::Refused(f) => RecordRead::Refused(f),
     }
 }
 
 // The record from its name on.
-fn name_part(b: &[u8], at: usize, head: Head) -> RecordRead
-    requires { ⌜ at ≤ length (now b) ⌝ }
+fn name_part(
+    b: &[u8],
+    at: usize,
+    head: Head,
+    kept: &mut [u32; PLACES],
+    quantiles: &mut [f64; PLACES],
+) -> RecordRead
+    requires { ⌜ (at ≤ length (now b)) × Remembered (now kept) (now quantiles) ⌝ }
     ensures { λ r. ⌜ r ≡ recordRead (run (nameStage (head .form) (head .day)) at (drop at (now (b .entry)))) ⌝ }
+    ensures { λ _. ⌜ Remembered (now (kept .exit)) (now (quantiles .exit)) ⌝ }
 {
     let x = section_at(b, at, NAME);
     match x {
-        SectionRead::Read { next, sums: _ } => chances_part(b, next, head),
+        SectionRead::Read { next, sums: _ } => chances_part(b, next, head, kept, quantiles),
         SectionRead::Short => RecordRead::Short,
         SectionRead::Refused(f) => RecordRead::Refused(f),
     }
 }
 
 // The record from its chances on. Their place and number are handed on, since each limit is worked out at its chance.
-fn chances_part(b: &[u8], at: usize, head: Head) -> RecordRead
-    requires { ⌜ at ≤ length (now b) ⌝ }
+fn chances_part(
+    b: &[u8],
+    at: usize,
+    head: Head,
+    kept: &mut [u32; PLACES],
+    quantiles: &mut [f64; PLACES],
+) -> RecordRead
+    requires { ⌜ (at ≤ length (now b)) × Remembered (now kept) (now quantiles) ⌝ }
     ensures { λ r. ⌜ ((name : List ℕ) → r ≡ recordRead (run (chanceStage (head .form) (head .day) name) at (drop at (now (b .entry))))) ⌝ }
+    ensures { λ _. ⌜ Remembered (now (kept .exit)) (now (quantiles .exit)) ⌝ }
 {
     let x = section_at(b, at, CHANCES);
     match x {
-        SectionRead::Read { next, sums } => times_part(b, next, head, at + 2, sums.count),
+        SectionRead::Read { next, sums } => times_part(
+            b,
+            next,
+            head,
+            at + 2,
+            sums.count,
+            kept,
+            quantiles,
+        ),
         SectionRead::Short => RecordRead::Short,
         SectionRead::Refused(f) => RecordRead::Refused(f),
     }
 }
 
 // The record from its times on, with n chances from a place on.
-fn times_part(b: &[u8], at: usize, head: Head, chances: usize, n: u64) -> RecordRead
-    requires { ⌜ (at ≤ length (now b)) × (chances + n * 4 ≤ length (now b)) ⌝ }
+fn times_part(
+    b: &[u8],
+    at: usize,
+    head: Head,
+    chances: usize,
+    n: u64,
+    kept: &mut [u32; PLACES],
+    quantiles: &mut [f64; PLACES],
+) -> RecordRead
+    requires { ⌜ (at ≤ length (now b)) × (chances + n * 4 ≤ length (now b)) × Remembered (now kept) (now quantiles) ⌝ }
     ensures { λ r. ⌜ ((name list : List ℕ) → Stands (now (b .entry)) chances n list
         → r ≡ recordRead (run (timeStage (head .form) (head .day) name list) at (drop at (now (b .entry))))) ⌝ }
+    ensures { λ _. ⌜ Remembered (now (kept .exit)) (now (quantiles .exit)) ⌝ }
 {
     let x = section_at(b, at, TIMES);
     match x {
-        SectionRead::Read { next, sums } => limits_part(b, next, head, chances, n, sums),
+        SectionRead::Read { next, sums } => limits_part(
+            b,
+            next,
+            head,
+            chances,
+            n,
+            sums,
+            kept,
+            quantiles,
+        ),
         SectionRead::Short => RecordRead::Short,
         SectionRead::Refused(f) => RecordRead::Refused(f),
     }
 }
 
 // The record from its limits on, with the sums of its times: mean and spread are worked out once.
-fn limits_part(b: &[u8], at: usize, head: Head, chances: usize, n: u64, sums: Sums) -> RecordRead
-    requires { ⌜ (at ≤ length (now b)) × (chances + n * 4 ≤ length (now b)) × (isPlausible sums ≡ true) ⌝ }
+fn limits_part(
+    b: &[u8],
+    at: usize,
+    head: Head,
+    chances: usize,
+    n: u64,
+    sums: Sums,
+    kept: &mut [u32; PLACES],
+    quantiles: &mut [f64; PLACES],
+) -> RecordRead
+    requires { ⌜ (at ≤ length (now b)) × (chances + n * 4 ≤ length (now b)) × (isPlausible sums ≡ true)
+        × Remembered (now kept) (now quantiles) ⌝ }
     ensures { λ r. ⌜ ((name list times : List ℕ) → Stands (now (b .entry)) chances n list → timesInRange times ≡ true → sums ≡ sumsOf times
         → r ≡ recordRead (run (limitStage (head .form) (head .day) name list times) at (drop at (now (b .entry))))) ⌝ }
+    ensures { λ _. ⌜ Remembered (now (kept .exit)) (now (quantiles .exit)) ⌝ }
 {
     let form = head.form;
     let day = head.day;
@@ -209,7 +285,7 @@ fn limits_part(b: &[u8], at: usize, head: Head, chances: usize, n: u64, sums: Su
     let times = sums.count;
     let in_profile = record_in_profile(b, form, chances, n, times);
     let worked = limit::moments_of_sums(form, sums);
-    let x = limit_section_at(b, at, n, chances, worked);
+    let x = limit_section_at(b, at, n, chances, worked, kept, quantiles);
     match x {
         LimitsRead::Next(next) => RecordRead::Read(Entry {
             next,

@@ -7,15 +7,15 @@ use Prim.Native.Nat.{ℕ}
 use Rattle.limit.specs.declared.Moments.{Moments}
 use Rattle.limit.specs.Times.{inRange, timesInRange}
 use Rattle.limit.specs.Sums.{sumsOf, noTimes, isPlausible}
-use Rattle.limit.specs.Formula.{formulaOf, figuresOf, momentsOf, figuresFrom}
+use Rattle.limit.specs.Formula.{quantileOf, formulaOf, figuresOf, momentsOf, figuresFrom}
 use Rattle.limit.specs.Answer.{limited, refused, worked, unworked, formRefusal, chanceRefusal}
-use Rattle.limit.specs.Limit.{formKnown, chanceInRange, judge, limitOf, momentsOfTimes, momentsOfSums, limitOfMoments}
+use Rattle.limit.specs.Limit.{formKnown, chanceInRange, judge, limitOf, momentsOfTimes, momentsOfSums, limitOfMoments, limitOfQuantile}
 use Rattle.limit.proofs.Plausible.{times-plausible}
 
 by-form : (known : Bool) (m : Moments) (c : ℕ)
-    → cond known (cond (chanceInRange c) (limited (figuresFrom m c)) (refused chanceRefusal)) (refused formRefusal)
+    → cond known (cond (chanceInRange c) (limited (figuresFrom m (quantileOf c))) (refused chanceRefusal)) (refused formRefusal)
     ≡ limitOfMoments (cond known (worked m) (unworked formRefusal)) c
-unfolding limitOfMoments
+unfolding limitOfMoments limitOfQuantile
 by-form true m c = refl
 by-form false m c = refl
 

@@ -70,6 +70,6 @@ figuresOf form n s q c = record { mean = meanOf n s; spread = spreadOf form n s 
 unfoldable pub momentsOf : ℕ → ℕ → ℕ → ℕ → Moments
 momentsOf form n s q = record { mean = meanOf n s; spread = spreadOf form n s q }
 
--- the four from them, at the chance c
-unfoldable pub figuresFrom : Moments → ℕ → Figures
-figuresFrom m c = record { mean = m .mean; spread = m .spread; quantile = quantileOf c; limit = limitFrom (m .mean) (m .spread) (quantileOf c) }
+-- the four from them and the quantile e
+unfoldable pub figuresFrom : Moments → Float → Figures
+figuresFrom m e = record { mean = m .mean; spread = m .spread; quantile = e; limit = limitFrom (m .mean) (m .spread) e }

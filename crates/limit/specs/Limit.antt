@@ -1,15 +1,16 @@
 -- The limit operation of documents 01 and 02: the limit of a list of times at a chance under a form, or the first refusal that holds, in
--- the order 2, 5, 6. The same in two steps, for a caller that has summed the times and asks for several chances: mean and spread from the
--- sums, once, and the limit from them.
+-- the order 2, 5, 6. The same in steps, for a caller that has summed the times and asks for several chances: mean and spread from the
+-- sums, once, and the limit from them; or from them and a quantile that is kept, for one that asks for the same chances again.
 use Prim.Native.Nat.{ℕ}
 use mathlib.Core.Bool.{Bool, cond}
 use mathlib.Core.List.{List}
 use lib.ListN.{length}
+use lib.Ieee.{Float}
 use Rattle.limit.specs.declared.Figures.{Figures}
 use Rattle.limit.specs.declared.sums.Sums.{Sums}
 use Rattle.limit.specs.Times.{inRange, timesInRange, sumOf, squaresOf}
 use Rattle.limit.specs.Sums.{isPlausible}
-use Rattle.limit.specs.Formula.{plainForm, sampleForm, figuresOf, momentsOf, figuresFrom}
+use Rattle.limit.specs.Formula.{plainForm, sampleForm, quantileOf, figuresOf, momentsOf, figuresFrom}
 use Rattle.limit.specs.Answer.{LimitResult, limited, refused, MomentsResult, worked, unworked, formRefusal, chanceRefusal, timesRefusal}
 
 -- the form is 1 or 2: what refusal 2 asks
@@ -55,7 +56,11 @@ momentsOfSums form s =
     (cond (isPlausible s) (worked (momentsOf form (s .count) (s .sum) (s .squares))) (unworked timesRefusal))
     (unworked formRefusal)
 
--- the limit from them at the chance c: their refusal, then 5
+-- the limit from them at the chance c with the quantile e: their refusal, then 5
+unfoldable pub limitOfQuantile : MomentsResult → ℕ → Float → LimitResult
+limitOfQuantile (worked m) c e = cond (chanceInRange c) (limited (figuresFrom m e)) (refused chanceRefusal)
+limitOfQuantile (unworked n) c e = refused n
+
+-- the same with the quantile of c, which makes it the limit at c
 unfoldable pub limitOfMoments : MomentsResult → ℕ → LimitResult
-limitOfMoments (worked m) c = cond (chanceInRange c) (limited (figuresFrom m c)) (refused chanceRefusal)
-limitOfMoments (unworked n) c = refused n
+limitOfMoments w c = limitOfQuantile w c (quantileOf c)

@@ -31,13 +31,12 @@ pub(crate) fn moments(form: u64, s: Sums) -> Moments
     Moments { mean, spread }
 }
 
-// The four figures from mean and spread, at a chance in a million.
-pub(crate) fn figures(m: Moments, chance: u32) -> Figures
-    ensures { λ r. ⌜ r ≡ figuresFrom m chance ⌝ }
+// The four figures from mean, spread and quantile.
+pub(crate) fn figures(m: Moments, quantile: f64) -> Figures
+    ensures { λ r. ⌜ r ≡ figuresFrom m quantile ⌝ }
 {
     let mean = m.mean;
     let spread = m.spread;
-    let quantile = quantile_of(chance);
     let limit = limit_from(mean, spread, quantile);
     Figures {
         mean,
@@ -73,7 +72,8 @@ fn spread_by(divisor: u64, d: u64) -> f64
     sqrt::sqrt(d as f64 / divisor as f64)
 }
 
-fn quantile_of(chance: u32) -> f64
+// The quantile of a chance in a million.
+pub fn quantile_of(chance: u32) -> f64
     ensures { λ r. ⌜ r ≡ quantileOf chance ⌝ }
 {
     pxfm::err::inverfc::f_erfcinv(chance as f64 / HALF_MILLION)

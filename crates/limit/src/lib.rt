@@ -1,9 +1,10 @@
 // The limit of a set of link times at a chance under a form, with mean, spread and quantile, as document 01's paragraph "Limit" and document
 // 02's 2026-03 and 2026-04 fix it, and its refusals. `limit` takes the times. A caller that has summed them and asks for several chances
-// works mean and spread out once, by `moments_of_sums`, and each limit from them, by `limit_of_moments`.
+// works mean and spread out once, by `moments_of_sums`, and each limit from them, by `limit_of_moments`; one that asks for the same chances
+// again keeps their quantiles, for `limit_of_quantile`.
 ghost use mathlib.Core.Path.{_≡_};
 ghost use Rattle.limit.specs.Answer.{meaning, momentsMeaning, worked};
-ghost use Rattle.limit.specs.Limit.{chanceInRange, formKnown, limitOf, limitOfMoments, momentsOfSums, momentsOfTimes};
+ghost use Rattle.limit.specs.Limit.{chanceInRange, formKnown, limitOf, limitOfMoments, limitOfQuantile, momentsOfSums, momentsOfTimes};
 use crate::ranges::in_range;
 use crate::sums::Gathered;
 use crate::sums::Sums;
@@ -11,6 +12,8 @@ use crate::sums::Sums;
 mod formula;
 mod ranges;
 pub mod sums;
+
+pub use formula::quantile_of;
 
 // The forms: document 01's, and that of the sample spread.
 pub const PLAIN_FORM: u64 = 1;
@@ -69,7 +72,8 @@ pub fn limit(form: u64, times: &[u32], chance: u32) -> Answer
     match g {
         Gathered::Within(s) => {
             let m = formula::moments(form, s);
-            Answer::Limit(formula::figures(m, chance))
+            let quantile = quantile_of(chance);
+            Answer::Limit(formula::figures(m, quantile))
         }
         Gathered::Outside => Answer::Refused(TIMES_REFUSAL),
     }
@@ -104,19 +108,26 @@ pub fn moments_of_sums(form: u64, s: Sums) -> Worked
 pub fn limit_of_moments(m: Worked, chance: u32) -> Answer
     ensures { λ r. ⌜ meaning r ≡ limitOfMoments (momentsMeaning m) chance ⌝ }
 {
+    limit_of_quantile(m, chance, quantile_of(chance))
+}
+
+// The same with a quantile that is already known: where it is that of the chance, this is the limit at the chance.
+pub fn limit_of_quantile(m: Worked, chance: u32, quantile: f64) -> Answer
+    ensures { λ r. ⌜ meaning r ≡ limitOfQuantile (momentsMeaning m) chance quantile ⌝ }
+{
     match m {
-        Worked::Out(x) => limit_at(x, chance),
+        Worked::Out(x) => limit_at(x, chance, quantile),
         Worked::Refused(n) => Answer::Refused(n),
     }
 }
 
-fn limit_at(m: Moments, chance: u32) -> Answer
-    ensures { λ r. ⌜ meaning r ≡ limitOfMoments (worked m) chance ⌝ }
+fn limit_at(m: Moments, chance: u32, quantile: f64) -> Answer
+    ensures { λ r. ⌜ meaning r ≡ limitOfQuantile (worked m) chance quantile ⌝ }
 {
     if !chance_in_range(chance) {
         return Answer::Refused(CHANCE_REFUSAL);
     }
-    Answer::Limit(formula::figures(m, chance))
+    Answer::Limit(formula::figures(m, quantile))
 }
 
 fn form_known(form: u64) -> bool

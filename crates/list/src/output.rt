@@ -1,40 +1,49 @@
-// Standard output: the listing line by line, or the help that was asked for.
+// Standard output: the listing in pieces of many lines, or the help that was asked for.
 // Nothing but the listing's format goes there; what fails is said on standard error.
 ghost use mathlib.Core.Path.{_≡_};
 ghost use Rattle.listing.specs.Lines.{positionOf, step};
 use journal::Rule;
 use listing::Cursor;
 
-// Whether a line was written, and the cursor behind it.
+// Whether every write so far took all that it was handed, how many bytes wait in the room, and the cursor behind the line.
 struct Printed {
     written: bool,
+    waiting: usize,
     cursor: Cursor,
 }
 
-// The records' lines, and then that of the end state.
+// The records' lines, and then that of the end state. They are gathered, so that a write takes many.
 pub(crate) fn print_listing(v: &[u8], rule: Rule) {
+    let mut space = io::large_buffer();
+    let room: &mut [u8] = &mut space;
+    let mut waiting: usize = 0;
     let mut cursor = listing::start(v, rule);
     while cursor.left > 0 {
-        let printed = print_line(v, cursor);
+        let printed = print_line(v, cursor, room, waiting);
         if !printed.written {
             return;
         }
+        waiting = printed.waiting;
         cursor = printed.cursor;
     }
-    print_line(v, cursor);
+    let last = print_line(v, cursor, room, waiting);
+    if last.written {
+        arguments::flush(room, last.waiting, b"list: standard output");
+    }
 }
 
-// The next line.
-fn print_line(v: &[u8], cursor: Cursor) -> Printed
+// The next line, behind what waits in the room.
+fn print_line(v: &[u8], cursor: Cursor, room: &mut [u8], waiting: usize) -> Printed
     ensures { λ r. ⌜ positionOf (r .cursor) ≡ step (positionOf cursor) (now (v .entry)) .position ⌝ }
 {
     let mut out = [0u8; listing::MAX_LINE];
     let line = listing::next_line(v, cursor, &mut out);
     let size = line.size;
     let next = line.cursor;
-    let written = arguments::print(&out[..size], b"list: standard output");
+    let g = arguments::gather(room, waiting, &out[..size], b"list: standard output");
     Printed {
-        written,
+        written: g.written,
+        waiting: g.waiting,
         cursor: next,
     }
 }

@@ -39,14 +39,15 @@ moments-requires c κs = let g = gathered (c .before) in rw (g .sums) (times-pla
 returns-3 : tie.Need-returns-3
 unfolding meaning limitOf judge sumsOf figuresOf formulaOf momentsOf figuresFrom
 returns-3 c =
-    let known = c .before .before .before in
+    let known = c .before .before .before .before in
     let g = gathered known in
     rw (
       good-form (known .before .before .before .before .before),
       good-chance (known .before .before .before),
       g .inside,
       c .figures .ensures,
-      c .before .moments .ensures,
+      c .before .quantile-of .ensures,
+      c .before .before .moments .ensures,
       g .sums,
     )
 
@@ -71,6 +72,7 @@ limit-spec =
     (λ c κs. search needs)
     (λ c. search needs)
     moments-requires
+    (λ c κs. search needs)
     (λ c κs. search needs)
     (λ c. search needs)
     returns-3

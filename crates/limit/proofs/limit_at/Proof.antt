@@ -4,16 +4,16 @@ use mathlib.Core.Path.{_∙_, sym}
 use borrow.Author.Needs.{needs}
 use borrow.Author.Tests.{not-true, not-false}
 use Rattle.limit.specs.Answer.{meaning}
-use Rattle.limit.specs.Limit.{limitOfMoments}
+use Rattle.limit.specs.Limit.{limitOfQuantile}
 use Rattle.limit.proofs.limit_at.Statement.{statement}
 use Rattle.limit.proofs.limit_at.Tie as tie
 
 returns : tie.Need-returns
-unfolding meaning limitOfMoments
+unfolding meaning limitOfQuantile
 returns c = rw (sym (c .before .chance-in-range .ensures) ∙ not-true _ (c .if1 .taken))
 
 returns-2 : tie.Need-returns-2
-unfolding meaning limitOfMoments
+unfolding meaning limitOfQuantile
 returns-2 c = rw (sym (c .before .before .chance-in-range .ensures) ∙ not-false _ (c .before .if1 .left), c .figures .ensures)
 
 pub limit-at-spec : {M : Type 1} → statement M

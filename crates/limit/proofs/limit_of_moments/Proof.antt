@@ -1,18 +1,13 @@
--- `limit_of_moments` hands a refusal on, and else works the limit out.
+-- `limit_of_moments` works the quantile of the chance out first.
 -- Assumes nothing.
 use borrow.Author.Needs.{needs}
-use Rattle.limit.specs.Answer.{meaning, momentsMeaning}
 use Rattle.limit.specs.Limit.{limitOfMoments}
 use Rattle.limit.proofs.limit_of_moments.Statement.{statement}
 use Rattle.limit.proofs.limit_of_moments.Tie as tie
 
 returns : tie.Need-returns
-unfolding momentsMeaning limitOfMoments
-returns c = rw (c .before .before .m .given .1, c .limit-at .ensures)
-
-returns-2 : tie.Need-returns-2
-unfolding meaning momentsMeaning limitOfMoments
-returns-2 c = rw (c .before .m2 .given .1)
+unfolding limitOfMoments
+returns c = rw (c .limit-of-quantile .ensures, c .before .quantile-of .ensures)
 
 pub limit-of-moments-spec : {M : Type 1} → statement M
-limit-of-moments-spec = tie.close (tie.spec (λ c. search needs) (λ c κs. search needs) (λ c. search needs) returns returns-2)
+limit-of-moments-spec = tie.close (tie.spec (λ c κs. search needs) (λ c κs. search needs) returns)

@@ -2,7 +2,6 @@
 // The Rust's function of this name has other steps (docs/DIFFERENCES.md); each function here equals its definition in specs/Inverf.antt.
 ghost use mathlib.Core.Path.{_≡_};
 ghost use Rattle.pxfm.specs.Inverf.{sizeOf, withSign, fErfinv, fErfinvBits};
-use crate::double_double::DoubleDouble;
 use crate::err::inverfc;
 
 // The size of x. -0 is not below 0, so it is asked for by itself.
@@ -42,7 +41,7 @@ pub fn f_erfinv(x: f64) -> f64
         return with_sign(minus, 1.0 / 0.0);
     }
     if a < 1.0 {
-        let r = inverfc::erf_core(DoubleDouble::new(0.0, a)).to_f64();
+        let r = inverfc::erf_core_of(0.0, a);
         return with_sign(minus, r);
     }
     0.0 / 0.0

@@ -4,7 +4,7 @@ ghost use mathlib.Core.Path.{_≡_};
 ghost use mathlib.Core.Bool.{true, false};
 ghost use Prim.Native.Nat.{_<_};
 ghost use lib.Ieee.{binary64, toBits, eq, lt, le};
-ghost use Rattle.pxfm.specs.DoubleDouble.{one, mulAdd, mulAddF64};
+ghost use Rattle.pxfm.specs.DoubleDouble.{one, newOf, toF64, mulAdd, mulAddF64};
 ghost use Rattle.pxfm.specs.Argument.{tenth, threeQuarters, mirroredOf, coreArgument};
 ghost use Rattle.pxfm.specs.Rationals.{PlainRow, PlainRows10, pairOf, pairsOf10, at, p0p06To0p75, q0p06To0p75, pAsymptSmall, qAsymptSmall, pAsymptLong, qAsymptLong};
 ghost use Rattle.pxfm.specs.Rationals.{paired10, paired11, paired14, centredOf, inverf0p06To0p75, inverfAsymptSmall, inverfAsymptLong};
@@ -422,6 +422,15 @@ pub(crate) fn erf_core(x: DoubleDouble) -> DoubleDouble
     tail(x)
 }
 
+// The same of a pair's two doubles, made one double. Both inverse functions call it, so that it stays a function; pairs handed over in memory
+// would take longer (docs/DECISIONS.md 12).
+pub(crate) fn erf_core_of(lo: f64, hi: f64) -> f64
+    requires { ⌜ lt hi one ≡ true ⌝ }
+    ensures { λ r. ⌜ r ≡ toF64 (erfCore (newOf lo hi)) ⌝ }
+{
+    erf_core(DoubleDouble::new(lo, hi)).to_f64()
+}
+
 // Below 0.1.
 fn inverfc_extra_small(x: f64) -> DoubleDouble
     requires { ⌜ 0 < toBits binary64 x ⌝ }
@@ -472,7 +481,9 @@ fn central(x: f64) -> f64
     ensures { λ r. ⌜ r ≡ centralOf x ⌝ }
 {
     let dx = core_argument(x);
-    let r = erf_core(dx).to_f64();
+    let lo = dx.lo;
+    let hi = dx.hi;
+    let r = erf_core_of(lo, hi);
     r * sign(x)
 }
 

@@ -18,43 +18,53 @@ use Rattle.journal.proofs.record.name_part.Tie as tie
 chances-part-requires : tie.Need-chances-part-requires
 unfolding nameRule
 chances-part-requires c κs =
-    let read = c .before .before .before in
+    let told = c .before .before in
+    let read = told .before .before .before in
     let start = read .before .before in
     let a = start .args in
-    let x = c .before .x .given in
-    part-read (λ l. done l) nameSection nameRule name-ruled (a .at) (now (a .b)) (read .section-at .result)
-    (read .section-at .ensures) (x .0 .0) (x .0 .1 .0) (x .1) .known .inside (start .pre)
+    let x = told .before .x .given in (
+      part-read (λ l. done l) nameSection nameRule name-ruled (a .at) (now (a .b)) (read .section-at .result)
+          (read .section-at .ensures) (x .0 .0) (x .0 .1 .0) (x .1) .known .inside (start .pre .0),
+      start .pre .1,
+    )
 
 returns : tie.Need-returns
 unfolding nameRule nameStage
 returns c =
-    let read = c .before .before .before .before in
+    let told = c .before .before .before in
+    let read = told .before .before .before in
     let a = read .before .before .args in
-    let x = c .before .before .x .given in
+    let x = told .before .x .given in
     let k : List ℕ → Reader Record = λ name. chanceStage (a .head .form) (a .head .day) name in
     let p = part-read k nameSection nameRule name-ruled (a .at) (now (a .b)) (read .section-at .result)
-    (read .section-at .ensures) (x .0 .0) (x .0 .1 .0) (x .1) in
-    c .chances-part .ensures (p .xs) ∙ ap recordRead (p .goes)
+    (read .section-at .ensures) (x .0 .0) (x .0 .1 .0) (x .1) in (
+      c .chances-part .ensures .0 (p .xs) ∙ ap recordRead (p .goes),
+      c .chances-part .ensures .1,
+    )
 
 returns-2 : tie.Need-returns-2
 unfolding nameRule nameStage recordRead
 returns-2 c =
     let read = c .before .before in
     let a = read .before .before .args in
-    let k : List ℕ → Reader Record = λ name. chanceStage (a .head .form) (a .head .day) name in
-    ap recordRead
-    (part-short k nameSection nameRule name-ruled (a .at) (now (a .b)) (read .section-at .result) (read .section-at .ensures)
-    (c .enum-told .given .1))
+    let k : List ℕ → Reader Record = λ name. chanceStage (a .head .form) (a .head .day) name in (
+      ap recordRead
+          (part-short k nameSection nameRule name-ruled (a .at) (now (a .b)) (read .section-at .result) (read .section-at .ensures)
+          (c .enum-told .given .1)),
+      read .before .before .pre .1,
+    )
 
 returns-3 : tie.Need-returns-3
 unfolding nameRule nameStage recordRead
 returns-3 c =
     let read = c .before .before .before in
     let a = read .before .before .args in
-    let k : List ℕ → Reader Record = λ name. chanceStage (a .head .form) (a .head .day) name in
-    ap recordRead
-    (part-refused k nameSection nameRule name-ruled (a .at) (now (a .b)) (read .section-at .result) (read .section-at .ensures)
-    (c .before .x2 .given .0 .0) (c .before .x2 .given .1))
+    let k : List ℕ → Reader Record = λ name. chanceStage (a .head .form) (a .head .day) name in (
+      ap recordRead
+          (part-refused k nameSection nameRule name-ruled (a .at) (now (a .b)) (read .section-at .result) (read .section-at .ensures)
+          (c .before .x2 .given .0 .0) (c .before .x2 .given .1)),
+      read .before .before .pre .1,
+    )
 
 pub name-part-spec : {M : Type 1} → statement M
 name-part-spec =

@@ -31,48 +31,58 @@ unfolding recordRead
 returns c =
     let read = c .before .before .before .before .before in
     let a = read .before .before .args in
-    let known = c .before .before .before .x .given in
-    staged (a .last) (a .at) (now (a .b)) _
-    (form-falls (dayStage (asLast (a .last))) (a .last) (a .at) (now (a .b)) (read .field-at .result) (read .field-at .ensures)
-    (known .0 .0) (known .1) (c .if1 .taken))
+    let known = c .before .before .before .x .given in (
+      staged (a .last) (a .at) (now (a .b)) _
+          (form-falls (dayStage (asLast (a .last))) (a .last) (a .at) (now (a .b)) (read .field-at .result) (read .field-at .ensures)
+          (known .0 .0) (known .1) (c .if1 .taken)),
+      read .before .before .pre .1,
+    )
 
 day-part-requires : tie.Need-day-part-requires
 day-part-requires c κs =
-    let read = c .before .before .before .before .before in
+    let good = c .before .before in
+    let read = good .before .before .before .before .before in
     let start = read .before .before in
     let a = start .args in
-    let known = c .before .before .before .x .given in
+    let known = good .before .before .before .x .given in
     let v = field-value 2 plainForm sampleForm formRefusal (a .at) (now (a .b)) (omega arith)
     (read .field-at .result) (read .field-at .ensures) (known .0 .0) (known .1) in
-    omega (arith, v .there, start .pre)
+    (omega (arith, v .there, start .pre .0), start .pre .1)
 
 returns-2 : tie.Need-returns-2
 returns-2 c =
-    let read = c .before .before .before .before .before .before in
+    let good = c .before .before .before in
+    let read = good .before .before .before .before .before in
     let a = read .before .before .args in
-    let known = c .before .before .before .before .x .given in
-    c .day-part .ensures
-    ∙ staged (a .last) (a .at) (now (a .b)) _
-    (form-good (dayStage (asLast (a .last))) (a .last) (a .at) (now (a .b)) (read .field-at .result) (read .field-at .ensures)
-    (known .0 .0) (known .1) (c .before .if1 .left))
+    let known = good .before .before .before .x .given in (
+      c .day-part .ensures .0
+          ∙ staged (a .last) (a .at) (now (a .b)) _
+          (form-good (dayStage (asLast (a .last))) (a .last) (a .at) (now (a .b)) (read .field-at .result) (read .field-at .ensures)
+          (known .0 .0) (known .1) (good .if1 .left)),
+      c .day-part .ensures .1,
+    )
 
 returns-3 : tie.Need-returns-3
 unfolding recordRead
 returns-3 c =
     let read = c .before .before in
-    let a = read .before .before .args in
-    staged (a .last) (a .at) (now (a .b)) _
-    (form-short (dayStage (asLast (a .last))) (a .last) (a .at) (now (a .b)) (read .field-at .result) (read .field-at .ensures)
-    (c .enum-told .given .1))
+    let a = read .before .before .args in (
+      staged (a .last) (a .at) (now (a .b)) _
+          (form-short (dayStage (asLast (a .last))) (a .last) (a .at) (now (a .b)) (read .field-at .result) (read .field-at .ensures)
+          (c .enum-told .given .1)),
+      read .before .before .pre .1,
+    )
 
 returns-4 : tie.Need-returns-4
 unfolding recordRead
 returns-4 c =
     let read = c .before .before .before in
-    let a = read .before .before .args in
-    staged (a .last) (a .at) (now (a .b)) _
-    (form-refused (dayStage (asLast (a .last))) (a .last) (a .at) (now (a .b)) (read .field-at .result) (read .field-at .ensures)
-    (c .before .x2 .given .0 .0) (c .before .x2 .given .1))
+    let a = read .before .before .args in (
+      staged (a .last) (a .at) (now (a .b)) _
+          (form-refused (dayStage (asLast (a .last))) (a .last) (a .at) (now (a .b)) (read .field-at .result) (read .field-at .ensures)
+          (c .before .x2 .given .0 .0) (c .before .x2 .given .1)),
+      read .before .before .pre .1,
+    )
 
 pub record-at-spec : {M : Type 1} → statement M
 record-at-spec =

@@ -1,4 +1,4 @@
--- `print_line` lends out what the line takes of its buffer, and hands the cursor on.
+-- `print_line` lends out what the line takes of its buffer, to be gathered, and hands the cursor on.
 -- Assumes nothing.
 use mathlib.Core.Path.{sym}
 use borrow.Author.Needs.{needs}
@@ -8,11 +8,11 @@ use Rattle.list.proofs.output.print_line.Statement.{statement}
 use Rattle.list.proofs.output.print_line.Tie as tie
 
 array-share-prefix-out : tie.Need-array-share-prefix-out
-array-share-prefix-out c = line-inside _ _ _ _ (c .before .before .next-line .ensures)
+array-share-prefix-out c = line-inside _ _ _ _ (c .before .before .before .next-line .ensures)
 
-slice-aggregate-print : tie.Need-slice-aggregate-print
-slice-aggregate-print c =
-    let line = c .before .before .before .next-line in
+slice-aggregate-gather : tie.Need-slice-aggregate-gather
+slice-aggregate-gather c =
+    let line = c .before .before .before .before .next-line in
     sym (length-take-le (line .result .size) _ (line-inside _ _ _ _ (line .ensures)))
 
 pub print-line-spec : {M : Type 1} → statement M
@@ -22,7 +22,8 @@ print-line-spec =
     (λ c. search needs)
     (λ c κs. search needs)
     array-share-prefix-out
-    slice-aggregate-print
+    slice-aggregate-gather
     (λ c. search needs)
     (λ c κs. search needs)
+    (λ c. search needs)
     (λ c. search needs))

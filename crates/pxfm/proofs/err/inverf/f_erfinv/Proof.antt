@@ -1,5 +1,5 @@
 -- `f_erfinv`: the tests are the definition's, but that a size below 1 is asked for before one beyond it: the same by `below-one-within` and
--- `past-one-beyond`. A size below 1 is what `erf_core` requires. 1 / 0 and 0 / 0 are computed to be the infinity and the NaN. Assumes nothing.
+-- `past-one-beyond`. A size below 1 is what `erf_core_of` requires. 1 / 0 and 0 / 0 are computed to be the infinity and the NaN. Assumes nothing.
 use mathlib.Core.Path.{_≡_}
 use mathlib.Core.Bool.{true, false}
 use lib.Ieee.{ofBits, eq, div}
@@ -31,23 +31,21 @@ returns-2 : tie.Need-returns-2
 unfolding fErfinv withSign div ofBits
 returns-2 c = rw (c .with-sign .ensures, c .before .before .before .if1 .left, at-one (c .before))
 
-erf-core-requires : tie.Need-erf-core-requires
-erf-core-requires c κs = rw (c .new .ensures) (c .before .if3 .taken)
+erf-core-of-requires : tie.Need-erf-core-of-requires
+erf-core-of-requires c κs = c .if3 .taken
 
 returns-3 : tie.Need-returns-3
 unfolding fErfinv
 returns-3 c =
-    let n = c .before .before .before in
-    let s = n .before .before .before in
+    let t = c .before .before in
+    let s = t .before .before in
     rw (
       c .with-sign2 .ensures,
-      c .before .to-f64 .ensures,
-      c .before .before .erf-core .ensures,
-      n .new .ensures,
+      c .before .erf-core-of .ensures,
       s .size .ensures,
       s .before .if1 .left,
-      not-one (n .before .before),
-      within (n .before),
+      not-one (t .before),
+      within t,
     )
 
 returns-4 : tie.Need-returns-4
@@ -55,4 +53,4 @@ unfolding fErfinv div ofBits
 returns-4 c = rw (c .before .before .before .if1 .left, not-one (c .before), beyond c)
 
 pub f-erfinv-spec : {M : Type 1} → statement M
-f-erfinv-spec = tie.close (tie.spec returns ok ok returns-2 ok erf-core-requires ok ok returns-3 returns-4)
+f-erfinv-spec = tie.close (tie.spec returns ok ok returns-2 erf-core-of-requires ok returns-3 returns-4)
