@@ -86,12 +86,21 @@ int main()
     const std::vector<std::uint32_t> sheet = {1, 10, 100, 1000};
     const std::vector<std::uint32_t> links(32, 100);
     Answer p;
+    std::vector<std::uint8_t> index(9);
     journal_append_with(controllers.bytes.data(), controllers.bytes.size(), 0, 5, reinterpret_cast<const std::uint8_t *>("A"), 1, sheet.data(),
-        sheet.size(), links.data(), 31, JOURNAL_MAX_RECORD, JOURNAL_PROFILE, p.word);
+        sheet.size(), links.data(), 31, JOURNAL_MAX_RECORD, index.data(), index.size(), JOURNAL_PROFILE, p.word);
     say("profile", p.word[1], AWAQLLA_REFUSAL_PROFILE);
     journal_append_with(controllers.bytes.data(), controllers.bytes.size(), 0, 5, reinterpret_cast<const std::uint8_t *>("A"), 1, sheet.data(),
-        sheet.size(), links.data(), 32, JOURNAL_MAX_RECORD, JOURNAL_PROFILE, p.word);
+        sheet.size(), links.data(), 32, JOURNAL_MAX_RECORD, index.data(), index.size(), JOURNAL_PROFILE, p.word);
     say("a record of the profile", p.word[1], 189);
+    journal_append_with(controllers.bytes.data(), controllers.bytes.size(), 189, 5, reinterpret_cast<const std::uint8_t *>("A"), 1, sheet.data(),
+        sheet.size(), links.data(), 32, JOURNAL_MAX_RECORD, index.data(), index.size(), JOURNAL_INDEX | JOURNAL_PROFILE, p.word);
+    say("index", p.word[1], AWAQLLA_REFUSAL_INDEX);
+    journal_index(controllers.bytes.data(), controllers.bytes.size(), 189, index.data(), index.size(), p.word);
+    say("an index of one name", p.word[1], 9);
+    journal_append_with(controllers.bytes.data(), controllers.bytes.size(), 189, 5, reinterpret_cast<const std::uint8_t *>("B"), 1, sheet.data(),
+        sheet.size(), links.data(), 32, JOURNAL_MAX_RECORD, index.data(), index.size(), JOURNAL_INDEX | JOURNAL_PROFILE, p.word);
+    say("index room", p.word[1], AWAQLLA_REFUSAL_INDEX_ROOM);
     journal_profile_scan(volume.bytes.data(), volume.bytes.size(), volume.length, p.word);
     say("a standing record", p.word[1], AWAQLLA_REFUSAL_PROFILE);
     Volume forms;

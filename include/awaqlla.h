@@ -1,6 +1,6 @@
 /* What the archive of the crate capi exports (rt staticlib capi writes target/staticlib/libcapi.a), for C and C++.
    Doubles go as bit patterns; a NaN comes out as 7ff8000000000000. Every argument is answered or refused.
-   What a call writes to (v of the appends, c of the merge, every out) overlaps nothing else that the call is handed.
+   What a call writes to (v and index of the appends, index of journal_index, c of the merge, every out) overlaps nothing else that the call is handed.
    A pointer must not be NULL, even where its length is 0.
    No function keeps anything between calls, so any number of threads may call at once, as long as none writes to what another uses. */
 #ifndef AWAQLLA_H
@@ -18,31 +18,34 @@ extern "C" {
 #define JOURNAL_MAX_LINE 267     /* the most bytes of a line of the listing, with its line end */
 
 /* The first number of an answer: of the limit, of the band, of a scan, of an append, which may answer JOURNAL_DAMAGED too, and
-   through a log JOURNAL_DECLINED_AT, for a line of it; and of a merge. */
+   through a log JOURNAL_DECLINED_AT, for a line of it; of an index made, which may answer JOURNAL_DECLINED and JOURNAL_DAMAGED too; and of a merge. */
 enum { LIMIT_ANSWERED = 0, LIMIT_REFUSED = 1 };
 enum { BAND_ANSWERED = 0, BAND_REFUSED = 1 };
 enum { JOURNAL_WHOLE = 0, JOURNAL_TORN = 1, JOURNAL_DAMAGED = 2 };
 enum { JOURNAL_EXTENDED = 0, JOURNAL_DECLINED = 1, JOURNAL_DECLINED_AT = 3 };
+enum { JOURNAL_INDEXED = 0 };
 enum { MERGE_DONE = 0, MERGE_DECLINED = 1, MERGE_INPUT_DAMAGED = 2, MERGE_INPUT_TORN = 3 };
 
 /* The refusals' numbers (docs/DEFINITION.md, section 10; SHARE 8.1). 8 was that of a limit not finite, which there is none; it is not used again. */
 enum {
-    AWAQLLA_REFUSAL_LENGTH = 1,    /* the length is beyond the slice or JOURNAL_MAX_LENGTH */
-    AWAQLLA_REFUSAL_FORM = 2,      /* a form other than 1 and 2 */
-    AWAQLLA_REFUSAL_DAY = 3,       /* a day before that of the record before */
-    AWAQLLA_REFUSAL_NAME = 4,      /* a name has 1 to 32 bytes, each 0x21 to 0x7e */
-    AWAQLLA_REFUSAL_CHANCES = 5,   /* 1 to 8 chances, rising, each 1 to 999,999 in a million */
-    AWAQLLA_REFUSAL_TIMES = 6,     /* 2 to 128 times, each 1 to 1,048,575 ticks */
-    AWAQLLA_REFUSAL_LIMIT = 7,     /* the limits' count, or the bits of one that does not come out again */
-    AWAQLLA_REFUSAL_ROOM = 9,      /* the record ends beyond the slice or JOURNAL_MAX_LENGTH */
-    AWAQLLA_REFUSAL_ABSENT = 10,   /* there are not so many records */
-    AWAQLLA_REFUSAL_LINE = 11,     /* a line of the log not of its shape or range */
-    AWAQLLA_REFUSAL_MANY = 12,     /* a 129th line of the name */
-    AWAQLLA_REFUSAL_OLD_FORM = 13, /* form 1 after a record of form 2 */
-    AWAQLLA_REFUSAL_TORN = 16,     /* an input of a merge ends torn */
-    AWAQLLA_REFUSAL_EVEN = 17,     /* an offered chance above 500,000 in a million */
-    AWAQLLA_REFUSAL_SHARE = 18,    /* a band's share, 1 to 999,999 in a million */
-    AWAQLLA_REFUSAL_PROFILE = 19   /* a record breaks the profile for safety controllers */
+    AWAQLLA_REFUSAL_LENGTH = 1,      /* the length is beyond the slice or JOURNAL_MAX_LENGTH */
+    AWAQLLA_REFUSAL_FORM = 2,        /* a form other than 1 and 2 */
+    AWAQLLA_REFUSAL_DAY = 3,         /* a day before that of the record before */
+    AWAQLLA_REFUSAL_NAME = 4,        /* a name has 1 to 32 bytes, each 0x21 to 0x7e */
+    AWAQLLA_REFUSAL_CHANCES = 5,     /* 1 to 8 chances, rising, each 1 to 999,999 in a million */
+    AWAQLLA_REFUSAL_TIMES = 6,       /* 2 to 128 times, each 1 to 1,048,575 ticks */
+    AWAQLLA_REFUSAL_LIMIT = 7,       /* the limits' count, or the bits of one that does not come out again */
+    AWAQLLA_REFUSAL_ROOM = 9,        /* the record ends beyond the slice or JOURNAL_MAX_LENGTH */
+    AWAQLLA_REFUSAL_ABSENT = 10,     /* there are not so many records */
+    AWAQLLA_REFUSAL_LINE = 11,       /* a line of the log not of its shape or range */
+    AWAQLLA_REFUSAL_MANY = 12,       /* a 129th line of the name */
+    AWAQLLA_REFUSAL_OLD_FORM = 13,   /* form 1 after a record of form 2 */
+    AWAQLLA_REFUSAL_INDEX = 14,      /* the index handed is not the journal's */
+    AWAQLLA_REFUSAL_INDEX_ROOM = 15, /* its buffer cannot hold the index: made afresh, or with the record finished */
+    AWAQLLA_REFUSAL_TORN = 16,       /* an input of a merge ends torn */
+    AWAQLLA_REFUSAL_EVEN = 17,       /* an offered chance above 500,000 in a million */
+    AWAQLLA_REFUSAL_SHARE = 18,      /* a band's share, 1 to 999,999 in a million */
+    AWAQLLA_REFUSAL_PROFILE = 19     /* a record breaks the profile for safety controllers */
 };
 
 /* The square root, correctly rounded. */
@@ -104,16 +107,27 @@ void journal_append_log(uint8_t *v, size_t size, size_t len, uint16_t day, const
 void journal_append_log_upto(uint8_t *v, size_t size, size_t len, uint16_t day, const uint8_t *name, size_t name_len,
     const uint32_t *chances, size_t chances_len, const uint8_t *log, size_t log_len, size_t budget, uint64_t out[3]);
 
-/* The same two calls with all that an append may be handed. options: JOURNAL_PROFILE asks for the profile: the journal is judged as by
-   journal_profile_scan, and an offered record that breaks the profile is declined by PROFILE, after TIMES and before ROOM; 0 asks for none. Other
+/* The index of the records that stand in the journal that fills the first len bytes of the size bytes at v, made afresh at the front of the index_size
+   bytes at index: little-endian, a count of two bytes, then an entry for each name shown, rising by name bytes, each a count of two bytes, the name, and
+   the start of the name's last record in four bytes. {JOURNAL_INDEXED, length of the index, 0}; {JOURNAL_DECLINED, INDEX_ROOM, 0}; or {JOURNAL_DAMAGED,
+   refusal, place} as scan's. Only an index that is made changes a byte of the buffer, and none behind the index. out points to three places. */
+void journal_index(const uint8_t *v, size_t size, size_t len, uint8_t *index, size_t index_size, uint64_t out[3]);
+
+/* The append of times and the one through a log with all that an append may be handed. options, added: JOURNAL_INDEX hands the index in the index_size
+   bytes at index: an index that is not the journal's is declined by INDEX, and then a buffer that cannot hold the one with the record finished by INDEX_ROOM,
+   both after ROOM; where the record is finished the index has it, as one made afresh would; a call that is declined or that the budget cuts leaves the buffer.
+   Bytes behind the index are not judged and stay. JOURNAL_PROFILE asks for the profile: the journal is judged as by journal_profile_scan, and an offered
+   record that breaks the profile is declined by PROFILE, after TIMES and before ROOM. 0 asks for neither, and the bytes at index are not looked at. Other
    options are not looked at. A budget beyond the record is all of it. */
-enum { JOURNAL_PROFILE = 2 };
+enum { JOURNAL_INDEX = 1, JOURNAL_PROFILE = 2 };
 
 void journal_append_with(uint8_t *v, size_t size, size_t len, uint16_t day, const uint8_t *name, size_t name_len,
-    const uint32_t *chances, size_t chances_len, const uint32_t *times, size_t times_len, size_t budget, uint32_t options, uint64_t out[3]);
+    const uint32_t *chances, size_t chances_len, const uint32_t *times, size_t times_len, size_t budget,
+    uint8_t *index, size_t index_size, uint32_t options, uint64_t out[3]);
 
 void journal_append_log_with(uint8_t *v, size_t size, size_t len, uint16_t day, const uint8_t *name, size_t name_len,
-    const uint32_t *chances, size_t chances_len, const uint8_t *log, size_t log_len, size_t budget, uint32_t options, uint64_t out[3]);
+    const uint32_t *chances, size_t chances_len, const uint8_t *log, size_t log_len, size_t budget,
+    uint8_t *index, size_t index_size, uint32_t options, uint64_t out[3]);
 
 /* Line i, counted from 0, of the listing of the journal that is all of the len bytes at v: a line for each record, then the end state's, each
    with its line end. As much of it as there is room for is written to the size bytes at out; the answer is how many bytes those are,

@@ -1,9 +1,10 @@
-// The journal against rust/reference: scan and reading's two calls over random and altered bytes, histories of appends, logs, and merges.
+// The journal against rust/reference: scan and reading's two calls over random and altered bytes, histories of appends, logs, indexes, and merges.
 // The lines at the end say how often each kind of answer came.
 
 mod alter;
 mod histories;
 mod history;
+mod indexes;
 mod logs;
 mod merges;
 mod reading;
@@ -21,6 +22,7 @@ pub fn compare(options: &Options, totals: &mut Totals) {
     if options.runs("histories") {
         histories::compare(options, totals);
         logs::compare(options, totals);
+        indexes::compare(options, totals);
     }
     if options.runs("merges") {
         merges::compare(options, totals);

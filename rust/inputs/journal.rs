@@ -39,6 +39,20 @@ pub const CHANCES: [u32; 9] = [
 pub const TIME_COUNTS: [u16; 7] = [0, 1, 2, 128, 129, 0x200, u16::MAX];
 pub const TIMES: [u32; 6] = [0, 1, 1_048_575, 1_048_576, 0x1_000_000, u32::MAX];
 
+/// Few names, of which some begin others and two are as long as can be.
+pub const NAMES: [&[u8]; 10] = [
+    b"a",
+    b"aa",
+    b"ab",
+    b"b",
+    b"a!",
+    b"a~",
+    b"!",
+    b"~",
+    b"aaaaaaaaaaaaaaaaaaaaaaaaaaaaaaaa",
+    b"aaaaaaaaaaaaaaaaaaaaaaaaaaaaaaab",
+];
+
 /// The chances of the profile (document 02, 2026-14), the fewest times of it, and chances that are nearly those.
 pub const PROFILE: [u32; 4] = [1, 10, 100, 1_000];
 pub const PROFILE_TIMES: usize = 32;

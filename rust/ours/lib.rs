@@ -110,14 +110,15 @@ pub struct Offer<'a> {
     pub times: &'a [u32],
 }
 
-/// What `journal_append_with` and `journal_append_log_with` are asked besides: to go by the profile.
+/// What `journal_append_with` and `journal_append_log_with` are asked besides: an index is handed; to go by the profile.
+pub const INDEX: u32 = 1;
 pub const PROFILE: u32 = 2;
 
 /// A C function of append over an offer: with a log in place of its times or not, with a budget or not, with options or not.
 macro_rules! append {
     (
         $(#[$said:meta])*
-        $name:ident($offer:ident $(, $log:ident)? $(; $budget:ident $(, $options:ident)?)?),
+        $name:ident($offer:ident $(, $log:ident)? $(; $budget:ident $(, $index:ident, $options:ident)?)?),
         $times:expr => $item:ty
     ) => {
         $(#[$said])*
@@ -126,7 +127,7 @@ macro_rules! append {
             len: usize,
             $offer: Offer,
             $($log: &[u8],)?
-            $($budget: usize, $($options: u32)?)?
+            $($budget: usize, $($index: &mut [u8], $options: u32)?)?
         ) -> [u64; 3] {
             unsafe extern "C" {
                 fn $name(
@@ -140,7 +141,7 @@ macro_rules! append {
                     chances_len: usize,
                     times: *const $item,
                     times_len: usize,
-                    $($budget: usize, $($options: u32,)?)?
+                    $($budget: usize, $($index: *mut u8, index_size: usize, $options: u32,)?)?
                     out: *mut [u64; 3],
                 );
             }
@@ -160,7 +161,7 @@ macro_rules! append {
                     chances.len(),
                     times.as_ptr(),
                     times.len(),
-                    $($budget, $($options,)?)?
+                    $($budget, $($index.as_mut_ptr(), $index.len(), $options,)?)?
                     &mut out,
                 )
             };
@@ -179,7 +180,7 @@ append! {
 }
 append! {
     /// The same with options.
-    journal_append_with(offer; budget, options), offer.times => u32
+    journal_append_with(offer; budget, index, options), offer.times => u32
 }
 append! {
     /// The append through a log: as above, or {3, number, place in the log}. The offer's times are not looked at.
@@ -191,7 +192,34 @@ append! {
 }
 append! {
     /// The same with options.
-    journal_append_log_with(offer, log; budget, options), log => u8
+    journal_append_log_with(offer, log; budget, index, options), log => u8
+}
+
+/// The index made afresh at a buffer's front: {0, length, 0}, {1, 15, 0} or {2, number, place}.
+pub fn journal_index(v: &[u8], len: usize, index: &mut [u8]) -> [u64; 3] {
+    unsafe extern "C" {
+        fn journal_index(
+            v: *const u8,
+            size: usize,
+            len: usize,
+            index: *mut u8,
+            index_size: usize,
+            out: *mut [u64; 3],
+        );
+    }
+    let mut out = [u64::MAX; 3];
+    // Each pointer and the length behind it are those of a slice, and out has its three places.
+    unsafe {
+        journal_index(
+            v.as_ptr(),
+            v.len(),
+            len,
+            index.as_mut_ptr(),
+            index.len(),
+            &mut out,
+        )
+    };
+    out
 }
 
 /// Two journals, each a slice and its length in it, merged into a third buffer: {0, length, 0, 0}, {1, 9, 0, 0}, {1, 13, place, 0},

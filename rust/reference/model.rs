@@ -1,7 +1,9 @@
 // Document 01, Book of demand 3: what a list of calls should have made, fed the calls' arguments and the slice's length alone;
 // and append on any slice, which surveys it first. New records are form 2 and have chances up to 500,000 (document 02, 2026-04, 2026-10);
-// their times may come from a log, which is judged before all else (2026-01), and a profile call takes profile volumes and leaves alone (2026-14).
+// their times may come from a log, which is judged before all else (2026-01), a profile call takes profile volumes and leaves alone (2026-14),
+// and an index that is handed is judged last and amended (2026-08).
 
+use crate::index::{amend, index_of, name_of, Named, NO_ROOM};
 use crate::limit::{chance_fits, count_fits, time_fits, Form, LAST_OFFERED};
 use crate::log::{gather, Refused};
 use crate::profile::{Rule, BREAKS};
@@ -100,31 +102,57 @@ impl Model {
         self.len() == 0
     }
 
-    /// A call, its answer, and the model after it.
-    pub fn call(&mut self, slice_len: usize, request: &Request) -> Answer {
-        let offer = match request.offered() {
-            Ok(offer) => offer,
-            Err(refused) => return Answer::DeclinedAt(refused),
-        };
+    /// A call, its answer, and the model and the index's buffer, if it is handed, after it.
+    pub fn call(
+        &mut self,
+        slice_len: usize,
+        request: &Request,
+        index: Option<&mut [u8]>,
+    ) -> Answer {
+        settled(self.try_call(slice_len, request, index))
+    }
+
+    fn try_call(
+        &mut self,
+        slice_len: usize,
+        request: &Request,
+        index: Option<&mut [u8]>,
+    ) -> Result<usize, Answer> {
+        let offer = request.offered().map_err(Answer::DeclinedAt)?;
         if let Some(place) = self.fault(request.rule) {
-            return Answer::Damaged {
-                number: BREAKS,
-                place,
-            };
+            let number = BREAKS;
+            return Err(Answer::Damaged { number, place });
         }
         let (committed, last_day) = (self.committed(), self.entries.last().map(|e| e.day));
-        let record = match record_of(&offer, request.rule, last_day, committed, slice_len) {
-            Ok(record) => record,
-            Err(number) => return Answer::Declined(number),
-        };
+        let record = record_of(&offer, request.rule, last_day, committed, slice_len)
+            .map_err(Answer::Declined)?;
         let bytes = record.bytes();
         let written = request.written(bytes.len());
-        if written < bytes.len() {
-            self.tail = bytes[..written].to_vec();
-        } else {
-            self.push(&record);
+        let finished = written == bytes.len();
+        if let Some(buffer) = index {
+            let with_record = index_of(self.names().chain([(&record.name[..], committed)]));
+            amend(buffer, &self.index(), &with_record, finished).map_err(Answer::Declined)?;
         }
-        Answer::Length(self.len())
+        if finished {
+            self.push(&record);
+        } else {
+            self.tail = bytes[..written].to_vec();
+        }
+        Ok(self.len())
+    }
+
+    /// Each record's name and start.
+    pub fn names(&self) -> impl Iterator<Item = Named<'_>> {
+        let starts = self.entries.iter().map(|entry| entry.start);
+        self.records
+            .iter()
+            .map(|record| name_of(record))
+            .zip(starts)
+    }
+
+    /// Its index.
+    pub fn index(&self) -> Vec<u8> {
+        index_of(self.names())
     }
 
     /// The first byte of the first record that stands and breaks the rule.
@@ -196,25 +224,68 @@ fn chances_fit(chances: &[u32]) -> bool {
     (1..=8).contains(&chances.len()) && chances.iter().all(|chance| chance_fits(*chance)) && rising
 }
 
-/// A call on the first `len` bytes of any slice: its answer, and the slice's bytes after it. The log is read before the journal.
-pub fn append(slice: &mut [u8], len: usize, request: &Request) -> Answer {
-    let offer = match request.offered() {
-        Ok(offer) => offer,
-        Err(refused) => return Answer::DeclinedAt(refused),
-    };
-    let (status, entries) = scan_all(request.rule, slice, len);
-    let committed = match status {
-        Status::Damaged { number, place } => return Answer::Damaged { number, place },
-        Status::Whole { committed, .. } | Status::Torn { committed, .. } => committed,
-    };
+/// A call on the first `len` bytes of any slice: its answer, and the slice's bytes and those of the index's buffer after it. The log is read
+/// before the journal.
+pub fn append(slice: &mut [u8], len: usize, request: &Request, index: Option<&mut [u8]>) -> Answer {
+    settled(try_append(slice, len, request, index))
+}
+
+fn try_append(
+    slice: &mut [u8],
+    len: usize,
+    request: &Request,
+    index: Option<&mut [u8]>,
+) -> Result<usize, Answer> {
+    let offer = request.offered().map_err(Answer::DeclinedAt)?;
+    let (committed, entries) = standing(request.rule, slice, len)?;
     let last_day = entries.last().map(|entry| entry.day);
-    match record_of(&offer, request.rule, last_day, committed, slice.len()) {
-        Err(number) => Answer::Declined(number),
-        Ok(record) => {
-            let bytes = record.bytes();
-            let written = request.written(bytes.len());
-            slice[committed..committed + written].copy_from_slice(&bytes[..written]);
-            Answer::Length(committed + written)
+    let record = record_of(&offer, request.rule, last_day, committed, slice.len())
+        .map_err(Answer::Declined)?;
+    let bytes = record.bytes();
+    let written = request.written(bytes.len());
+    if let Some(buffer) = index {
+        let names = names_in(slice, &entries);
+        let before = index_of(names.iter().copied());
+        let with_record = index_of(names.into_iter().chain([(&record.name[..], committed)]));
+        amend(buffer, &before, &with_record, written == bytes.len()).map_err(Answer::Declined)?;
+    }
+    slice[committed..committed + written].copy_from_slice(&bytes[..written]);
+    Ok(committed + written)
+}
+
+/// The index of the journal in the first `len` bytes of a slice, made afresh at a buffer's front: its length, as survey declines, or no room.
+pub fn make_index(slice: &[u8], len: usize, buffer: &mut [u8]) -> Answer {
+    settled(try_index(slice, len, buffer))
+}
+
+fn try_index(slice: &[u8], len: usize, buffer: &mut [u8]) -> Result<usize, Answer> {
+    let (_, entries) = standing(Rule::Plain, slice, len)?;
+    let index = index_of(names_in(slice, &entries).into_iter());
+    let front = buffer.get_mut(..index.len());
+    front
+        .ok_or(Answer::Declined(NO_ROOM))?
+        .copy_from_slice(&index);
+    Ok(index.len())
+}
+
+/// The committed length and the records that stand, or the fault.
+fn standing(rule: Rule, slice: &[u8], len: usize) -> Result<(usize, Vec<Entry>), Answer> {
+    let (status, entries) = scan_all(rule, slice, len);
+    match status {
+        Status::Damaged { number, place } => Err(Answer::Damaged { number, place }),
+        Status::Whole { committed, .. } | Status::Torn { committed, .. } => {
+            Ok((committed, entries))
         }
     }
+}
+
+/// Each record's name and start.
+fn names_in<'a>(slice: &'a [u8], entries: &[Entry]) -> Vec<Named<'a>> {
+    let name = |entry: &Entry| (name_of(&slice[entry.start..]), entry.start);
+    entries.iter().map(name).collect()
+}
+
+/// A length, or what stands in its way.
+fn settled(result: Result<usize, Answer>) -> Answer {
+    result.map_or_else(|refused| refused, Answer::Length)
 }

@@ -104,6 +104,17 @@ pub fn full(random: &mut Random, draw: impl Fn(&mut Random) -> usize) -> Vec<u8>
     filling(random, MAX_LENGTH, draw)
 }
 
+/// The smallest record of a name, on day 7.
+pub fn smallest(name: &[u8]) -> Record {
+    Record::new(Form::Sample, 7, name, &[1_000], &[90, 110])
+}
+
+/// Name i of 8,836, which are all that two bytes can be, in no order.
+pub fn two_byte_name(i: usize) -> [u8; 2] {
+    let n = i * 3_331 % 8_836;
+    [n / 94, n % 94].map(|digit| 0x21 + digit as u8)
+}
+
 pub fn joined(records: &[Record]) -> Vec<u8> {
     records.iter().flat_map(Record::bytes).collect()
 }

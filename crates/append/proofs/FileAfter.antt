@@ -3,6 +3,7 @@
 use mathlib.Core.Path.{_≡_, refl, sym, ap, _∙_}
 use Prim.Native.Nat.{ℕ, _-_, _<_}
 use mathlib.Core.List.{List, _++_}
+use mathlib.Core.Option.{Option}
 use native.Mathlib.Omega.{arith}
 use lib.ListN.{take, drop}
 use lib.Seq.{take-take}
@@ -13,16 +14,16 @@ use Rattle.journal_spec.specs.Request.{Offer, extended, Outcome}
 use Rattle.journal_spec.specs.Append.{offered}
 use Rattle.journal_spec.proofs.Writing.{written-nil}
 use Rattle.journal_spec.proofs.Placing.{written-take}
-use Rattle.journal.specs.Answers.{outcomeOf}
 use Rattle.append.specs.declared.extend.Extension.{Extension}
-use Rattle.append.specs.Extension.{committedIn, startIn, endIn, partIn, appendAll, Extends}
+use Rattle.append.specs.Extension.{committedIn, startIn, endIn, partIn, appendAll, outcomeWith, Extends}
 use Rattle.append.proofs.WrittenPart.{Extended, append-extended, offered-length, Unwritten, empty}
 
-module _ (slice : List ℕ) (len : ℕ) (rule : Rule) (o : Offer) (r : Extension) (after : List ℕ) (x : Extends slice len rule o r after) where
+module _ (slice : List ℕ) (len : ℕ) (rule : Rule) (o : Offer) (i : Option (List ℕ)) (r : Extension) (after : List ℕ) (k : Option (List ℕ))
+    (x : Extends slice len rule o i r after k) where
   -- ---- where the append extends the journal
-  module _ (n : ℕ) (told : appendAll slice len rule o .answer ≡ extended n) where
-    all : Extended slice len rule o n (appendAll slice len rule o .journal .slice)
-    all = append-extended slice len rule o n told
+  module _ (n : ℕ) (told : appendAll slice len rule o i .answer ≡ extended n) where
+    all : Extended slice len rule o n (appendAll slice len rule o i .journal .slice)
+    all = append-extended slice len rule o i n told
 
     pub part-starts : r .start ≡ committedIn (scanOf rule slice len)
     unfolding startIn
@@ -42,14 +43,14 @@ module _ (slice : List ℕ) (len : ℕ) (rule : Rule) (o : Offer) (r : Extension
 
     -- the file held the journal; cut at the part's start, with the part behind it, it holds the journal of the new length
     pub file-after : take (r .start) (take len slice) ++ take (r .end - r .start) (drop (r .start) after) ≡ take n after
-    unfolding outcomeOf
+    unfolding outcomeWith
     file-after =
-        let same : after ≡ appendAll slice len rule o .journal .slice = ap (λ (y : Outcome). y .journal .slice) (x .outcome) in
+        let same : after ≡ appendAll slice len rule o i .journal .slice = ap (λ (y : Outcome). y .journal .slice) (x .outcome) in
         rw (part-is-record, part-starts, take-take _ _ slice (all .kept), same ∙ all .bytes, all .place)
         (sym (written-take slice _ (recordBytes (offered o)) (omega (arith, all .place, all .room))))
 
   -- ---- where it is declined or the journal is damaged
-  pub nothing-written : Unwritten (appendAll slice len rule o .answer) → (r .start ≡ r .end) × (after ≡ slice)
+  pub nothing-written : Unwritten (appendAll slice len rule o i .answer) → (r .start ≡ r .end) × (after ≡ slice)
   nothing-written u =
-      let none = empty (scanOf rule slice len) o (appendAll slice len rule o .answer) u in
+      let none = empty (scanOf rule slice len) o (appendAll slice len rule o i .answer) u in
       (x .starts ∙ none .starts ∙ sym (x .ends ∙ none .ends), x .rest ∙ rw (none .part) (written-nil slice (r .start)))

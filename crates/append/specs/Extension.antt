@@ -3,6 +3,8 @@
 use mathlib.Core.Path.{_≡_}
 use Prim.Native.Nat.{ℕ, _-_}
 use mathlib.Core.List.{List, []}
+use mathlib.Core.Bool.{Bool, true, false}
+use mathlib.Core.Option.{Option, none, some}
 use lib.ListN.{take, drop}
 use Rattle.journal_spec.specs.Record.{recordBytes}
 use Rattle.journal_spec.specs.Profile.{Rule}
@@ -10,7 +12,8 @@ use Rattle.journal_spec.specs.Scan.{ScanResult, whole, torn, damaged, scanOf}
 use Rattle.journal_spec.specs.Request.{all, Request, Offer, AppendResult, extended, declined, Outcome}
 use Rattle.journal_spec.specs.Request as Request
 use Rattle.journal_spec.specs.Append.{offered, written, appendOf}
-use Rattle.journal.specs.Answers.{outcomeOf}
+use Rattle.journal.specs.Answers.{appendMeaning, lengthAfter}
+use Rattle.journal.specs.declared.Appended.{Appended}
 use Rattle.append.specs.declared.extend.Extension.{Extension}
 
 -- the committed length that a scan answers; 0 where the journal is damaged
@@ -40,25 +43,36 @@ partIn o (declined n) = []
 partIn o (Request.declinedAt n p) = []
 partIn o (Request.damaged n p) = []
 
--- the request of all of an offered record by a rule, and what an append of it comes to
-abbrev pub allOf : Rule → Offer → Request
-allOf rule o = record {
+-- an index's buffer, where one is kept
+unfoldable pub handed : Bool → List ℕ → Option (List ℕ)
+handed true b = some b
+handed false b = none
+
+-- the request of all of an offered record by a rule, with an index or none, and what an append of it comes to
+abbrev pub allOf : Rule → Offer → Option (List ℕ) → Request
+allOf rule o index = record {
   day = o .day;
   name = o .name;
   chances = o .chances;
   source = Request.times (o .times);
   budget = all;
   rule = rule;
+  index = index;
 }
 
-abbrev pub appendAll : List ℕ → ℕ → Rule → Offer → Outcome
-appendAll slice len rule o = appendOf (record { slice = slice; len = len }) (allOf rule o)
+abbrev pub appendAll : List ℕ → ℕ → Rule → Offer → Option (List ℕ) → Outcome
+appendAll slice len rule o index = appendOf (record { slice = slice; len = len }) (allOf rule o index)
 
--- The answer and the slice after it are append's; start and end are those of the written part; the part of the slice after from start to
--- end is the record's bytes, or none; and the slice after is the slice before with these bytes there and no other byte changed.
-pub record Extends (slice : List ℕ) (len : ℕ) (rule : Rule) (o : Offer) (r : Extension) (after : List ℕ) : Type 0 where
-  pub outcome : outcomeOf len (r .answer) after ≡ appendAll slice len rule o
-  pub starts : r .start ≡ startIn (scanOf rule slice len) (appendAll slice len rule o .answer)
-  pub ends : r .end ≡ endIn (appendAll slice len rule o .answer)
-  pub part : take (r .end - r .start) (drop (r .start) after) ≡ partIn o (appendAll slice len rule o .answer)
-  pub rest : after ≡ written slice (r .start) (partIn o (appendAll slice len rule o .answer))
+-- from the length before it, its answer, the slice and the index after it
+unfoldable pub outcomeWith : ℕ → Appended → List ℕ → Option (List ℕ) → Outcome
+outcomeWith len r slice index = record { answer = appendMeaning r; journal = record { slice = slice; len = lengthAfter len r }; index = index }
+
+-- The answer, the slice and the index after it are append's; start and end are those of the written part; the part of the slice after from
+-- start to end is the record's bytes, or none; and the slice after is the slice before with these bytes there and no other byte changed.
+pub record Extends (slice : List ℕ) (len : ℕ) (rule : Rule) (o : Offer) (index : Option (List ℕ)) (r : Extension) (after : List ℕ)
+    (kept : Option (List ℕ)) : Type 0 where
+  pub outcome : outcomeWith len (r .answer) after kept ≡ appendAll slice len rule o index
+  pub starts : r .start ≡ startIn (scanOf rule slice len) (appendAll slice len rule o index .answer)
+  pub ends : r .end ≡ endIn (appendAll slice len rule o index .answer)
+  pub part : take (r .end - r .start) (drop (r .start) after) ≡ partIn o (appendAll slice len rule o index .answer)
+  pub rest : after ≡ written slice (r .start) (partIn o (appendAll slice len rule o index .answer))

@@ -1,13 +1,16 @@
 // An append in memory, and the part of the slice that it writes: the record, from the committed length to the new length.
 // The file gets that part and no other byte.
+ghost use mathlib.Core.Path.{_≡_};
 ghost use Prim.Native.Nat.{_≤_};
 ghost use lib.ListN.{length};
 ghost use Rattle.journal_spec.specs.Scan.{maxLength};
 ghost use Rattle.journal.specs.Handed.{asRule, offerFrom};
-ghost use Rattle.append.specs.Extension.{Extends};
+ghost use Rattle.append.specs.Extension.{handed, appendAll, outcomeWith, Extends};
+use indexing::append_indexed;
 use journal::Appended;
 use journal::Budget;
 use journal::Rule;
+use journal::append_with;
 
 // Where the written part starts and ends, both 0 where nothing is written, and the answer.
 pub struct Extension {
@@ -16,8 +19,8 @@ pub struct Extension {
     pub answer: Appended,
 }
 
-// Appends to the journal of a length in a slice, by a rule. The part's start is worked out from its end, so that the journal is scanned once.
-// The second clause says what lending the part asks.
+// Appends to the journal of a length in a slice, by a rule, and keeps an index in its buffer where one is told. The part's start is worked out
+// from its end, so that the journal is scanned once. The second clause says what lending the part asks.
 pub fn extend(
     v: &mut [u8],
     len: usize,
@@ -26,12 +29,14 @@ pub fn extend(
     chances: &[u32],
     times: &[u32],
     rule: Rule,
+    indexed: bool,
+    index: &mut [u8],
 ) -> Extension
     ensures { λ r. ⌜ Extends (now (v .entry)) len (asRule rule) (offerFrom day (now (name .entry)) (now (chances .entry)) (now (times .entry)))
-        r (now (v .exit)) ⌝ }
+        (handed indexed (now (index .entry))) r (now (v .exit)) (handed indexed (now (index .exit))) ⌝ }
     ensures { λ r. ⌜ (r .start ≤ r .end) × (r .end ≤ length (now (v .exit))) × (r .start ≤ maxLength) ⌝ }
 {
-    let answer = journal::append_with(v, len, day, name, chances, times, Budget::All, rule);
+    let answer = append(v, len, day, name, chances, times, rule, indexed, index);
     match answer {
         Appended::Extended(end) => {
             // The record's length: it has as many limits as chances.
@@ -59,4 +64,27 @@ pub fn extend(
             answer,
         },
     }
+}
+
+// The append itself, with the index or without one.
+fn append(
+    v: &mut [u8],
+    len: usize,
+    day: u16,
+    name: &[u8],
+    chances: &[u32],
+    times: &[u32],
+    rule: Rule,
+    indexed: bool,
+    index: &mut [u8],
+) -> Appended
+    ensures { λ r. ⌜ outcomeWith len r (now (v .exit)) (handed indexed (now (index .exit)))
+        ≡ appendAll (now (v .entry)) len (asRule rule) (offerFrom day (now (name .entry)) (now (chances .entry)) (now (times .entry)))
+        (handed indexed (now (index .entry))) ⌝ }
+{
+    let all = Budget::All;
+    if indexed {
+        return append_indexed(v, len, day, name, chances, times, all, rule, index);
+    }
+    append_with(v, len, day, name, chances, times, all, rule)
 }

@@ -2,6 +2,10 @@
 // behind the committed records, front to back: from then on the file is those records and a prefix of the new one.
 ghost use Prim.Native.Nat.{_≤_};
 ghost use Rattle.journal_spec.specs.Scan.{maxLength};
+use crate::beside::index_room;
+use crate::beside::open_index;
+use crate::beside::ready_index;
+use crate::beside::write_index;
 use crate::extend::extend;
 use crate::output::complain;
 use crate::output::fail_file;
@@ -9,9 +13,10 @@ use crate::output::print_verdict;
 use crate::output::refuse_file;
 use journal::Rule;
 
-// Appends to the file that the argument at a place names.
+// Appends to the file that the argument at a place names; with the index in the file that another names, or none where that place is 0.
 pub(crate) fn append_to_file(
     at: usize,
+    index_at: usize,
     day: u16,
     name: &[u8],
     chances: &[u32],
@@ -27,16 +32,92 @@ pub(crate) fn append_to_file(
         complain(b"FILE: an empty name, or one of more than 4096 bytes");
         return;
     }
-    append_at(&path[..size], day, name, chances, ticks, rule);
+    if index_at == 0 {
+        let mut none = [0u8; 2];
+        append_at(
+            &path[..size],
+            day,
+            name,
+            chances,
+            ticks,
+            rule,
+            false,
+            b"",
+            -1,
+            &mut none,
+        );
+        return;
+    }
+    append_beside(index_at, &path[..size], day, name, chances, ticks, rule);
 }
 
-// Reads the file, or takes a missing one as empty.
-fn append_at(path: &[u8], day: u16, name: &[u8], chances: &[u32], ticks: &[u32], rule: Rule) {
+// Reads the index's file, or takes a missing one as the index of an empty volume.
+fn append_beside(
+    index_at: usize,
+    path: &[u8],
+    day: u16,
+    name: &[u8],
+    chances: &[u32],
+    ticks: &[u32],
+    rule: Rule,
+) {
+    let mut beside = io::buffer();
+    let size = os::arg(index_at, &mut beside);
+    if size == 0 {
+        complain(b"INDEX: an empty name, or one of more than 4096 bytes");
+        return;
+    }
+    let mut index = index_room();
+    let fd = open_index(&beside[..size], &mut index);
+    if fd < -1 {
+        return;
+    }
+    append_at(
+        path,
+        day,
+        name,
+        chances,
+        ticks,
+        rule,
+        true,
+        &beside[..size],
+        fd,
+        &mut index,
+    );
+}
+
+// Reads the volume's file, or takes a missing one as empty.
+fn append_at(
+    path: &[u8],
+    day: u16,
+    name: &[u8],
+    chances: &[u32],
+    ticks: &[u32],
+    rule: Rule,
+    indexed: bool,
+    beside: &[u8],
+    index_fd: i32,
+    index: &mut [u8],
+) {
     let fd = os::open_update(path);
     let mut room = arguments::input_room();
     if fd < 0 {
         if os::errno() == libc::ENOENT {
-            append_read(path, fd, &mut room, 0, day, name, chances, ticks, rule);
+            append_read(
+                path,
+                fd,
+                &mut room,
+                0,
+                day,
+                name,
+                chances,
+                ticks,
+                rule,
+                indexed,
+                beside,
+                index_fd,
+                index,
+            );
         } else {
             fail_file(path);
         }
@@ -61,19 +142,23 @@ fn append_at(path: &[u8], day: u16, name: &[u8], chances: &[u32], ticks: &[u32],
         chances,
         ticks,
         rule,
+        indexed,
+        beside,
+        index_fd,
+        index,
     );
 }
 
 // Whether a position can be set, as in a regular file: a pipe and a terminal refuse it, and such devices as /dev/null stay at their start.
 // The position is the start afterwards.
-fn has_places(fd: i32) -> bool {
+pub(crate) fn has_places(fd: i32) -> bool {
     if libc::lseek(fd, 1, libc::SEEK_SET) != 1 {
         return false;
     }
     libc::lseek(fd, 0, libc::SEEK_SET) == 0
 }
 
-// Appends to the journal of a length that was read, and gives the file what is written.
+// Appends to the journal of a length that was read, and gives the file what is written; then the index's file what it is then.
 fn append_read(
     path: &[u8],
     fd: i32,
@@ -84,17 +169,59 @@ fn append_read(
     chances: &[u32],
     ticks: &[u32],
     rule: Rule,
+    indexed: bool,
+    beside: &[u8],
+    index_fd: i32,
+    index: &mut [u8],
 ) {
-    let e = extend(v, len, day, name, chances, ticks, rule);
+    let e = extend(v, len, day, name, chances, ticks, rule, indexed, index);
     let start = e.start;
     let end = e.end;
     let answer = e.answer;
     if start < end {
-        if !write_record(path, fd, len, start, &v[start..end]) {
+        if !write_both(
+            path,
+            fd,
+            len,
+            start,
+            &v[start..end],
+            indexed,
+            beside,
+            index_fd,
+            index,
+        ) {
             return;
         }
     }
     print_verdict(answer);
+}
+
+// The record to the volume's file, then the index to its own, where one is kept. The index's file is made before the volume is written, so that
+// one that cannot be made leaves the volume as it was.
+fn write_both(
+    path: &[u8],
+    fd: i32,
+    len: usize,
+    start: usize,
+    record: &[u8],
+    indexed: bool,
+    beside: &[u8],
+    index_fd: i32,
+    index: &[u8],
+) -> bool
+    requires { ⌜ start ≤ maxLength ⌝ }
+{
+    if !indexed {
+        return write_record(path, fd, len, start, record);
+    }
+    let file = ready_index(beside, index_fd);
+    if file < 0 {
+        return false;
+    }
+    if !write_record(path, fd, len, start, record) {
+        return false;
+    }
+    write_index(beside, file, index)
 }
 
 // Makes a missing file, and gives the file the record. Where that fails, what failed is said.
@@ -119,7 +246,7 @@ fn write_record(path: &[u8], fd: i32, len: usize, start: usize, record: &[u8]) -
 }
 
 // The descriptor, of a new file where there is none. A name that is taken although no file was found is a link to none.
-fn made(path: &[u8], fd: i32) -> i32 {
+pub(crate) fn made(path: &[u8], fd: i32) -> i32 {
     if 0 <= fd {
         return fd;
     }

@@ -17,16 +17,17 @@ pub(crate) struct Counted {
     pub(crate) wrong: usize,
 }
 
-// The place of the file's name, whether a log is read, and the rule.
+// The place of the file's name, that of the index's or 0, whether a log is read, and the rule.
 pub(crate) struct Options {
     pub(crate) from: usize,
+    pub(crate) index: usize,
     pub(crate) log: bool,
     pub(crate) rule: Rule,
 }
 
-// What the words before the file's name ask for: `--profile`, then `--log`, each or none.
+// What the words before the file's name ask for: `--profile`, then `--index` and the index's name, then `--log`, each or none.
 pub(crate) fn asked() -> Options
-    ensures { λ r. ⌜ r .from ≤ 3 ⌝ }
+    ensures { λ r. ⌜ r .from ≤ 5 ⌝ }
 {
     if arguments::is_argument(1, b"--profile") {
         return asked_from(2, Rule::Profile);
@@ -37,17 +38,30 @@ pub(crate) fn asked() -> Options
 // The same from a place on, by a rule.
 fn asked_from(at: usize, rule: Rule) -> Options
     requires { ⌜ at ≤ 2 ⌝ }
-    ensures { λ r. ⌜ r .from ≤ 3 ⌝ }
+    ensures { λ r. ⌜ r .from ≤ 5 ⌝ }
+{
+    if arguments::is_argument(at, b"--index") {
+        return asked_with(at + 2, at + 1, rule);
+    }
+    asked_with(at, 0, rule)
+}
+
+// The same from a place on, by a rule and with an index's name or none.
+fn asked_with(at: usize, index: usize, rule: Rule) -> Options
+    requires { ⌜ at ≤ 4 ⌝ }
+    ensures { λ r. ⌜ r .from ≤ 5 ⌝ }
 {
     if arguments::is_argument(at, b"--log") {
         return Options {
             from: at + 1,
+            index,
             log: true,
             rule,
         };
     }
     Options {
         from: at,
+        index,
         log: false,
         rule,
     }

@@ -1,8 +1,9 @@
-// Appends a record to a journal file, document 01's volume: append [--profile] [--log] FILE DAY NAME CHANCE.. with the ticks on standard
-// input, or request 2026-01's log; with --profile by request 2026-14's rule. The last line of the output is the verdict; what is wrong with the arguments, the input or the file is said on
-// standard error.
+// Appends a record to a journal file, document 01's volume: append [--profile] [--index INDEX] [--log] FILE DAY NAME CHANCE.. with the ticks on
+// standard input, or request 2026-01's log; with --profile by request 2026-14's rule, with --index it keeps request 2026-08's index. The last
+// line of the output is the verdict; what is wrong with the arguments, the input or the file is said on standard error.
 ghost use Prim.Native.Nat.{_≤_};
 
+mod beside;
 mod extend;
 mod file;
 mod input;
@@ -34,9 +35,10 @@ fn main() {
 
 // The other arguments, where the day is one.
 fn append_on(o: Options, day: u16)
-    requires { ⌜ o .from ≤ 3 ⌝ }
+    requires { ⌜ o .from ≤ 5 ⌝ }
 {
     let from = o.from;
+    let index = o.index;
     let rule = o.rule;
     let mut name = [0u8; 33];
     let name_size = input::name(from + 2, &mut name);
@@ -48,14 +50,28 @@ fn append_on(o: Options, day: u16)
         return;
     }
     if o.log {
-        logs::append_log(from, day, &name[..name_size], &chances[..count], rule);
+        logs::append_log(
+            from,
+            index,
+            day,
+            &name[..name_size],
+            &chances[..count],
+            rule,
+        );
         return;
     }
-    append_ticks(from, day, &name[..name_size], &chances[..count], rule);
+    append_ticks(
+        from,
+        index,
+        day,
+        &name[..name_size],
+        &chances[..count],
+        rule,
+    );
 }
 
 // The ticks' text, where the arguments are as they should be.
-fn append_ticks(from: usize, day: u16, name: &[u8], chances: &[u32], rule: Rule) {
+fn append_ticks(from: usize, index: usize, day: u16, name: &[u8], chances: &[u32], rule: Rule) {
     let mut text = arguments::input_room();
     let read = arguments::read_input(0, &mut text);
     let size = read.size;
@@ -67,17 +83,33 @@ fn append_ticks(from: usize, day: u16, name: &[u8], chances: &[u32], rule: Rule)
         output::complain(b"standard input: more than 65536 bytes");
         return;
     }
-    append_text(from, day, name, chances, &text[..size], rule);
+    append_text(from, index, day, name, chances, &text[..size], rule);
 }
 
 // The ticks of a text.
-fn append_text(from: usize, day: u16, name: &[u8], chances: &[u32], text: &[u8], rule: Rule) {
+fn append_text(
+    from: usize,
+    index: usize,
+    day: u16,
+    name: &[u8],
+    chances: &[u32],
+    text: &[u8],
+    rule: Rule,
+) {
     let mut ticks = input::ticks_room();
     let read = arguments::read_numbers(text, u32::MAX, &mut ticks);
     let count = read.count;
     let pending = read.pending;
     match pending {
-        Number::Value(_) => file::append_to_file(from, day, name, chances, &ticks[..count], rule),
+        Number::Value(_) => file::append_to_file(
+            from,
+            index,
+            day,
+            name,
+            chances,
+            &ticks[..count],
+            rule,
+        ),
         Number::Nothing => output::malformed_tick(count),
     }
 }

@@ -51,8 +51,8 @@ pub(crate) fn malformed_tick(before: usize) {
 // The help, if it is what the first argument asks for; fewer arguments than are needed are wrong.
 pub(crate) fn usage() {
     arguments::usage(
-        b"usage: append [--profile] FILE DAY NAME CHANCE.. < TICKS\n\
-        \x20      append [--profile] --log FILE DAY NAME CHANCE.. < LOG\n\
+        b"usage: append [--profile] [--index INDEX] FILE DAY NAME CHANCE.. < TICKS\n\
+        \x20      append [--profile] [--index INDEX] --log FILE DAY NAME CHANCE.. < LOG\n\
         Appends a record to the volume FILE, which is made if it is missing. The day counts from 1 January 2000,\n\
         a chance is in a million, a tick is ten microseconds; the ticks are decimal, separated by white space.\n\
         Of a log, lines of a name, one space and a tick count, the ticks of NAME are taken in their order.\n\
@@ -60,8 +60,10 @@ pub(crate) fn usage() {
         volume's new length, declined with the refusal's number, log with the number and place of a line of the\n\
         log that is refused, or damaged with the fault's number and place.\n\
         With --profile the volume is one for safety controllers: every record in it and the new one has form 2,\n\
-        the chances 1 10 100 1000 and 32 ticks or more, else it is 19.\n",
-        b"append: it takes FILE DAY NAME CHANCE.., --profile and --log before them, or --help\n",
+        the chances 1 10 100 1000 and 32 ticks or more, else it is 19.\n\
+        With --index the file INDEX holds the volume's index, else it is 14, and is amended after the volume is\n\
+        written; a missing one is the index of an empty volume. The program index makes a volume's index anew.\n",
+        b"append: it takes FILE DAY NAME CHANCE.., --profile, --index INDEX and --log before them, or --help\n",
         b"append: standard output",
     );
 }

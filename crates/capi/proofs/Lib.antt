@@ -1,5 +1,6 @@
 -- The laws that the proofs of the C interface cite.
 -- Assumes nothing.
 pub mod AppendOutcome
+pub mod IndexOutcome
 pub mod LineAt
 pub mod MergeOutcome

@@ -2,6 +2,7 @@
 -- Those of the functions behind it are in their own crates.
 pub mod Append
 pub mod Band
+pub mod Index
 pub mod Journal
 pub mod Limit
 pub mod Line

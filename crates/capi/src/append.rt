@@ -1,6 +1,7 @@
 // Append and the call with a budget, an append cut after so many bytes, each with its answer in three words.
 // `v` is the slice, `len` the journal's length in it.
 ghost use mathlib.Core.Path.{_≡_};
+ghost use mathlib.Core.Option.{none};
 ghost use Rattle.journal_spec.specs.Profile.{plain};
 ghost use Rattle.journal_spec.specs.Request.{all, upTo};
 ghost use Rattle.journal_spec.specs.Request as Request;
@@ -21,11 +22,11 @@ pub extern "C" fn journal_append(
 )
     ensures { λ r. ⌜ now (v .exit)
         ≡ appendOf (record { slice = now (v .entry); len = len })
-        (record { day = day; name = now (name .entry); chances = now (chances .entry); source = Request.times (now (times .entry)); budget = all; rule = plain })
+        (record { day = day; name = now (name .entry); chances = now (chances .entry); source = Request.times (now (times .entry)); budget = all; rule = plain; index = none })
         .journal .slice ⌝ }
     ensures { λ r. ⌜ now (out .exit) ≡ appendWords
         (appendOf (record { slice = now (v .entry); len = len })
-        (record { day = day; name = now (name .entry); chances = now (chances .entry); source = Request.times (now (times .entry)); budget = all; rule = plain })
+        (record { day = day; name = now (name .entry); chances = now (chances .entry); source = Request.times (now (times .entry)); budget = all; rule = plain; index = none })
         .answer) ⌝ }
 {
     let a = journal::append(v, len, day, name, chances, times);
@@ -45,11 +46,11 @@ pub extern "C" fn journal_append_upto(
 )
     ensures { λ r. ⌜ now (v .exit)
         ≡ appendOf (record { slice = now (v .entry); len = len })
-        (record { day = day; name = now (name .entry); chances = now (chances .entry); source = Request.times (now (times .entry)); budget = upTo budget; rule = plain })
+        (record { day = day; name = now (name .entry); chances = now (chances .entry); source = Request.times (now (times .entry)); budget = upTo budget; rule = plain; index = none })
         .journal .slice ⌝ }
     ensures { λ r. ⌜ now (out .exit) ≡ appendWords
         (appendOf (record { slice = now (v .entry); len = len })
-        (record { day = day; name = now (name .entry); chances = now (chances .entry); source = Request.times (now (times .entry)); budget = upTo budget; rule = plain })
+        (record { day = day; name = now (name .entry); chances = now (chances .entry); source = Request.times (now (times .entry)); budget = upTo budget; rule = plain; index = none })
         .answer) ⌝ }
 {
     let a = journal::append_upto(v, len, day, name, chances, times, budget);

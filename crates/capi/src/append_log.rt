@@ -1,6 +1,7 @@
 // Append through the build server's log, request 2026-01, with and without a budget, each with its answer in three words.
 // `log` is all of the log; the times are those of its lines of the name.
 ghost use mathlib.Core.Path.{_≡_};
+ghost use mathlib.Core.Option.{none};
 ghost use Rattle.journal_spec.specs.Profile.{plain};
 ghost use Rattle.journal_spec.specs.Request.{all, upTo};
 ghost use Rattle.journal_spec.specs.Request as Request;
@@ -20,11 +21,11 @@ pub extern "C" fn journal_append_log(
 )
     ensures { λ r. ⌜ now (v .exit)
         ≡ appendOf (record { slice = now (v .entry); len = len })
-        (record { day = day; name = now (name .entry); chances = now (chances .entry); source = Request.log (now (log .entry)); budget = all; rule = plain })
+        (record { day = day; name = now (name .entry); chances = now (chances .entry); source = Request.log (now (log .entry)); budget = all; rule = plain; index = none })
         .journal .slice ⌝ }
     ensures { λ r. ⌜ now (out .exit) ≡ appendWords
         (appendOf (record { slice = now (v .entry); len = len })
-        (record { day = day; name = now (name .entry); chances = now (chances .entry); source = Request.log (now (log .entry)); budget = all; rule = plain })
+        (record { day = day; name = now (name .entry); chances = now (chances .entry); source = Request.log (now (log .entry)); budget = all; rule = plain; index = none })
         .answer) ⌝ }
 {
     let a = journal::append_log(v, len, day, name, chances, log);
@@ -44,11 +45,11 @@ pub extern "C" fn journal_append_log_upto(
 )
     ensures { λ r. ⌜ now (v .exit)
         ≡ appendOf (record { slice = now (v .entry); len = len })
-        (record { day = day; name = now (name .entry); chances = now (chances .entry); source = Request.log (now (log .entry)); budget = upTo budget; rule = plain })
+        (record { day = day; name = now (name .entry); chances = now (chances .entry); source = Request.log (now (log .entry)); budget = upTo budget; rule = plain; index = none })
         .journal .slice ⌝ }
     ensures { λ r. ⌜ now (out .exit) ≡ appendWords
         (appendOf (record { slice = now (v .entry); len = len })
-        (record { day = day; name = now (name .entry); chances = now (chances .entry); source = Request.log (now (log .entry)); budget = upTo budget; rule = plain })
+        (record { day = day; name = now (name .entry); chances = now (chances .entry); source = Request.log (now (log .entry)); budget = upTo budget; rule = plain; index = none })
         .answer) ⌝ }
 {
     let a = journal::append_log_upto(v, len, day, name, chances, log, budget);

@@ -4,6 +4,7 @@ pub mod append;
 pub mod append_log;
 pub mod append_with;
 pub mod bands;
+pub mod index;
 pub mod journals;
 pub mod limits;
 pub mod line;

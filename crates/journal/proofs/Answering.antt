@@ -4,6 +4,7 @@ use mathlib.Core.Path.{_≡_, refl, sym, ap, _∙_}
 use Prim.Native.Nat.{ℕ, zero, suc, _≤_, _<_, min}
 use mathlib.Core.List.{List, [], _∷_}
 use mathlib.Core.Bool.{cond}
+use mathlib.Core.Option.{none}
 use native.Mathlib.Omega.{arith}
 use lib.ListN.{length, take}
 use lib.Dec.{eqb}
@@ -95,13 +96,13 @@ mark-placed : (ps : List Placed) (i : ℕ) (shown : Shown) → shown ≡ shownAt
     → marked (markFrom (shown .flat) (shown .times)) ≡ markAt ps i
 mark-placed ps i shown e h = rw e (shown-mark ps i h)
 
-last-kept : (l : Last) → asLast (headOf l) ≡ l
+pub last-kept : (l : Last) → asLast (headOf l) ≡ l
 unfolding asLast headOf
 last-kept l = refl
 
 module _ (rule : Rule) (v : List ℕ) (len i : ℕ) (x : Contents) (read : x ≡ contentsRead i (contentsOf rule v len)) where
   module _ (records committed : ℕ) (last : Head) (shown : Shown) (told : x ≡ C.Stands records committed last shown) where
-    stood : Stood (contentsOf rule v len) i records committed last shown
+    pub stood : Stood (contentsOf rule v len) i records committed last shown
     stood = stands-stood (contentsOf rule v len) i records committed last shown (sym told ∙ read)
 
     pub scan-stands : cond (eqb committed len) (whole records committed) (torn records committed) ≡ scanOf rule v len
@@ -132,22 +133,22 @@ module _ (rule : Rule) (v : List ℕ) (len i : ℕ) (x : Contents) (read : x ≡
         ∙ append-read (record { slice = v; len = len }) q ts e
 
   module _ (f : Fault) (told : x ≡ C.Damaged f) where
-    is : contentsOf rule v len ≡ faulty (f .number) (f .place)
-    is = damaged-faulty (contentsOf rule v len) i f (sym told ∙ read)
+    pub faulted : contentsOf rule v len ≡ faulty (f .number) (f .place)
+    faulted = damaged-faulty (contentsOf rule v len) i f (sym told ∙ read)
 
     pub scan-damaged : damaged (f .number) (f .place) ≡ scanOf rule v len
     unfolding scanOf statusOf
-    scan-damaged = rw is
+    scan-damaged = rw faulted
 
     pub part-damaged : noPart ≡ partPlace rule v len i
     unfolding partPlace partOf
-    part-damaged = rw is
+    part-damaged = rw faulted
 
     pub mark-damaged : unmarked (f .number) ≡ readMark rule v len i
     unfolding readMark markIn
-    mark-damaged = rw is
+    mark-damaged = rw faulted
 
-    pub append-damaged : (q : Request) (ts : List ℕ) → q .rule ≡ rule → timesOf q ≡ gathered ts
+    pub append-damaged : (q : Request) (ts : List ℕ) → q .rule ≡ rule → q .index ≡ none → timesOf q ≡ gathered ts
         → outcomeOf len (A.Damaged f) v ≡ appendOf (record { slice = v; len = len }) q
     unfolding appendTo outcomeOf appendMeaning lengthAfter unchanged
-    append-damaged q ts by e = rw (← append-read (record { slice = v; len = len }) q ts e, by, is)
+    append-damaged q ts by without e = rw (← append-read (record { slice = v; len = len }) q ts e, by, faulted, without)

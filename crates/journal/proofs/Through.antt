@@ -3,11 +3,12 @@
 use mathlib.Core.Path.{_≡_, refl, sym, ap, _∙_}
 use Prim.Native.Nat.{ℕ, _<_}
 use mathlib.Core.List.{List}
+use mathlib.Core.Option.{none}
 use native.Mathlib.Omega.{arith}
 use lib.ListN.{take}
 use borrow.Author.Tests.{eq-eqb, ne-eqb}
 use Rattle.journal_spec.specs.Log.{gathered, misread}
-use Rattle.journal_spec.specs.Request.{Request, timesOf, Outcome}
+use Rattle.journal_spec.specs.Request.{Request, timesOf, declinedAt, Outcome}
 use Rattle.journal_spec.specs.Append.{unchanged, appendOf}
 use Rattle.journal_spec.proofs.Logs.{append-misread, handedIn, log-as-times}
 use Rattle.build_log.specs.Gather.{gatheredBy}
@@ -17,14 +18,16 @@ use Rattle.journal.specs.declared.Appended.the-variants as A
 
 module _ (v : List ℕ) (len : ℕ) (q : Request) (g : Gathering) (read : gatheredBy g ≡ timesOf q) where
   pub through-refused : 0 < g .cursor .refusal
+      → q .index ≡ none
       → outcomeOf len (A.DeclinedAt (record { number = g .cursor .refusal; place = g .cursor .start })) v ≡ appendOf (record { slice = v; len = len }) q
   unfolding gatheredBy outcomeOf appendMeaning lengthAfter unchanged
-  through-refused h =
-      append-misread (record { slice = v; len = len }) q (g .cursor .refusal) (g .cursor .start)
+  through-refused h without =
+      ap (unchanged (declinedAt (g .cursor .refusal) (g .cursor .start)) (record { slice = v; len = len })) (sym without)
+      ∙ append-misread (record { slice = v; len = len }) q (g .cursor .refusal) (g .cursor .start)
       (sym read ∙ rw (ne-eqb (g .cursor .refusal) 0 (λ e. omega arith)))
 
   pub through-times : g .cursor .refusal ≡ 0 → (out : Outcome)
       → out ≡ appendOf (record { slice = v; len = len }) (handedIn (take (g .cursor .count) (g .times)) q) → out ≡ appendOf (record { slice = v; len = len }) q
   unfolding gatheredBy
-  through-times none out e =
-      e ∙ sym (log-as-times (record { slice = v; len = len }) q (take (g .cursor .count) (g .times)) (sym read ∙ rw (eq-eqb (g .cursor .refusal) 0 none)))
+  through-times good out e =
+      e ∙ sym (log-as-times (record { slice = v; len = len }) q (take (g .cursor .count) (g .times)) (sym read ∙ rw (eq-eqb (g .cursor .refusal) 0 good)))

@@ -4,6 +4,7 @@ use mathlib.Core.Path.{_≡_}
 use Prim.Native.Nat.{ℕ}
 use mathlib.Core.List.{List, [], _∷_, map}
 use mathlib.Core.Bool.{Bool, true, _&&_}
+use mathlib.Core.Option.{none}
 use lib.ListN.{length, take}
 use lib.Dec.{leb}
 use Rattle.limit.specs.declared.sums.Sums.{Sums}
@@ -52,6 +53,7 @@ requestFrom day name chances times budget rule = record {
   source = Request.times times;
   budget = budget;
   rule = rule;
+  index = none;
 }
 
 -- the record of the arguments with these limits, of form 2

@@ -25,7 +25,7 @@ const LENGTH_FAULT: Fault = Fault {
 
 // What is asked of record i: its first byte's place and its bytes' number, whether its times are all equal, and how many they are.
 // Where there is no such record all of it is 0.
-pub(crate) struct Shown {
+pub struct Shown {
     pub start: usize,
     pub size: usize,
     pub flat: bool,
@@ -34,7 +34,7 @@ pub(crate) struct Shown {
 
 // The number of the records that stand, the committed length, the last record's form and day, and what is asked of record i;
 // or the first fault.
-pub(crate) enum Contents {
+pub enum Contents {
     Stands {
         records: usize,
         committed: usize,
@@ -45,7 +45,7 @@ pub(crate) enum Contents {
 }
 
 // The journal of a length in a slice.
-pub(crate) fn contents_of(v: &[u8], len: usize, i: usize, rule: Rule) -> Contents
+pub fn contents_of(v: &[u8], len: usize, i: usize, rule: Rule) -> Contents
     ensures { λ r. ⌜ r ≡ contentsRead i (contentsOf (asRule rule) (now (v .entry)) len) ⌝ }
 {
     if v.len() < len {

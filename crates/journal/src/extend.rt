@@ -1,6 +1,7 @@
 // An offered record joins a journal that stands: the check, then the room, then the bytes, from the committed length onward.
 // Every check is over before the first byte is written.
 ghost use mathlib.Core.Path.{_≡_};
+ghost use mathlib.Core.Option.{none};
 ghost use mathlib.Core.List.{List};
 ghost use Prim.Native.Nat.{ℕ, _+_, _*_, _≤_, min};
 ghost use lib.Dec.{leb};
@@ -58,6 +59,7 @@ pub fn append_with(
           source = Request.times (now (times .entry));
           budget = asBudget budget;
           rule = asRule rule;
+          index = none;
         }) ⌝ }
 {
     let x = contents_of(v, len, 0, rule);
@@ -73,7 +75,7 @@ pub fn append_with(
 }
 
 // The offer after the records `ps`, whose last is `last`, in a journal of that committed length.
-fn extend_by(
+pub fn extend_by(
     v: &mut [u8],
     committed: usize,
     last: Head,
@@ -113,10 +115,10 @@ fn extend_within(
     ensures { λ r. ⌜ ((len : ℕ) → outcomeOf len r (now (v .exit))
         ≡ settle (judgeRoom (length (now (v .entry))) committed
         (length (bytesFrom day (now (name .entry)) (now (chances .entry)) (now (times .entry)) (now (limits .entry)))))
-        (record { slice = now (v .entry); len = len }) committed
+        (record { slice = now (v .entry); len = len }) none committed
         (take (allowed (asBudget budget)
         (length (bytesFrom day (now (name .entry)) (now (chances .entry)) (now (times .entry)) (now (limits .entry)))))
-        (bytesFrom day (now (name .entry)) (now (chances .entry)) (now (times .entry)) (now (limits .entry))))) ⌝ }
+        (bytesFrom day (now (name .entry)) (now (chances .entry)) (now (times .entry)) (now (limits .entry)))) none) ⌝ }
 {
     let size = size_of(name, chances, times, limits);
     if !has_room(v.len(), committed, size) {

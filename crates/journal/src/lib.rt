@@ -2,6 +2,7 @@
 // of times or through a log; and each of them by a rule, request 2026-14's profile calls among them.
 // Each goes over the journal's bytes once; nothing is assumed of the slice, the length or what is offered.
 ghost use mathlib.Core.Path.{_≡_};
+ghost use mathlib.Core.Option.{none};
 ghost use Rattle.journal_spec.specs.Profile.{plain};
 ghost use Rattle.journal_spec.specs.Scan.{scanOf};
 ghost use Rattle.journal_spec.specs.Read.{partPlace, readPart, readMark};
@@ -27,9 +28,13 @@ mod record;
 mod section;
 mod write;
 
+pub use contents::Contents;
+pub use contents::Shown;
+pub use contents::contents_of;
 pub use extend::Budget;
 pub use extend::FIXED_SIZE;
 pub use extend::append_with;
+pub use extend::extend_by;
 pub use log::append_log_with;
 pub use number::number_in;
 pub use profile::Rule;
@@ -37,6 +42,7 @@ pub use reading::mark_by;
 pub use reading::part_place_by;
 pub use reading::read_by;
 pub use reading::scan_by;
+pub use record::Head;
 
 // A refusal's number, and the place of what is refused: a field's first byte in the journal, or a line's in the log.
 pub struct Fault {
@@ -113,7 +119,7 @@ pub fn append(
 ) -> Appended
     ensures { λ r. ⌜ outcomeOf len r (now (v .exit))
         ≡ appendOf (record { slice = now (v .entry); len = len })
-        (record { day = day; name = now (name .entry); chances = now (chances .entry); source = Request.times (now (times .entry)); budget = all; rule = plain }) ⌝ }
+        (record { day = day; name = now (name .entry); chances = now (chances .entry); source = Request.times (now (times .entry)); budget = all; rule = plain; index = none }) ⌝ }
 {
     append_with(v, len, day, name, chances, times, Budget::All, Rule::Plain)
 }
@@ -131,7 +137,7 @@ pub fn append_upto(
 ) -> Appended
     ensures { λ r. ⌜ outcomeOf len r (now (v .exit))
         ≡ appendOf (record { slice = now (v .entry); len = len })
-        (record { day = day; name = now (name .entry); chances = now (chances .entry); source = Request.times (now (times .entry)); budget = upTo budget; rule = plain }) ⌝ }
+        (record { day = day; name = now (name .entry); chances = now (chances .entry); source = Request.times (now (times .entry)); budget = upTo budget; rule = plain; index = none }) ⌝ }
 {
     let cut = Budget::UpTo(budget);
     append_with(v, len, day, name, chances, times, cut, Rule::Plain)
@@ -149,7 +155,7 @@ pub fn append_log(
 ) -> Appended
     ensures { λ r. ⌜ outcomeOf len r (now (v .exit))
         ≡ appendOf (record { slice = now (v .entry); len = len })
-        (record { day = day; name = now (name .entry); chances = now (chances .entry); source = Request.log (now (log .entry)); budget = all; rule = plain }) ⌝ }
+        (record { day = day; name = now (name .entry); chances = now (chances .entry); source = Request.log (now (log .entry)); budget = all; rule = plain; index = none }) ⌝ }
 {
     append_log_with(v, len, day, name, chances, log, Budget::All, Rule::Plain)
 }
@@ -166,7 +172,7 @@ pub fn append_log_upto(
 ) -> Appended
     ensures { λ r. ⌜ outcomeOf len r (now (v .exit))
         ≡ appendOf (record { slice = now (v .entry); len = len })
-        (record { day = day; name = now (name .entry); chances = now (chances .entry); source = Request.log (now (log .entry)); budget = upTo budget; rule = plain }) ⌝ }
+        (record { day = day; name = now (name .entry); chances = now (chances .entry); source = Request.log (now (log .entry)); budget = upTo budget; rule = plain; index = none }) ⌝ }
 {
     let cut = Budget::UpTo(budget);
     append_log_with(v, len, day, name, chances, log, cut, Rule::Plain)

@@ -1,6 +1,7 @@
 // Every append through a log: the log is read first, and its times go to the append of times.
 // A line that is refused is answered before the journal is looked at.
 ghost use mathlib.Core.Path.{_≡_};
+ghost use mathlib.Core.Option.{none};
 ghost use Rattle.journal_spec.specs.Request as Request;
 ghost use Rattle.journal_spec.specs.Append.{appendOf};
 ghost use Rattle.journal.specs.Handed.{asBudget, asRule};
@@ -31,6 +32,7 @@ pub fn append_log_with(
           source = Request.log (now (log .entry));
           budget = asBudget budget;
           rule = asRule rule;
+          index = none;
         }) ⌝ }
 {
     let g = build_log::gather(name, log);

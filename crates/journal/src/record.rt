@@ -80,7 +80,7 @@ const TIMES: SectionRule = SectionRule {
 };
 
 // Form and day of a record: what the reader of the next record knows of it.
-pub(crate) struct Head {
+pub struct Head {
     pub form: u64,
     pub day: u64,
 }

@@ -3,6 +3,7 @@
 use Prim.Native.Nat.{ℕ, _-_, _/_, _%_, _^_}
 use mathlib.Core.Bool.{Bool, cond, _&&_}
 use mathlib.Core.List.{List, _++_}
+use mathlib.Core.Option.{none}
 use lib.Dec.{leb, eqb}
 use lib.ListN.{length, take, drop}
 use Rattle.journal_spec.specs.Profile.{Rule, plain, profile}
@@ -46,6 +47,7 @@ requestOf s l name chances source budget = record {
   source = source;
   budget = budget;
   rule = ruleIn (l .x);
+  index = none;
 }
 
 -- the times that are offered, and the log of z bytes

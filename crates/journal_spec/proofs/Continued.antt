@@ -13,7 +13,7 @@ use Rattle.journal_spec.specs.Scan.{Placed, recordsOf, standing, content
 use Rattle.journal_spec.specs.Calls.{Call, operations}
 use Rattle.journal_spec.specs.Model.{Model, committedOf}
 use Rattle.journal_spec.specs.Demand.{Demand3From}
-use Rattle.journal_spec.proofs.Scanning.{recordsOf-placed}
+use Rattle.journal_spec.proofs.Places.{recordsOf-placed}
 use Rattle.journal_spec.proofs.Placing.{lengths-are}
 use Rattle.journal_spec.proofs.Explained.{holding}
 use Rattle.journal_spec.proofs.Demand.{Holds, demand3-from}

@@ -4,12 +4,13 @@
 use mathlib.Core.Path.{_≡_, refl, sym, ap, ap₂, _∙_}
 use Prim.Native.Nat.{ℕ, zero, suc, _+_, _-_, _≤_, _<_, min, max}
 use mathlib.Core.List.{List, [], _∷_, _++_, append-assoc, append-nil}
+use mathlib.Core.Bool.{cond}
 use mathlib.Core.Option.{Option, none, some}
 use native.Mathlib.Omega.{arith}
-use native.Mathlib.Nat.{add-zero}
+use native.Mathlib.Nat.{add-zero, zero-add}
 use lib.ListN.{length, take, drop, length-append, take-append-drop}
 use lib.Seq.{take-all, take-at, take-take, drop-drop, length-take-le}
-use lib.Dec.{eqb}
+use lib.Dec.{leb, eqb}
 use borrow.Author.Tests.{le-leb, lt-leb, eq-eqb, ne-eqb}
 use Rattle.journal_spec.specs.Bytes.{joined}
 use Rattle.journal_spec.specs.Refusals.{profileRefusal}
@@ -17,20 +18,22 @@ use Rattle.journal_spec.specs.Record.{Record, IsDay, lastOf, recordReade
 use Rattle.journal_spec.specs.Scan.{maxLength, standing, contentsOf, damaged, statusOf, scanOf}
 use Rattle.journal_spec.specs.Profile.{Rule, plain}
 use Rattle.journal_spec.specs.Read.{noPart, partOf, partPlace, partBytes, readPart, unmarked, markIn, readMark}
+use Rattle.journal_spec.specs.Index.{freshIndex}
 use Rattle.journal_spec.specs.Log.{Gathered, gathered, misread}
 use Rattle.journal_spec.specs.Request.{Journal, Request, Offer, timesOf, offerOf, allowed, AppendResult, extended, Outcome}
-use Rattle.journal_spec.specs.Append.{offered, written, unchanged, extend, settle, appendTo, appendWith, appendOf}
-use Rattle.journal_spec.specs.Calls.{operations, Call, emptyIn, perform, journalAfter, answersOf, reachOf}
+use Rattle.journal_spec.specs.Append.{offered, written, unchanged, putIndex, nextIndex, extend, settle, appendTo, appendWith, appendOf}
+use Rattle.journal_spec.specs.Calls.{operations, Call, emptyIn, perform, journalAfter, answersOf, indexesOf, reachOf}
 use Rattle.journal_spec.specs.Model.{Model, emptyModel, lengthsOf, committedOf, recordFor, Entry, enterRecord, enterBy, enter}
 use Rattle.journal_spec.specs.Model.{Verdict, taken, breakOf, byNumber, byLog, byBreak, firstTurned, verdictOf}
-use Rattle.journal_spec.specs.Model.{modelRefusal, modelAfter, modelAnswers}
+use Rattle.journal_spec.specs.Model.{modelRefusal, modelAfter, modelAnswers, modelIndexes, refreshed}
 use Rattle.journal_spec.specs.Demand.{endOf, modelScan, bytesAt, recordMark, modelPart, modelMark, Agrees, Demand3From, Demand3}
 use Rattle.journal_spec.specs.Ranges.{RecordRanges, AllRanges}
 use Rattle.journal_spec.proofs.Reading.{by-order, reads-cut}
 use Rattle.journal_spec.proofs.Limits.{formulaBits, sample-known}
-use Rattle.journal_spec.proofs.SameRefusals.{same-refusal, same-record, same-length}
+use Rattle.journal_spec.proofs.SameRefusals.{same-next, same-refusal, same-record, same-length}
 use Rattle.journal_spec.proofs.Ranged.{passed, accepted-exactly, good-record, good-exactly, reads-back}
-use Rattle.journal_spec.proofs.Scanning.{Torn, last-form, follow-snoc, torn-none, records-snoc, placedFrom, recordsOf-placed, length-placed}
+use Rattle.journal_spec.proofs.Scanning.{Torn, last-form, follow-snoc, torn-none, records-snoc}
+use Rattle.journal_spec.proofs.Places.{placedFrom, length-placed}
 use Rattle.journal_spec.proofs.Scanning.{unlessBroken, contents-of, plain-keeps}
 use Rattle.journal_spec.proofs.Placing.{written-length, written-take, written-drop, lengths-are, part-bytes, mark-placed}
 
@@ -152,6 +155,7 @@ module _ (room : ℕ) (j : Journal) (m : Model) (h : Holds room j m) (new : List
 -- a call's outcome against the model's entry
 pub record Step (room : ℕ) (j : Journal) (out : Outcome) (entry : Entry) : Type 0 where
   pub answer : out .answer ≡ entry .answer
+  pub index : out .index ≡ entry .index
   pub holds : Holds room (out .journal) (entry .model)
   pub beyond : drop (out .journal .len) (out .journal .slice) ≡ drop (out .journal .len) (j .slice)
 
@@ -162,14 +166,25 @@ module _ (room : ℕ) (j : Journal) (m : Model) (h : Holds room j m) (q : Reques
   abbrev bytes : List ℕ
   bytes = recordBytes (recordFor o)
 
+  -- the index's buffer with the record finished
+  abbrev finished : Option (List ℕ)
+  finished = putIndex (nextIndex (placedFrom 0 (m .records)) (committedOf m) o) (q .index)
+
+  put-fresh : (index : Option (List ℕ))
+      → putIndex (nextIndex (placedFrom 0 (m .records)) (committedOf m) o) index ≡ refreshed (freshIndex (m .records ++ recordFor o ∷ [])) index
+  unfolding putIndex refreshed written
+  put-fresh none = refl
+  put-fresh (some b) = rw (same-next m o, zero-add) refl
+
   -- what append does with its first k bytes, and what the model enters
   abbrev Settled : Type 0
-  Settled = Step room j (settle (modelRefusal room m q) j (committedOf m) (take k (recordBytes (offered o))))
-      (enterBy (byNumber (modelRefusal room m q)) m (recordFor o) k)
+  Settled = Step room j
+      (settle (modelRefusal room m q) j (q .index) (committedOf m) (take k (recordBytes (offered o))) (cond (leb (length bytes) k) finished (q .index)))
+      (enterBy (byNumber (modelRefusal room m q)) m (recordFor o) k (q .index))
 
   step-declined : (n : ℕ) → modelRefusal room m q ≡ suc n → Settled
   unfolding byNumber enterBy settle unchanged
-  step-declined n e = rw e (record { answer = refl; holds = h; beyond = refl })
+  step-declined n e = rw e (record { answer = refl; index = refl; holds = h; beyond = refl })
 
   module _ (e : modelRefusal room m q ≡ 0) where
     -- the offer is the model's record, which nothing refuses, and there is room for it
@@ -189,15 +204,17 @@ module _ (room : ℕ) (j : Journal) (m : Model) (h : Holds room j m) (q : Reques
     room-for = let a = accepted-exactly room m q .0 e in omega (arith, a .fitsSlice, a .fitsJournal)
 
     -- the outcome where `new` is what is written, and the model's entry
-    step-written : (new : List ℕ) (m′ : Model) → take k bytes ≡ new → length new ≤ length bytes
-        → enterRecord m (recordFor o) k ≡ record { answer = extended (committedOf m + length new); model = m′ }
+    step-written : (new : List ℕ) (m′ : Model) (index : Option (List ℕ)) → take k bytes ≡ new → length new ≤ length bytes
+        → enterRecord m (recordFor o) k (q .index) ≡ record { answer = extended (committedOf m + length new); model = m′; index = index }
+        → cond (leb (length bytes) k) finished (q .index) ≡ index
         → recordsBytes (m′ .records) ++ m′ .tail ≡ recordsBytes (m .records) ++ new → AllRanges [] (m′ .records) → Torn (m′ .records) (m′ .tail)
         → Settled
     unfolding byNumber enterBy settle extend
-    step-written new m′ t less entry b f torn =
+    step-written new m′ index t less entry put b f torn =
         let fit : committedOf m + length new ≤ min room maxLength = omega (arith, room-for) in
         rw (e, same, t, entry) (record {
           answer = refl;
+          index = put;
           holds = holds-new room j m h new fit m′ b f torn;
           beyond = written-drop (j .slice) (committedOf m) new (enough room j m h new fit);
         })
@@ -206,7 +223,9 @@ module _ (room : ℕ) (j : Journal) (m : Model) (h : Holds room j m) (q : Reques
     unfolding enterRecord
     step-finished all =
         let m′ : Model = record { records = m .records ++ recordFor o ∷ []; tail = [] } in
-        step-written bytes m′ (take-all k bytes all) (omega arith) (rw (le-leb (length bytes) k all) refl)
+        step-written bytes m′ (refreshed (freshIndex (m .records ++ recordFor o ∷ [])) (q .index)) (take-all k bytes all) (omega arith)
+        (rw (le-leb (length bytes) k all) refl)
+        (rw (le-leb (length bytes) k all) (put-fresh (q .index)))
         (append-nil _ ∙ records-snoc (m .records) (recordFor o)) (follow-snoc [] (m .records) (recordFor o) (h .follow) good)
         (torn-none (m′ .records))
 
@@ -215,7 +234,8 @@ module _ (room : ℕ) (j : Journal) (m : Model) (h : Holds room j m) (q : Reques
     step-cut less =
         let n : length (take k bytes) ≡ k = length-take-le k bytes (omega arith) in
         let m′ : Model = record { records = m .records; tail = take k bytes } in
-        step-written (take k bytes) m′ refl (omega (arith, n)) (rw (lt-leb (length bytes) k less, n) refl) refl (h .follow)
+        step-written (take k bytes) m′ (q .index) refl (omega (arith, n)) (rw (lt-leb (length bytes) k less, n) refl)
+        (rw (lt-leb (length bytes) k less) refl) refl (h .follow)
         (record {
           runsOut = λ at. reads-cut (recordReader (lastOf (m .records))) bytes (recordFor o)
               (reads-back (lastOf (m .records)) (recordFor o) good) at k less;
@@ -243,20 +263,20 @@ module _ (room : ℕ) (j : Journal) (m : Model) (h : Holds room j m) (c : Call) 
 
   -- what the model enters by its verdicts
   abbrev entry : Verdict → Verdict → Verdict → Entry
-  entry u v w = enterBy (firstTurned (u ∷ v ∷ w ∷ [])) m (recordFor (offerOf req)) taking
+  entry u v w = enterBy (firstTurned (u ∷ v ∷ w ∷ [])) m (recordFor (offerOf req)) taking (req .index)
 
   step-standing : (b : Option ℕ)
       → Step room j (appendTo (unlessBroken b (standing (placedFrom 0 (m .records)) (committedOf m))) j req)
       (entry taken (byBreak b) (byNumber (modelRefusal room m req)))
   unfolding appendTo unlessBroken unchanged byBreak firstTurned enterBy
-  step-standing (some at) = record { answer = refl; holds = h; beyond = refl }
+  step-standing (some at) = record { answer = refl; index = refl; holds = h; beyond = refl }
   step-standing none =
-      rw (h .slice, same-refusal room m (placedFrom 0 (m .records)) req (recordsOf-placed 0 (m .records)), same-length (offerOf req), only-number)
+      rw (h .slice, same-refusal room m req, same-length (offerOf req), only-number)
       (unfold enterBy in settled room j m h req (c .dayFits) taking)
 
   step-with : (g : Gathered) → Step room j (appendWith g j req) (entry (byLog g) (byBreak (breakOf (req .rule) m)) (byNumber (modelRefusal room m req)))
   unfolding appendWith unchanged byLog firstTurned enterBy
-  step-with (misread n p) = record { answer = refl; holds = h; beyond = refl }
+  step-with (misread n p) = record { answer = refl; index = refl; holds = h; beyond = refl }
   step-with (gathered ts) = rw (held room j m h (req .rule)) (step-standing (breakOf (req .rule) m))
 
   pub step : Step room j (perform operations j c) (enter room m c)
@@ -268,6 +288,7 @@ module _ (room : ℕ) (j : Journal) (m : Model) (h : Holds room j m) (c : Call) 
 -- what holds after a list of calls that starts from a journal that holds what a model says
 pub record After (room : ℕ) (j : Journal) (m : Model) (cs : List Call) : Type 0 where
   pub answers : answersOf operations j cs ≡ modelAnswers room m cs
+  pub indexes : indexesOf operations j cs ≡ modelIndexes room m cs
   pub holds : Holds room (journalAfter operations j cs) (modelAfter room m cs)
   pub initial : drop (reachOf operations j cs) (journalAfter operations j cs .slice) ≡ drop (reachOf operations j cs) (j .slice)
 
@@ -284,8 +305,8 @@ reach-least j [] = omega arith
 reach-least j (c ∷ cs) = omega arith
 
 pub after-all : (room : ℕ) (j : Journal) (m : Model) → Holds room j m → (cs : List Call) → After room j m cs
-unfolding answersOf modelAnswers journalAfter modelAfter reachOf
-after-all room j m h [] = record { answers = refl; holds = h; initial = refl }
+unfolding answersOf modelAnswers indexesOf modelIndexes journalAfter modelAfter reachOf
+after-all room j m h [] = record { answers = refl; indexes = refl; holds = h; initial = refl }
 after-all room j m h (c ∷ cs) =
     let s = step room j m h c in
     let out : Outcome = perform operations j c in
@@ -294,6 +315,7 @@ after-all room j m h (c ∷ cs) =
     let near : out .journal .len ≤ far = reach-least (out .journal) cs in
     record {
       answers = ap₂ (λ (x : AppendResult) (xs : List AppendResult). x ∷ xs) (s .answer) (a .answers);
+      indexes = ap₂ (λ (x : Option (List ℕ)) (xs : List (Option (List ℕ))). x ∷ xs) (s .index) (a .indexes);
       holds = a .holds;
       initial =
           later-same far (max (j .len) far) _ _ (omega arith) (a .initial)
@@ -306,6 +328,7 @@ demand3-from room j m h cs =
     let a = after-all room j m h cs in
     record {
       answers = a .answers;
+      indexes = a .indexes;
       agrees = agrees room _ _ (a .holds);
       beyond = λ c. step room _ _ (a .holds) c .beyond;
       initial = a .initial;

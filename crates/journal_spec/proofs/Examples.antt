@@ -3,6 +3,8 @@
 use mathlib.Core.Path.{_≡_, refl, sym, ap, _∙_}
 use Prim.Native.Nat.{ℕ, zero, suc, _≤_, _<_}
 use mathlib.Core.List.{List, [], _∷_, _++_, append-nil}
+use mathlib.Core.Bool.{true, false}
+use mathlib.Core.Option.{none}
 use native.Mathlib.Omega.{arith}
 use lib.ListN.{length, take, getD, set, replicate}
 use lib.Ieee.{binary64, ofBits, toBits}
@@ -16,9 +18,10 @@ use Rattle.journal_spec.specs.Section.{items, section, numberBytes, sect
 use Rattle.journal_spec.specs.Record.{Record, lastOf, judgeForm, judgeDay, nameSection, lastChance, judgeChance, chanceSection, timeSection}
 use Rattle.journal_spec.specs.Record.{limitSection, recordReader, recordBytes, recordsBytes}
 use Rattle.journal_spec.specs.Profile.{plain, profile, inProfile, keeps}
-use Rattle.journal_spec.specs.Scan.{recordsOf, judged, recordAt, contentsFrom, contentsOf, whole, torn, damaged, statusOf, scanOf}
+use Rattle.journal_spec.specs.Scan.{Placed, recordsOf, judged, recordAt, contentsFrom, contentsOf, whole, torn, damaged, statusOf, scanOf}
 use Rattle.journal_spec.specs.Read.{flat, few, normal, letterOf, allEqual, areEqual, markFrom, markOf}
 use Rattle.journal_spec.specs.Tests.{each, same, nameGood}
+use Rattle.journal_spec.specs.Index.{IndexEntry, entryBytes, indexBytes, inFront, orderOf, amend, entryOf, amendAll}
 use Rattle.journal_spec.specs.Log.{begin, linesOf, nameIn, digitsIn, digitsGood, decimalFrom, ticksIn, lineGood, Gathered, gathered, misread}
 use Rattle.journal_spec.specs.Log.{takeLine, gatherFrom, gatherOf}
 use Rattle.journal_spec.specs.Request.{all, times, log, Request, gatherBy, timesOf, timesIn, offerOf, declined, declinedAt}
@@ -185,11 +188,11 @@ old-form = refl
 
 -- an offer of which nothing is right, made better from the front
 abbrev offer : List ℕ → List ℕ → List ℕ → Request
-offer name chances ts = record { day = 1; name = name; chances = chances; source = times ts; budget = all; rule = plain }
+offer name chances ts = record { day = 1; name = name; chances = chances; source = times ts; budget = all; rule = plain; index = none }
 
 -- the same with nothing wrong but what a log brings
 abbrev through : List ℕ → Request
-through bytes = record { day = 1; name = 0x41 ∷ []; chances = 1 ∷ 500_000 ∷ []; source = log bytes; budget = all; rule = plain }
+through bytes = record { day = 1; name = 0x41 ∷ []; chances = 1 ∷ 500_000 ∷ []; source = log bytes; budget = all; rule = plain; index = none }
 
 abbrev declined-by : Request → ℕ → Type 0
 declined-by q n = appendOf (record { slice = theBytes; len = 0 }) q .answer ≡ declined n
@@ -285,6 +288,43 @@ logs = record {
   faultyMany = refl;
   firstDecides = refl;
 }
+
+-- ---- indexes
+
+abbrev entry : List ℕ → ℕ → IndexEntry
+entry name start = record { name = name; start = start }
+
+-- a record of a name at a place
+abbrev at : ℕ → List ℕ → Placed
+at start name =
+    record { content = record { form = 2; day = 1; name = name; chances = []; times = []; limits = [] }; start = start; size = 33 }
+
+-- names A, B and AB at 0, 33 and 66, then A again at 100
+pub record Indexes : Type 0 where
+  pub order : amendAll [] (at 0 (0x41 ∷ []) ∷ at 33 (0x42 ∷ []) ∷ at 66 (0x41 ∷ 0x42 ∷ []) ∷ at 100 (0x41 ∷ []) ∷ [])
+      ≡ entry (0x41 ∷ []) 100 ∷ entry (0x41 ∷ 0x42 ∷ []) 66 ∷ entry (0x42 ∷ []) 33 ∷ []
+  pub none : indexBytes [] ≡ 0 ∷ 0 ∷ []
+  pub bytes : indexBytes (entry (0x41 ∷ 0x42 ∷ []) 66 ∷ []) ≡ 1 ∷ 0 ∷ 2 ∷ 0 ∷ 0x41 ∷ 0x42 ∷ 66 ∷ 0 ∷ 0 ∷ 0 ∷ []
+  pub front : inFront (1 ∷ 2 ∷ []) (1 ∷ 2 ∷ 3 ∷ []) ≡ true
+  pub short : inFront (1 ∷ 2 ∷ []) (1 ∷ []) ≡ false
+
+pub indexes : Indexes
+unfolding amendAll amend entryOf orderOf indexBytes entryBytes sectionBytes numberBytes bytesOf joined inFront same
+indexes = record { order = refl; none = refl; bytes = refl; front = refl; short = refl }
+
+-- ---- the profile
+
+-- a record with the profile's chances and so many times
+abbrev timed : ℕ → Record
+timed n = record { form = 2; day = 1; name = 0x41 ∷ []; chances = 1 ∷ 10 ∷ 100 ∷ 1_000 ∷ []; times = replicate n 100; limits = [] }
+
+pub record InProfile : Type 0 where
+  pub enough : inProfile (timed 32) ≡ true
+  pub short : inProfile (timed 31) ≡ false
+
+pub profiles : InProfile
+unfolding inProfile same
+profiles = record { enough = refl; short = refl }
 
 -- ---- marks
 

@@ -22,7 +22,8 @@ use Rattle.journal_spec.proofs.Reading.{short-anywhere}
 use Rattle.journal_spec.specs.Ranges.{AllRanges}
 use Rattle.journal_spec.proofs.Records.{RecordRead, record-read, record-length}
 use Rattle.journal_spec.proofs.Ranged.{good-exactly}
-use Rattle.journal_spec.proofs.Scanning.{Torn, torn-none, placedFrom, length-placed, recordsOf-snoc, turn-short, turn-fault}
+use Rattle.journal_spec.proofs.Scanning.{Torn, torn-none, recordsOf-snoc, turn-short, turn-fault}
+use Rattle.journal_spec.proofs.Places.{placedFrom, length-placed}
 use Rattle.journal_spec.proofs.Scanning.{found-at, short-at, turn-found, contents-fits, contents-long}
 
 -- the bytes from the place `at` on, after the records of ps: further records, each in its place, and a torn tail

@@ -15,7 +15,8 @@ use Rattle.journal_spec.specs.Scan.{maxLength, whole, torn, statusOf, sc
 use Rattle.journal_spec.specs.Ranges.{RecordRanges, AllRanges}
 use Rattle.journal_spec.proofs.Reading.{reads-cut}
 use Rattle.journal_spec.proofs.Ranged.{reads-back}
-use Rattle.journal_spec.proofs.Scanning.{Torn, torn-none, length-placed, plain-contents}
+use Rattle.journal_spec.proofs.Scanning.{Torn, torn-none, plain-contents}
+use Rattle.journal_spec.proofs.Places.{length-placed}
 use Rattle.journal_spec.proofs.Explained.{whole-explained, torn-explained}
 
 -- ---- one record

@@ -13,8 +13,11 @@ pub mod Records
 pub mod SameRefusals
 pub mod Ranged
 -- scan and append
+pub mod Places
 pub mod Scanning
 pub mod Profiles
+pub mod NameOrder
+pub mod Indexes
 pub mod Explained
 pub mod Independent
 pub mod Format
@@ -35,6 +38,8 @@ pub mod Shown
 pub mod Answers
 pub mod TornOrWhole
 mod NamedCalls
+pub mod IndexAfter
+pub mod Threaded
 pub mod ShutOut
 -- examples
 pub mod EvenChance
@@ -45,5 +50,8 @@ pub mod FieldAt
 pub mod SectionAt
 pub mod RecordsLoop
 pub mod RefusalFrom
+pub mod Pieces
 pub mod Cursor
+pub mod Whole
+pub mod IndexLoop
 pub mod Writing

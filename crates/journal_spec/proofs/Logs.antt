@@ -33,20 +33,20 @@ pub append-read : (j : Journal) (q : Request) (ts : List ℕ) → timesOf q ≡ 
 unfolding appendOf appendWith
 append-read j q ts e = rw e refl
 
-pub append-misread : (j : Journal) (q : Request) (n p : ℕ) → timesOf q ≡ misread n p → unchanged (declinedAt n p) j ≡ appendOf j q
+pub append-misread : (j : Journal) (q : Request) (n p : ℕ) → timesOf q ≡ misread n p → unchanged (declinedAt n p) j (q .index) ≡ appendOf j q
 unfolding appendOf appendWith
 append-misread j q n p e = rw e refl
 
 -- the request with its times handed in
 unfoldable pub handedIn : List ℕ → Request → Request
-handedIn ts q = record { day = q .day; name = q .name; chances = q .chances; source = times ts; budget = q .budget; rule = q .rule }
+handedIn ts q = record { day = q .day; name = q .name; chances = q .chances; source = times ts; budget = q .budget; rule = q .rule; index = q .index }
 
 same-offer : (q : Request) (ts : List ℕ) → timesOf q ≡ gathered ts → offerOf q ≡ offerOf (handedIn ts q)
 unfolding handedIn offerOf timesIn timesOf gatherBy
 same-offer q ts e = rw e refl
 
 same-append : (x : Contents) (j : Journal) (q : Request) (ts : List ℕ) → timesOf q ≡ gathered ts → appendTo x j q ≡ appendTo x j (handedIn ts q)
-unfolding appendTo appendRefusals
+unfolding appendTo appendRefusals handedIn
 same-append (faulty n p) j q ts e = refl
 same-append (standing ps committed) j q ts e = rw (same-offer q ts e) (unfold handedIn in refl)
 

@@ -3,6 +3,7 @@
 use mathlib.Core.Path.{_≡_, refl, ap, _∙_}
 use Prim.Native.Nat.{ℕ, zero, suc, _+_, _≤_, _<_}
 use mathlib.Core.List.{List, [], _∷_, _++_, map, append-nil}
+use mathlib.Core.Option.{none}
 use native.Mathlib.Omega.{arith}
 use native.Mathlib.Nat.{zero-add}
 use lib.ListN.{length, take, getD, replicate, length-replicate, getD-replicate}
@@ -16,7 +17,8 @@ use Rattle.journal_spec.specs.Request.{Budget, all, upTo, times, Request
 use Rattle.journal_spec.specs.Calls.{Call}
 use Rattle.journal_spec.specs.Model.{Model, emptyModel, lengthsOf, committedOf, recordFor, breakOf, taken, byNumber, byLog, byBreak, firstTurned}
 use Rattle.journal_spec.specs.Model.{verdictOf}
-use Rattle.journal_spec.specs.Model.{Entry, enterRecord, enterBy, enter, noRoom, modelRefusals, modelRefusal, modelAfter}
+use Rattle.journal_spec.specs.Model.{refreshed, indexWrong, indexFull, Entry, enterRecord}
+use Rattle.journal_spec.specs.Model.{enterBy, enter, noRoom, modelRefusals, modelRefusal, modelAfter}
 use Rattle.journal_spec.specs.Ranges.{Accepted}
 use Rattle.journal_spec.proofs.Records.{length-record}
 use Rattle.journal_spec.proofs.Ranged.{passed, accepted-exactly}
@@ -25,7 +27,15 @@ use Rattle.journal_spec.proofs.Scanning.{plain-keeps, lastOf-snoc}
 
 -- day 1, times 100 and 100, an even chance
 unfoldable pub request : ℕ → Budget → Request
-request n budget = record { day = 1; name = replicate n 0x41; chances = 500_000 ∷ []; source = times (100 ∷ 100 ∷ []); budget = budget; rule = plain }
+request n budget = record {
+  day = 1;
+  name = replicate n 0x41;
+  chances = 500_000 ∷ [];
+  source = times (100 ∷ 100 ∷ []);
+  budget = budget;
+  rule = plain;
+  index = none;
+}
 
 unfoldable pub named : ℕ → Offer
 named n = record { day = 1; name = replicate n 0x41; chances = 500_000 ∷ []; times = 100 ∷ 100 ∷ [] }
@@ -101,6 +111,7 @@ accepts room m n budget day least most fits fits′ = record {
   rule = tt;
   fitsSlice = rw (named-length n) fits;
   fitsJournal = rw (named-length n) fits′;
+  index = tt;
 }
   where
     one-chance : (i : ℕ) → i < 1 → (1 ≤ getD (500_000 ∷ []) i 0) × (getD (500_000 ∷ []) i 0 ≤ 999_999)
@@ -124,14 +135,14 @@ pub record Early (room : ℕ) (m : Model) (ns : List ℕ) : Type 0 where
   pub most : committedOf m + sizes ns ≤ maxLength
 
 -- by the plain rule nothing that stands is in the way
-plainly : (m : Model) (r : Record) (k : ℕ) → enterBy (firstTurned (taken ∷ byBreak (breakOf plain m) ∷ taken ∷ [])) m r k ≡ enterRecord m r k
+plainly : (m : Model) (r : Record) (k : ℕ) → enterBy (firstTurned (taken ∷ byBreak (breakOf plain m) ∷ taken ∷ [])) m r k none ≡ enterRecord m r k none
 unfolding breakOf
 plainly m r k = rw (plain-keeps 0 (m .records)) (unfold byBreak firstTurned enterBy in refl)
 
 entered : (room : ℕ) (m : Model) (n : ℕ) (budget : Budget) → lastOf (m .records) .day ≤ 1 → 1 ≤ n → n ≤ 32
     → committedOf m + (32 + n) ≤ room → committedOf m + (32 + n) ≤ maxLength
-    → enter room m (callNamed n budget) ≡ enterRecord m (recordFor (named n)) (allowed budget (length (recordBytes (recordFor (named n)))))
-unfolding enter enterBy verdictOf firstTurned byLog byNumber callNamed request named offerOf timesOf gatherBy timesIn
+    → enter room m (callNamed n budget) ≡ enterRecord m (recordFor (named n)) (allowed budget (length (recordBytes (recordFor (named n))))) none
+unfolding enter enterBy refreshed verdictOf firstTurned byLog byNumber callNamed request named offerOf timesOf gatherBy timesIn
 entered room m n budget day least most fits fits′ =
     rw (accepted-exactly room m (request n budget) .1 (accepts room m n budget day least most fits fits′))
     (plainly m (recordFor (named n)) (allowed budget (length (recordBytes (recordFor (named n))))))
@@ -139,8 +150,8 @@ entered room m n budget day least most fits fits′ =
 pub finished : (room : ℕ) (m : Model) (n : ℕ) → lastOf (m .records) .day ≤ 1 → 1 ≤ n → n ≤ 32
     → committedOf m + (32 + n) ≤ room → committedOf m + (32 + n) ≤ maxLength
     → enter room m (appendNamed n)
-    ≡ record { answer = extended (committedOf m + (32 + n)); model = record { records = m .records ++ recordFor (named n) ∷ []; tail = [] } }
-unfolding allowed enterRecord
+    ≡ record { answer = extended (committedOf m + (32 + n)); model = record { records = m .records ++ recordFor (named n) ∷ []; tail = [] }; index = none }
+unfolding allowed enterRecord refreshed
 finished room m n day least most fits fits′ =
     entered room m n all day least most fits fits′
     ∙ rw (le-leb (length (recordBytes (recordFor (named n)))) (length (recordBytes (recordFor (named n)))) (omega arith), named-length n) refl
@@ -164,8 +175,8 @@ after-appends room rs (n ∷ ns) h =
 -- a record that is cut after k bytes
 pub cut-short : (room : ℕ) (n k : ℕ) → 1 ≤ n → n ≤ 32 → k < 32 + n → 32 + n ≤ room
     → enter room emptyModel (appendNamedUpto n k)
-    ≡ record { answer = extended k; model = record { records = []; tail = take k (recordBytes (recordFor (named n))) } }
-unfolding allowed enterRecord emptyModel committedOf lengthsOf lastOf
+    ≡ record { answer = extended k; model = record { records = []; tail = take k (recordBytes (recordFor (named n))) }; index = none }
+unfolding allowed enterRecord refreshed emptyModel committedOf lengthsOf lastOf
 cut-short room n k least most less fits =
     entered room emptyModel n (upTo k) (omega arith) least most (omega arith) (omega arith)
     ∙ rw (named-length n, lt-leb (32 + n) k less, zero-add k) refl
@@ -173,7 +184,7 @@ cut-short room n k least most less fits =
 -- no room is the refusal where nothing else is refused
 pub full : (room : ℕ) (m : Model) (n : ℕ) → lastOf (m .records) .day ≤ 1 → 1 ≤ n → n ≤ 32 → committedOf m + (32 + n) ≤ maxLength
     → room < committedOf m + (32 + n) → modelRefusal room m (request n all) ≡ roomRefusal
-unfolding modelRefusal modelRefusals unless firstOf noRoom request named offerOf timesOf gatherBy timesIn
+unfolding modelRefusal modelRefusals unless firstOf noRoom indexWrong indexFull request named offerOf timesOf gatherBy timesIn
 full room m n day least most fits less =
     let big : ℕ = committedOf m + (32 + n) in
     let p = passed big m (request n all) (accepted-exactly big m (request n all) .1 (accepts big m n all day least most (omega arith) fits)) in
@@ -182,5 +193,5 @@ full room m n day least most fits less =
 -- what the model answers then
 pub turned-away : (room : ℕ) (m : Model) (n : ℕ) → modelRefusal room m (request n all) ≡ roomRefusal
     → enter room m (appendNamed n) .answer ≡ declined roomRefusal
-unfolding enter enterBy verdictOf firstTurned byLog byNumber callNamed request named offerOf timesOf gatherBy timesIn breakOf
+unfolding enter enterBy refreshed verdictOf firstTurned byLog byNumber callNamed request named offerOf timesOf gatherBy timesIn breakOf
 turned-away room m n e = rw e (rw (plain-keeps 0 (m .records)) (unfold byBreak firstTurned enterBy in refl))

@@ -3,10 +3,11 @@
 use mathlib.Core.Path.{_≡_, refl, sym, ap, ap₂, _∙_}
 use mathlib.Core.Logic.{_↔_}
 use Prim.Native.Nat.{ℕ, zero, suc, _+_, _≤_, _<_}
-use mathlib.Core.List.{List, [], _∷_, map}
-use mathlib.Core.Bool.{Bool, true, false, _&&_, _||_}
+use mathlib.Core.List.{List, [], _∷_, _++_, map}
+use mathlib.Core.Bool.{Bool, true, false, not, _&&_, _||_}
+use mathlib.Core.Option.{Option, none, some}
 use native.Mathlib.Omega.{arith}
-use lib.ListN.{length, getD, length-map}
+use lib.ListN.{length, take, getD, length-map}
 use lib.Dec.{leb, ltb, eqb}
 use lib.Ieee.{binary64, toBits}
 use borrow.Author.Tests.{le-leb, leb-true, le-ltb, ltb-false, eq-eqb, eqb-true}
@@ -21,11 +22,12 @@ use Rattle.journal_spec.specs.Record.{Record, Last, IsDay, lastOf, judge
 use Rattle.journal_spec.specs.Record.{maxByte, minChances, maxChances, evenChance, recordReader, recordBytes}
 use Rattle.journal_spec.specs.Profile.{Rule, plain, profile, profileChances, profileTimes, inProfile, keeps}
 use Rattle.journal_spec.specs.Scan.{maxLength}
+use Rattle.journal_spec.specs.Index.{indexBytes, inFront, freshIndex}
 use Rattle.journal_spec.specs.Request.{Request, Offer, offerOf}
 use Rattle.journal_spec.specs.Tests.{each, rising, same, nameGood}
 use Rattle.journal_spec.specs.Model.{Model, committedOf, workedOut, recordFor, dayFalls, chancesGood, timesGood}
-use Rattle.journal_spec.specs.Model.{chancesEven, noRoom, modelRefusals, modelRefusal}
-use Rattle.journal_spec.specs.Ranges.{NameRanges, ChanceRanges, TimeRanges, Keeps, Accepted, RecordRanges}
+use Rattle.journal_spec.specs.Model.{chancesEven, noRoom, indexWrong, indexFull, modelRefusals, modelRefusal}
+use Rattle.journal_spec.specs.Ranges.{NameRanges, ChanceRanges, TimeRanges, Keeps, IndexFits, Accepted, RecordRanges}
 use Rattle.journal_spec.proofs.Judging.{unless-none, unless-not, unless-true, first-none, none-at, none-first}
 use Rattle.journal_spec.proofs.Each.{same-lists, same-self, each-holds, holds-each, each-range, range-each, rising-holds, holds-rising}
 use Rattle.journal_spec.proofs.Limits.{formulaBits, times-good, limits-good, limits-exact}
@@ -100,6 +102,23 @@ rule-ranged profile r = (
       (le-leb profileTimes (length (r .times)) (k .times)),
 )
 
+-- ---- the index
+
+pub index-ranged : (m : Model) (r : Record) (index : Option (List ℕ))
+    → ((indexWrong m index ≡ false) × (indexFull m r index ≡ false)) ↔ IndexFits m r index
+unfolding indexWrong indexFull inFront
+index-ranged m r none = (λ h. tt, λ h. (refl, refl))
+index-ranged m r (some b) =
+    let now : List ℕ = indexBytes (freshIndex (m .records)) in
+    let next : List ℕ = indexBytes (freshIndex (m .records ++ r ∷ [])) in (
+      λ h. (same-lists (take (length now) b) now (not-true (same (take (length now) b) now) (h .0)), ltb-false (length b) (length next) (h .1)),
+      λ k. (rw (k .0, same-self now) refl, le-ltb (length b) (length next) (k .1)),
+    )
+  where
+    not-true : (t : Bool) → not t ≡ false → t ≡ true
+    not-true true h = refl
+    not-true false h = sym h
+
 -- ---- a request
 
 -- what each test of the model says where none declines
@@ -111,6 +130,8 @@ pub record Passed (room : ℕ) (m : Model) (q : Request) : Type 0 where
   pub times : timesGood (offerOf q .times) ≡ true
   pub rule : keeps (q .rule) (recordFor (offerOf q)) ≡ true
   pub room′ : noRoom room m (offerOf q) ≡ false
+  pub index : indexWrong m (q .index) ≡ false
+  pub holds : indexFull m (recordFor (offerOf q)) (q .index) ≡ false
 
 pub passed : (room : ℕ) (m : Model) (q : Request) → modelRefusal room m q ≡ 0 → Passed room m q
 unfolding modelRefusal modelRefusals
@@ -125,11 +146,13 @@ passed room m q h =
       times = unless-none (timesGood (o .times)) 5 (row 4);
       rule = unless-none (keeps (q .rule) (recordFor o)) 18 (row 5);
       room′ = unless-not (noRoom room m o) 8 (row 6);
+      index = unless-not (indexWrong m (q .index)) 13 (row 7);
+      holds = unless-not (indexFull m (recordFor o) (q .index)) 14 (row 8);
     }
 
 pub not-declined : (room : ℕ) (m : Model) (q : Request) → Passed room m q → modelRefusal room m q ≡ 0
 unfolding modelRefusal modelRefusals unless firstOf
-not-declined room m q p = rw (p .day, p .name, p .chances, p .even, p .times, p .rule, p .room′) refl
+not-declined room m q p = rw (p .day, p .name, p .chances, p .even, p .times, p .rule, p .room′, p .index, p .holds) refl
 
 either : (a b : Bool) → (a || b) ≡ false → (a ≡ false) × (b ≡ false)
 either true b h = (h, cc)
@@ -155,6 +178,7 @@ accepted-exactly room m q =
             rule = rule-ranged (q .rule) (recordFor o) .0 (p .rule);
             fitsSlice = ltb-false room size (fit .0);
             fitsJournal = ltb-false maxLength size (fit .1);
+            index = index-ranged m (recordFor o) (q .index) .0 (p .index, p .holds);
           },
       λ a.
           let f = a .offer in
@@ -166,6 +190,8 @@ accepted-exactly room m q =
             times = time-ranged (o .times) .1 (f .times);
             rule = rule-ranged (q .rule) (recordFor o) .1 (a .rule);
             room′ = rw (le-ltb room size (a .fitsSlice), le-ltb maxLength size (a .fitsJournal)) refl;
+            index = index-ranged m (recordFor o) (q .index) .1 (a .index) .0;
+            holds = index-ranged m (recordFor o) (q .index) .1 (a .index) .1;
           }),
     )
 

@@ -3,6 +3,7 @@
 use mathlib.Core.Path.{_≡_, refl, sym, ap}
 use Prim.Native.Nat.{ℕ, zero, suc}
 use mathlib.Core.List.{List, []}
+use mathlib.Core.Option.{Option}
 use mathlib.Core.Bool.{Bool, true, false, cond}
 use lib.Dec.{eqb}
 use native.Mathlib.Omega.{arith}
@@ -12,21 +13,26 @@ use Rattle.journal_spec.specs.Scan.{Placed, Contents, standing, faulty, 
 use Rattle.journal_spec.specs.Scan as S
 use Rattle.journal_spec.specs.Read.{noPart, partOf, partPlace, partBytes, readPart, unmarked, markIn, readMark}
 use Rattle.journal_spec.specs.Log.{Gathered, gathered, misread}
-use Rattle.journal_spec.specs.Request.{Journal, Request, timesOf, AppendResult, extended, declinedAt, damaged}
+use Rattle.journal_spec.specs.Request.{Journal, Request, timesOf, AppendResult, extended, declinedAt, damaged, Outcome}
 use Rattle.journal_spec.specs.Append.{unchanged, extend, settle, appendTo, appendWith, appendOf}
 
--- the answer is a length, or nothing was touched: every byte and the length are as they were
-settle-untouched : (n : ℕ) (j : Journal) (committed : ℕ) (new : List ℕ) (a : AppendResult)
-    → settle n j committed new .answer ≡ a → ((m : ℕ) → a ≡ extended m → ⊥) → settle n j committed new .journal ≡ j
+-- every byte of both buffers and the length are as they were
+pub record Untouched (j : Journal) (before : Option (List ℕ)) (out : Outcome) : Type 0 where
+  pub journal : out .journal ≡ j
+  pub index : out .index ≡ before
+
+-- the answer is a length, or nothing was touched
+settle-untouched : (n : ℕ) (j : Journal) (index : Option (List ℕ)) (committed : ℕ) (new : List ℕ) (next : Option (List ℕ)) (a : AppendResult)
+    → settle n j index committed new next .answer ≡ a → ((m : ℕ) → a ≡ extended m → ⊥) → Untouched j index (settle n j index committed new next)
 unfolding settle extend unchanged
-settle-untouched zero j committed new a e other = absurd (other _ (sym e))
-settle-untouched (suc n) j committed new a e other = refl
+settle-untouched zero j index committed new next a e other = absurd (other _ (sym e))
+settle-untouched (suc n) j index committed new next a e other = record { journal = refl; index = refl }
 
 untouched : (x : Contents) (j : Journal) (q : Request) (a : AppendResult)
-    → appendTo x j q .answer ≡ a → ((m : ℕ) → a ≡ extended m → ⊥) → appendTo x j q .journal ≡ j
+    → appendTo x j q .answer ≡ a → ((m : ℕ) → a ≡ extended m → ⊥) → Untouched j (q .index) (appendTo x j q)
 unfolding appendTo unchanged
-untouched (faulty n p) j q a e other = refl
-untouched (standing ps committed) j q a e other = settle-untouched _ j committed _ a e other
+untouched (faulty n p) j q a e other = record { journal = refl; index = refl }
+untouched (standing ps committed) j q a e other = settle-untouched _ j (q .index) committed _ _ a e other
 
 -- scan says damaged exactly of faulty contents
 pub standing-not-damaged : (len : ℕ) (ps : List Placed) (committed n p : ℕ) → statusOf len (standing ps committed) ≡ S.damaged n p → ⊥
@@ -46,14 +52,14 @@ fault-said len m q n p j r h =
     rw (a, b) refl
 
 unread-untouched : (g : Gathered) (j : Journal) (q : Request) (a : AppendResult)
-    → appendWith g j q .answer ≡ a → ((m : ℕ) → a ≡ extended m → ⊥) → appendWith g j q .journal ≡ j
+    → appendWith g j q .answer ≡ a → ((m : ℕ) → a ≡ extended m → ⊥) → Untouched j (q .index) (appendWith g j q)
 unfolding appendWith unchanged
-unread-untouched (misread n p) j q a e other = refl
+unread-untouched (misread n p) j q a e other = record { journal = refl; index = refl }
 unread-untouched (gathered ts) j q a e other = untouched _ j q a e other
 
 module _ (j : Journal) (q : Request) where
-  -- a call that answers no length leaves every byte and the length
-  pub refused-untouched : ((m : ℕ) → appendOf j q .answer ≡ extended m → ⊥) → appendOf j q .journal ≡ j
+  -- a call that answers no length leaves every byte of both buffers and the length
+  pub refused-untouched : ((m : ℕ) → appendOf j q .answer ≡ extended m → ⊥) → Untouched j (q .index) (appendOf j q)
   unfolding appendOf
   refused-untouched other = unread-untouched (timesOf q) j q _ refl other
 

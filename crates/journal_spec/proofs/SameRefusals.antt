@@ -4,6 +4,7 @@ use mathlib.Core.Path.{_≡_, refl, sym, ap, _∙_}
 use Prim.Native.Nat.{ℕ, zero, suc, _+_, _≤_, min}
 use mathlib.Core.List.{List, [], _∷_, _++_}
 use mathlib.Core.Bool.{Bool, true, false, not, _&&_, _||_}
+use mathlib.Core.Option.{Option, none, some}
 use native.Mathlib.Omega.{arith}
 use lib.ListN.{length, length-map}
 use lib.Dec.{leb, ltb}
@@ -13,21 +14,25 @@ use Rattle.limit.specs.Formula.{sampleForm}
 use Rattle.limit.specs.Answer.{chanceRefusal, timesRefusal}
 use Rattle.limit.specs.Limit.{minChance, maxChance, chanceInRange}
 use Rattle.limit.proofs.InRange as R
-use Rattle.journal_spec.specs.Refusals.{nameRefusal, evenRefusal, unless, outside, firstOf}
+use Rattle.journal_spec.specs.Refusals.{nameRefusal, indexRefusal, indexRoomRefusal, evenRefusal, unless, outside, firstOf}
 use Rattle.journal_spec.specs.Section.{itemsRefusal, sectionRefusal}
 use Rattle.journal_spec.specs.Record.{lastOf, judgeDay, lastChance, judgeChance, nameSection, chanceSection, timeSection, minName, maxName}
 use Rattle.journal_spec.specs.Record.{minByte, maxByte, minChances, maxChances, evenChance, recordBytes}
 use Rattle.journal_spec.specs.Profile.{Rule, plain, profile, inProfile, keeps}
-use Rattle.journal_spec.specs.Scan.{maxLength, Placed, recordsOf}
+use Rattle.journal_spec.specs.Scan.{maxLength}
+use Rattle.journal_spec.specs.Index.{indexBytes, inFront, indexOf, freshIndex}
 use Rattle.journal_spec.specs.Request.{Request, Offer, offerOf}
-use Rattle.journal_spec.specs.Append.{offered, limitsOf, judgeEven, judgeRoom, appendRefusals}
+use Rattle.journal_spec.specs.Append.{offered, limitsOf, judgeEven, judgeRoom, ofHanded, judgeIndex, judgeIndexRoom}
+use Rattle.journal_spec.specs.Append.{nextIndex, appendRefusals}
 use Rattle.journal_spec.specs.Tests.{each, risingFrom, rising, nameGood}
 use Rattle.journal_spec.specs.Model.{Model, committedOf, recordFor, dayFalls, chancesGood}
-use Rattle.journal_spec.specs.Model.{chancesEven, timesGood, noRoom, modelRefusals, modelRefusal}
+use Rattle.journal_spec.specs.Model.{chancesEven, timesGood, noRoom, indexWrong, indexFull, modelRefusals, modelRefusal}
 use Rattle.journal_spec.proofs.Judging.{first-of-two, unless-none, unless-true}
 use Rattle.journal_spec.proofs.Reading.{by-order}
 use Rattle.journal_spec.proofs.Limits.{formulaBits, times-good, limits-are}
 use Rattle.journal_spec.proofs.Records.{length-record}
+use Rattle.journal_spec.proofs.Places.{placedFrom, recordsOf-placed}
+use Rattle.journal_spec.proofs.Indexes.{same-index, next-index}
 
 -- ---- the sections, as tests of the whole list
 
@@ -202,15 +207,43 @@ unfolding keeps inProfile offered recordFor
 same-keeps plain o = refl
 same-keeps profile o = refl
 
-pub same-refusal : (room : ℕ) (m : Model) (ps : List Placed) (q : Request) → recordsOf ps ≡ m .records
-    → firstOf (appendRefusals room ps (committedOf m) q) ≡ modelRefusal room m q
+-- ---- the index
+
+not-not : (b : Bool) → b ≡ not (not b)
+not-not true = refl
+not-not false = refl
+
+index-refused : (m : Model) (index : Option (List ℕ))
+    → ofHanded (judgeIndex (indexOf (placedFrom 0 (m .records)))) index ≡ unless (not (indexWrong m index)) indexRefusal
+unfolding ofHanded judgeIndex indexWrong unless
+index-refused m none = refl
+index-refused m (some b) =
+    rw (same-index (m .records))
+    (ap (λ (t : Bool). unless t indexRefusal) (not-not (inFront (indexBytes (freshIndex (m .records))) b)))
+
+-- the index with the record is the model's
+pub same-next : (m : Model) (o : Offer) → nextIndex (placedFrom 0 (m .records)) (committedOf m) o ≡ freshIndex (m .records ++ recordFor o ∷ [])
+unfolding nextIndex committedOf recordFor
+same-next m o = next-index (m .records) (recordFor o)
+
+index-room-refused : (m : Model) (o : Offer) (index : Option (List ℕ))
+    → ofHanded (judgeIndexRoom (nextIndex (placedFrom 0 (m .records)) (committedOf m) o)) index
+    ≡ unless (not (indexFull m (recordFor o) index)) indexRoomRefusal
+unfolding ofHanded judgeIndexRoom indexFull unless
+index-room-refused m o none = refl
+index-room-refused m o (some b) =
+    rw (same-next m o)
+    (ap (λ (t : Bool). unless t indexRoomRefusal) (not-below (length (indexBytes (freshIndex (m .records ++ recordFor o ∷ [])))) (length b)))
+
+pub same-refusal : (room : ℕ) (m : Model) (q : Request)
+    → firstOf (appendRefusals room (placedFrom 0 (m .records)) (committedOf m) q) ≡ modelRefusal room m q
 unfolding appendRefusals modelRefusal modelRefusals judgeDay judgeRoom dayFalls noRoom
-same-refusal room m ps q records =
+same-refusal room m q =
     let o : Offer = offerOf q in
     let size : ℕ = committedOf m + length (recordBytes (recordFor o)) in
     let good = unless-none (chancesGood (o .chances)) 4 in
     same-rows _ _ (
-      rw (records, not-below (lastOf (m .records) .day) (o .day)) refl,
+      rw (recordsOf-placed 0 (m .records), not-below (lastOf (m .records) .day) (o .day)) refl,
       λ day. (
         name-refused (o .name),
         λ name. (
@@ -223,7 +256,13 @@ same-refusal room m ps q records =
                 rw (same-keeps (q .rule) o) refl,
                 λ rule. (
                   rw (same-length o, fits-both size room maxLength) refl,
-                  λ fits. tt,
+                  λ fits. (
+                    index-refused m (q .index),
+                    λ index. (
+                      index-room-refused m o (q .index),
+                      λ holds. tt,
+                    ),
+                  ),
                 ),
               ),
             ),

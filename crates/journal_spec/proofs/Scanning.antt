@@ -21,6 +21,7 @@ use Rattle.journal_spec.specs.Model.{breakFrom}
 use Rattle.journal_spec.specs.Ranges.{RecordRanges, AllRanges}
 use Rattle.journal_spec.proofs.Reading.{by-test, field-short, found-not-fault, found-not-short, short-not-fault}
 use Rattle.journal_spec.proofs.Ranged.{reads-back, encoding-length}
+use Rattle.journal_spec.proofs.Places.{placedFrom}
 
 -- ---- journals
 
@@ -62,24 +63,9 @@ records-count before [] f = omega arith
 records-count before (r ∷ rs) f =
     rw length-append (omega (arith, encoding-length (lastOf before) r (f .0), records-count (before ++ r ∷ []) rs (f .1)))
 
--- the records in their places, from the place `at` on
-unfoldable pub placedFrom : ℕ → List Record → List Placed
-placedFrom at [] = []
-placedFrom at (r ∷ rs) = record { content = r; start = at; size = length (recordBytes r) } ∷ placedFrom (at + length (recordBytes r)) rs
-
 pub recordsOf-snoc : (ps : List Placed) (p : Placed) → recordsOf (ps ++ p ∷ []) ≡ recordsOf ps ++ p .content ∷ []
 unfolding recordsOf
 recordsOf-snoc ps p = map-append (λ (q : Placed). q .content) ps (p ∷ [])
-
-pub recordsOf-placed : (at : ℕ) (rs : List Record) → recordsOf (placedFrom at rs) ≡ rs
-unfolding recordsOf placedFrom
-recordsOf-placed at [] = refl
-recordsOf-placed at (r ∷ rs) = ap (λ (l : List Record). r ∷ l) (recordsOf-placed (at + length (recordBytes r)) rs)
-
-pub length-placed : (at : ℕ) (rs : List Record) → length (placedFrom at rs) ≡ length rs
-unfolding placedFrom
-length-placed at [] = refl
-length-placed at (r ∷ rs) = ap suc (length-placed (at + length (recordBytes r)) rs)
 
 -- ---- a record by a rule
 

@@ -4,6 +4,7 @@ use mathlib.Core.Path.{_≡_, refl, sym, ap, _∙_}
 use Prim.Native.Nat.{ℕ, zero, suc, _<_}
 use mathlib.Core.List.{List, [], _∷_, _++_, append-assoc, append-nil}
 use mathlib.Core.Bool.{Bool, true, false, cond, _&&_}
+use mathlib.Core.Option.{Option}
 use native.Mathlib.Omega.{arith}
 use native.Mathlib.Nat.{zero-add}
 use lib.ListN.{getD, length}
@@ -22,19 +23,20 @@ use Rattle.journal_spec.specs.Ranges.{RecordRanges, AllRanges}
 use Rattle.journal_spec.proofs.Ranged.{reads-back}
 use Rattle.journal_spec.proofs.Demand.{start, after-all, plain-part, plain-mark, demand3}
 
-pub enter-is : (room : ℕ) (m : Model) (c : Call) → enter room m c ≡ enterBy (verdictOf room m (c .request)) m (recordOf c) (budgetOf c)
+pub enter-is : (room : ℕ) (m : Model) (c : Call) → enter room m c ≡ enterBy (verdictOf room m (c .request)) m (recordOf c) (budgetOf c) (c .request .index)
 unfolding enter offerBy budgetOf recordOf
 enter-is room m c = refl
 
 -- ---- which records are shown
 
-records-entered : (v : Verdict) (m : Model) (r : Record) (k : ℕ)
-    → enterBy v m r k .model .records ≡ m .records ++ cond (isTaken v && leb (length (recordBytes r)) k) (r ∷ []) []
+records-entered : (v : Verdict) (m : Model) (r : Record) (k : ℕ) (index : Option (List ℕ))
+    → enterBy v m r k index .model .records ≡ m .records ++ cond (isTaken v && leb (length (recordBytes r)) k) (r ∷ []) []
 unfolding enterBy enterRecord isTaken
-records-entered (turned answer) m r k = sym (append-nil (m .records))
-records-entered taken m r k = go (leb (length (recordBytes r)) k) refl
+records-entered (turned answer) m r k index = sym (append-nil (m .records))
+records-entered taken m r k index = go (leb (length (recordBytes r)) k) refl
   where
-    go : (b : Bool) → leb (length (recordBytes r)) k ≡ b → enterRecord m r k .model .records ≡ m .records ++ cond (leb (length (recordBytes r)) k) (r ∷ []) []
+    go : (b : Bool) → leb (length (recordBytes r)) k ≡ b
+        → enterRecord m r k index .model .records ≡ m .records ++ cond (leb (length (recordBytes r)) k) (r ∷ []) []
     go true e = rw e refl
     go false e = rw e (sym (append-nil (m .records)))
 
@@ -44,7 +46,8 @@ unfolding modelAfter finished finishes
 records-are-finished room m [] = sym (append-nil (m .records))
 records-are-finished room m (c ∷ cs) =
     let one : enter room m c .model .records ≡ m .records ++ cond (finishes room m c) (recordOf c ∷ []) [] =
-    ap (λ (e : Entry). e .model .records) (enter-is room m c) ∙ records-entered (verdictOf room m (c .request)) m (recordOf c) (budgetOf c) in
+    ap (λ (e : Entry). e .model .records) (enter-is room m c)
+    ∙ records-entered (verdictOf room m (c .request)) m (recordOf c) (budgetOf c) (c .request .index) in
     records-are-finished room (enter room m c .model) cs
     ∙ ap (λ (rs : List Record). rs ++ finished room (enter room m c .model) cs) one
     ∙ append-assoc (m .records) _ _

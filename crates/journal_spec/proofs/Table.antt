@@ -5,6 +5,7 @@ use mathlib.Core.Logic.{_⊎_, inl, inr, ⊎-elim, _↔_}
 use Prim.Native.Nat.{ℕ, zero, suc, _+_, _-_, _≤_, _<_, min}
 use mathlib.Core.List.{List, [], _∷_, _++_}
 use mathlib.Core.Bool.{Bool, true, false, cond, _||_}
+use mathlib.Core.Option.{Option, none, some}
 use native.Mathlib.Omega.{arith}
 use lib.ListN.{length, take, drop, getD, length-drop}
 use lib.Dec.{leb, eqb}
@@ -22,9 +23,12 @@ use Rattle.journal_spec.specs.Scan.{maxLength, Placed, recordsOf, Conten
 use Rattle.journal_spec.specs.Scan.{scanOf}
 use Rattle.journal_spec.specs.Profile.{Rule, keeps}
 use Rattle.journal_spec.specs.Scan as S
+use Rattle.journal_spec.specs.Index.{indexBytes, inFront, indexOf}
 use Rattle.journal_spec.specs.Log.{Gathered, gathered, misread}
 use Rattle.journal_spec.specs.Request.{Journal, Request, Offer, timesOf, offerOf, declined}
-use Rattle.journal_spec.specs.Append.{judgeEven, judgeRoom, appendRefusals, unchanged, extend, settle, appendTo, appendWith}
+use Rattle.journal_spec.specs.Append.{judgeEven, judgeRoom, ofHanded, judgeIndex, judgeIndexRoom}
+use Rattle.journal_spec.specs.Append.{nextIndex, appendRefusals, unchanged, extend, settle, appendTo}
+use Rattle.journal_spec.specs.Append.{appendWith}
 use Rattle.journal_spec.specs.Append.{appendOf}
 use Rattle.journal_spec.specs.Tests.{each, nameGood}
 use Rattle.journal_spec.specs.Model.{chancesGood, timesGood}
@@ -264,13 +268,19 @@ length-exactly rule slice len = (λ h. beyond (contentsOf rule slice len) refl h
 
 -- the numbers of a declined append, in the order in which they are judged (7 is none of them: an offer's limits are worked out, not given)
 abbrev pub appendNumbers : List ℕ
-appendNumbers = 3 ∷ 4 ∷ 5 ∷ 17 ∷ 6 ∷ 19 ∷ 9 ∷ []
+appendNumbers = 3 ∷ 4 ∷ 5 ∷ 17 ∷ 6 ∷ 19 ∷ 9 ∷ 14 ∷ 15 ∷ []
 
 abbrev pub OfOffer : ℕ → Type 0
 OfOffer = Among appendNumbers
 
+handed-number : (m : ℕ) (test : List ℕ → Bool) (index : Option (List ℕ)) → Among appendNumbers m
+    → (n : ℕ) → ofHanded (λ b. unless (test b) m) index ≡ suc n → OfOffer (suc n)
+unfolding ofHanded
+handed-number m test none known n h = absurd (omega arith)
+handed-number m test (some b) known n h = only appendNumbers (test b) m n known h
+
 append-number : (room : ℕ) (ps : List Placed) (committed : ℕ) (q : Request) (n : ℕ) → firstOf (appendRefusals room ps committed q) ≡ suc n → OfOffer (suc n)
-unfolding appendRefusals judgeDay judgeEven judgeRoom among
+unfolding appendRefusals judgeDay judgeEven judgeRoom judgeIndex judgeIndexRoom among
 append-number room ps committed q =
     let o : Offer = offerOf q in
     one-of OfOffer
@@ -281,15 +291,19 @@ append-number room ps committed q =
     (row (λ n e. only appendNumbers (timesGood (o .times)) 6 n refl (sym (time-refused (o .times)) ∙ e))
     (row (λ n e. only appendNumbers _ 19 n refl e)
     (row (λ n e. only appendNumbers _ 9 n refl e)
-    end)))))))
+    (row (handed-number 14 (λ b. inFront (indexBytes (indexOf ps)) b) (q .index) refl)
+    (row (handed-number 15 (λ b. leb (length (indexBytes (nextIndex ps committed o))) (length b)) (q .index) refl)
+    end)))))))))
 
-extended-not-declined : (j : Journal) (committed : ℕ) (new : List ℕ) (n : ℕ) → settle 0 j committed new .answer ≡ declined n → ⊥
+extended-not-declined : (j : Journal) (index : Option (List ℕ)) (committed : ℕ) (new : List ℕ) (next : Option (List ℕ)) (n : ℕ)
+    → settle 0 j index committed new next .answer ≡ declined n → ⊥
 unfolding settle extend
-extended-not-declined j committed new n e = let z : _≡_ {A = ℕ} 0 1 = cc in omega arith
+extended-not-declined j index committed new next n e = let z : _≡_ {A = ℕ} 0 1 = cc in omega arith
 
-declined-same : (m : ℕ) (j : Journal) (committed : ℕ) (new : List ℕ) (n : ℕ) → settle (suc m) j committed new .answer ≡ declined n → suc m ≡ n
+declined-same : (m : ℕ) (j : Journal) (index : Option (List ℕ)) (committed : ℕ) (new : List ℕ) (next : Option (List ℕ)) (n : ℕ)
+    → settle (suc m) j index committed new next .answer ≡ declined n → suc m ≡ n
 unfolding settle unchanged
-declined-same m j committed new n e = cc
+declined-same m j index committed new next n e = cc
 
 damaged-not-declined : (m p : ℕ) (j : Journal) (q : Request) (n : ℕ) → appendTo (faulty m p) j q .answer ≡ declined n → ⊥
 unfolding appendTo unchanged
@@ -304,15 +318,16 @@ pub declined-number : (j : Journal) (q : Request) (n : ℕ) → appendOf j q .an
 unfolding appendOf
 declined-number j q n h = by-times (timesOf q) h
   where
-    by-refusal : (m committed : ℕ) (new : List ℕ) → ((i : ℕ) → m ≡ suc i → OfOffer (suc i)) → settle m j committed new .answer ≡ declined n → OfOffer n
-    by-refusal zero committed new f e = absurd (extended-not-declined j committed new n e)
-    by-refusal (suc m) committed new f e = rw (declined-same m j committed new n e) at (f m refl)
+    by-refusal : (m committed : ℕ) (new : List ℕ) (next : Option (List ℕ)) → ((i : ℕ) → m ≡ suc i → OfOffer (suc i))
+        → settle m j (q .index) committed new next .answer ≡ declined n → OfOffer n
+    by-refusal zero committed new next f e = absurd (extended-not-declined j (q .index) committed new next n e)
+    by-refusal (suc m) committed new next f e = rw (declined-same m j (q .index) committed new next n e) at (f m refl)
 
     by-contents : (x : Contents) → appendTo x j q .answer ≡ declined n → OfOffer n
     by-contents (faulty m p) e = absurd (damaged-not-declined m p j q n e)
     by-contents (standing ps committed) e =
         unfold appendTo in
-        by-refusal (firstOf (appendRefusals (length (j .slice)) ps committed q)) committed _ (append-number (length (j .slice)) ps committed q) e
+        by-refusal (firstOf (appendRefusals (length (j .slice)) ps committed q)) committed _ _ (append-number (length (j .slice)) ps committed q) e
 
     by-times : (g : Gathered) → appendWith g j q .answer ≡ declined n → OfOffer n
     by-times (misread m p) e = absurd (unread-not-declined m p j q n e)

@@ -5,6 +5,7 @@ use mathlib.Core.Logic.{_⊎_, inl, inr, ⊎-elim, _↔_}
 use Prim.Native.Nat.{ℕ, _+_, _≤_, _<_}
 use mathlib.Core.List.{List, [], _∷_, _++_}
 use mathlib.Core.Bool.{Bool, true, false}
+use mathlib.Core.Option.{Option}
 use native.Mathlib.Omega.{arith}
 use lib.ListN.{length, take, length-append}
 use lib.Seq.{length-take-le}
@@ -16,7 +17,8 @@ use Rattle.journal_spec.specs.Scan.{ScanResult, whole, torn, scanOf}
 use Rattle.journal_spec.specs.Request.{extended}
 use Rattle.journal_spec.specs.Calls.{operations, Call, emptyIn, journalAfter}
 use Rattle.journal_spec.specs.Model.{Model, emptyModel, lengthsOf, committedOf, Verdict, taken, turned, verdictOf, Entry, enterRecord, enterBy}
-use Rattle.journal_spec.specs.Model.{enter, modelAfter}
+use Rattle.journal_spec.specs.Model.{refreshed, enter, modelAfter}
+use Rattle.journal_spec.specs.Index.{freshIndex}
 use Rattle.journal_spec.specs.Shown.{budgetOf, recordOf, AllDeclined}
 use Rattle.journal_spec.specs.Demand.{endOf}
 use Rattle.journal_spec.proofs.Reading.{by-order}
@@ -28,7 +30,7 @@ use Rattle.journal_spec.proofs.Shown.{enter-is}
 declined-stays : (room : ℕ) (m : Model) (c : Call) → (verdictOf room m (c .request) ≡ taken → ⊥) → enter room m c .model ≡ m
 declined-stays room m c h = ap (λ (e : Entry). e .model) (enter-is room m c) ∙ go (verdictOf room m (c .request)) h
   where
-    go : (v : Verdict) → (v ≡ taken → ⊥) → enterBy v m (recordOf c) (budgetOf c) .model ≡ m
+    go : (v : Verdict) → (v ≡ taken → ⊥) → enterBy v m (recordOf c) (budgetOf c) (c .request .index) .model ≡ m
     go taken h = absurd (h refl)
     go (turned answer) h = unfold enterBy in refl
 
@@ -93,29 +95,35 @@ whole-if-all-declined slice cs h =
     scanned slice cs ∙ ap endOf (all-stay (length slice) emptyModel cs h) ∙ unfold endOf emptyModel committedOf lengthsOf in refl
 
 -- what the model's scan says after a record is entered, by the budget
-module _ (m : Model) (r : Record) (k : ℕ) where
-  entered-cut : 0 < k → k < length (recordBytes r) → endOf (enterRecord m r k .model) ≡ torn (length (m .records)) (committedOf m)
+module _ (m : Model) (r : Record) (k : ℕ) (index : Option (List ℕ)) where
+  entered-cut : 0 < k → k < length (recordBytes r) → endOf (enterRecord m r k index .model) ≡ torn (length (m .records)) (committedOf m)
   unfolding enterRecord endOf committedOf
   entered-cut some less =
-      let e : enterRecord m r k ≡ record { answer = extended (committedOf m + k); model = record { records = m .records; tail = take k (recordBytes r) } } =
+      let e : enterRecord m r k index
+      ≡ record { answer = extended (committedOf m + k); model = record { records = m .records; tail = take k (recordBytes r) }; index = index } =
       rw (lt-leb (length (recordBytes r)) k less) refl in
       ap (λ (x : Entry). endOf (x .model)) e
       ∙ rw (length-take-le k (recordBytes r) (omega arith), ne-eqb k 0 (λ z. omega arith)) refl
 
   entered-all : length (recordBytes r) ≤ k
-      → endOf (enterRecord m r k .model) ≡ whole (length (m .records) + 1) (committedOf m + length (recordBytes r))
+      → endOf (enterRecord m r k index .model) ≡ whole (length (m .records) + 1) (committedOf m + length (recordBytes r))
   unfolding enterRecord endOf committedOf
   entered-all all =
-      let e : enterRecord m r k
-      ≡ record { answer = extended (committedOf m + length (recordBytes r)); model = record { records = m .records ++ r ∷ []; tail = [] } } =
+      let e : enterRecord m r k index
+      ≡ record {
+        answer = extended (committedOf m + length (recordBytes r));
+        model = record { records = m .records ++ r ∷ []; tail = [] };
+        index = refreshed (freshIndex (m .records ++ r ∷ [])) index;
+      } =
       rw (le-leb (length (recordBytes r)) k all) refl in
       ap (λ (x : Entry). endOf (x .model)) e
       ∙ rw (length-append, lengths-snoc (m .records) r) refl
 
-  entered-none : k ≡ 0 → endOf (enterRecord m r k .model) ≡ whole (length (m .records)) (committedOf m)
+  entered-none : k ≡ 0 → endOf (enterRecord m r k index .model) ≡ whole (length (m .records)) (committedOf m)
   unfolding enterRecord endOf committedOf
   entered-none none =
-      let e : enterRecord m r k ≡ record { answer = extended (committedOf m + k); model = record { records = m .records; tail = take k (recordBytes r) } } =
+      let e : enterRecord m r k index
+      ≡ record { answer = extended (committedOf m + k); model = record { records = m .records; tail = take k (recordBytes r) }; index = index } =
       rw (lt-leb (length (recordBytes r)) k (omega (arith, length-record r))) refl in
       ap (λ (x : Entry). endOf (x .model)) e
       ∙ rw none refl
@@ -127,7 +135,7 @@ module _ (slice : List ℕ) (cs : List Call) (c : Call) (ds : List Call)
   abbrev base : Model
   base = modelAfter (length slice) emptyModel cs
 
-  ends : modelAfter (length slice) emptyModel (cs ++ c ∷ ds) ≡ enterRecord base (recordOf c) (budgetOf c) .model
+  ends : modelAfter (length slice) emptyModel (cs ++ c ∷ ds) ≡ enterRecord base (recordOf c) (budgetOf c) (c .request .index) .model
   unfolding enterBy modelAfter
   ends =
       model-append (length slice) emptyModel cs (c ∷ ds)
@@ -139,19 +147,19 @@ module _ (slice : List ℕ) (cs : List Call) (c : Call) (ds : List Call)
   pub torn-if-cut : 0 < budgetOf c → budgetOf c < length (recordBytes (recordOf c))
       → let j = journalAfter operations (emptyIn slice) (cs ++ c ∷ ds) in
       scanOf plain (j .slice) (j .len) ≡ torn (length (base .records)) (committedOf base)
-  torn-if-cut some less = scanned slice (cs ++ c ∷ ds) ∙ ap endOf ends ∙ entered-cut base (recordOf c) (budgetOf c) some less
+  torn-if-cut some less = scanned slice (cs ++ c ∷ ds) ∙ ap endOf ends ∙ entered-cut base (recordOf c) (budgetOf c) (c .request .index) some less
 
   -- it wrote all of it: whole, with one record more
   pub whole-if-finished : length (recordBytes (recordOf c)) ≤ budgetOf c
       → let j = journalAfter operations (emptyIn slice) (cs ++ c ∷ ds) in
       scanOf plain (j .slice) (j .len) ≡ whole (length (base .records) + 1) (committedOf base + length (recordBytes (recordOf c)))
-  whole-if-finished all = scanned slice (cs ++ c ∷ ds) ∙ ap endOf ends ∙ entered-all base (recordOf c) (budgetOf c) all
+  whole-if-finished all = scanned slice (cs ++ c ∷ ds) ∙ ap endOf ends ∙ entered-all base (recordOf c) (budgetOf c) (c .request .index) all
 
   -- it wrote none of it: whole
   pub whole-if-none : budgetOf c ≡ 0
       → let j = journalAfter operations (emptyIn slice) (cs ++ c ∷ ds) in
       scanOf plain (j .slice) (j .len) ≡ whole (length (base .records)) (committedOf base)
-  whole-if-none none = scanned slice (cs ++ c ∷ ds) ∙ ap endOf ends ∙ entered-none base (recordOf c) (budgetOf c) none
+  whole-if-none none = scanned slice (cs ++ c ∷ ds) ∙ ap endOf ends ∙ entered-none base (recordOf c) (budgetOf c) (c .request .index) none
 
 -- ---- exactly
 

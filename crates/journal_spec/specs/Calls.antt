@@ -1,7 +1,9 @@
 -- A list of calls of append, each given the bytes and the length that the last one left.
 -- Stated for any operations, so that a statement about them can be asked of others than the journal's own.
+use mathlib.Core.Path.{_≡_}
 use Prim.Native.Nat.{ℕ, max}
 use mathlib.Core.List.{List, [], _∷_}
+use mathlib.Core.Option.{Option, some}
 use Rattle.journal_spec.specs.Record.{IsDay}
 use Rattle.journal_spec.specs.Profile.{Rule}
 use Rattle.journal_spec.specs.Scan.{ScanResult, scanOf}
@@ -43,7 +45,19 @@ unfoldable pub answersOf : Operations → Journal → List Call → List AppendR
 answersOf ops j [] = []
 answersOf ops j (c ∷ cs) = perform ops j c .answer ∷ answersOf ops (perform ops j c .journal) cs
 
+-- the index's buffer after each, where one was handed
+unfoldable pub indexesOf : Operations → Journal → List Call → List (Option (List ℕ))
+indexesOf ops j [] = []
+indexesOf ops j (c ∷ cs) = perform ops j c .index ∷ indexesOf ops (perform ops j c .journal) cs
+
 -- the greatest length that the journal has before, between and after the calls
 unfoldable pub reachOf : Operations → Journal → List Call → ℕ
 reachOf ops j [] = j .len
 reachOf ops j (c ∷ cs) = max (j .len) (reachOf ops (perform ops j c .journal) cs)
+
+-- each call is handed the index's buffer that the call before it left, the first one b
+abbrev pub Threaded : Operations → Journal → List ℕ → List Call → Type 0
+Threaded ops j b [] = Unit {0}
+Threaded ops j b (c ∷ cs) =
+    (c .request .index ≡ some b)
+    × ((left : List ℕ) → perform ops j c .index ≡ some left → Threaded ops (perform ops j c .journal) left cs)

@@ -14,9 +14,11 @@ pub mod Log
 pub mod Profile
 pub mod Scan
 pub mod Cursor
+pub mod Index
 pub mod Read
 pub mod Request
 pub mod Append
+pub mod MakeIndex
 -- demand 3: the list of calls, the model, the ranges, the statement, and the words of its sentence
 pub mod Calls
 pub mod Model
@@ -25,5 +27,6 @@ pub mod Demand
 pub mod Shown
 -- what came before document 02's requests, for the laws about old journals
 pub mod Former
--- for private contracts: the record's reader from each of its parts on
+-- for private contracts: the record's reader from each of its parts on, and an index entry by entry
 pub mod Stages
+pub mod NextEntry

@@ -4,17 +4,19 @@
 -- (Request), and what keeps a rule (Profile; as inequalities again in Ranges).
 use Prim.Native.Nat.{ℕ, zero, suc, _+_}
 use mathlib.Core.List.{List, [], _∷_, _++_, map}
-use mathlib.Core.Bool.{Bool, cond, _&&_, _||_, not}
+use mathlib.Core.Bool.{Bool, false, cond, _&&_, _||_, not}
 use mathlib.Core.Option.{Option, none, some}
-use lib.ListN.{length, take}
+use lib.ListN.{length, take, drop}
 use lib.Dec.{leb, ltb}
 use lib.Ieee.{Float, binary64, toBits}
 use Rattle.limit.specs.Times.{minTicks, maxTicks, minCount, maxCount, inRange, sumOf, squaresOf}
 use Rattle.limit.specs.Formula.{sampleForm, formulaOf}
 use Rattle.limit.specs.Answer.{chanceRefusal, timesRefusal}
 use Rattle.limit.specs.Limit.{minChance, maxChance}
-use Rattle.journal_spec.specs.Refusals.{dayRefusal, nameRefusal, roomRefusal, evenRefusal, profileRefusal, unless, firstOf}
+use Rattle.journal_spec.specs.Refusals.{dayRefusal, nameRefusal, roomRefusal, indexRefusal}
+use Rattle.journal_spec.specs.Refusals.{indexRoomRefusal, evenRefusal, profileRefusal, unless, firstOf}
 use Rattle.journal_spec.specs.Tests.{each, rising, nameGood}
+use Rattle.journal_spec.specs.Index.{IndexEntry, indexBytes, inFront, freshIndex}
 use Rattle.journal_spec.specs.Log.{Gathered, gathered, misread}
 use Rattle.journal_spec.specs.Record.{Record, lastOf, minChances, maxChances, evenChance, recordBytes}
 use Rattle.journal_spec.specs.Profile.{Rule, keeps}
@@ -79,6 +81,16 @@ timesGood times = inRange minCount maxCount (length times) && each (inRange minT
 unfoldable pub noRoom : ℕ → Model → Offer → Bool
 noRoom room m o = ltb room (committedOf m + length (recordBytes (recordFor o))) || ltb maxLength (committedOf m + length (recordBytes (recordFor o)))
 
+-- 14: an index is handed, and the one of the model's records is not at its buffer's front
+unfoldable pub indexWrong : Model → Option (List ℕ) → Bool
+indexWrong m none = false
+indexWrong m (some b) = not (inFront (indexBytes (freshIndex (m .records))) b)
+
+-- 15: its buffer is shorter than the index with the record
+unfoldable pub indexFull : Model → Record → Option (List ℕ) → Bool
+indexFull m r none = false
+indexFull m r (some b) = ltb (length b) (length (indexBytes (freshIndex (m .records ++ r ∷ []))))
+
 -- what declines a request, in the papers' order
 unfoldable pub modelRefusals : ℕ → Model → Request → List ℕ
 modelRefusals room m q =
@@ -90,6 +102,8 @@ modelRefusals room m q =
     ∷ unless (timesGood (o .times)) timesRefusal
     ∷ unless (keeps (q .rule) (recordFor o)) profileRefusal
     ∷ unless (not (noRoom room m o)) roomRefusal
+    ∷ unless (not (indexWrong m (q .index))) indexRefusal
+    ∷ unless (not (indexFull m (recordFor o) (q .index))) indexRoomRefusal
     ∷ []
 
 -- the first of these, or 0
@@ -138,33 +152,43 @@ byBreak (some at) = turned (damaged profileRefusal at)
 unfoldable pub verdictOf : ℕ → Model → Request → Verdict
 verdictOf room m q = firstTurned (byLog (timesOf q) ∷ byBreak (breakOf (q .rule) m) ∷ byNumber (modelRefusal room m q) ∷ [])
 
--- a call's answer, and the model after it
+-- a call's answer, and the model and the index's buffer after it
 pub record Entry : Type 0 where
   pub answer : AppendResult
   pub model : Model
+  pub index : Option (List ℕ)
 
--- the record is finished if the budget is at least its length, else its first k bytes are the torn tail
-unfoldable pub enterRecord : Model → Record → ℕ → Entry
-enterRecord m r k =
+-- an index made afresh at the buffer's front, where one is handed; the bytes beyond it stay
+unfoldable pub refreshed : List IndexEntry → Option (List ℕ) → Option (List ℕ)
+refreshed es none = none
+refreshed es (some b) = some (indexBytes es ++ drop (length (indexBytes es)) b)
+
+-- The record is finished if the budget is at least its length, and then the index has it; else its first k bytes are the torn tail, and the
+-- index is as it was.
+unfoldable pub enterRecord : Model → Record → ℕ → Option (List ℕ) → Entry
+enterRecord m r k index =
     cond (leb (length (recordBytes r)) k)
     (record {
       answer = extended (committedOf m + length (recordBytes r));
       model = record { records = m .records ++ r ∷ []; tail = [] };
+      index = refreshed (freshIndex (m .records ++ r ∷ [])) index;
     })
     (record {
       answer = extended (committedOf m + k);
       model = record { records = m .records; tail = take k (recordBytes r) };
+      index = index;
     })
 
-unfoldable pub enterBy : Verdict → Model → Record → ℕ → Entry
-enterBy taken m r k = enterRecord m r k
-enterBy (turned answer) m r k = record { answer = answer; model = m }
+unfoldable pub enterBy : Verdict → Model → Record → ℕ → Option (List ℕ) → Entry
+enterBy taken m r k index = enterRecord m r k index
+enterBy (turned answer) m r k index = record { answer = answer; model = m; index = index }
 
 -- a call: its budget is all of its record, or k
 unfoldable pub enter : ℕ → Model → Call → Entry
 enter room m c =
-    let r = recordFor (offerOf (c .request)) in
-    enterBy (verdictOf room m (c .request)) m r (allowed (c .request .budget) (length (recordBytes r)))
+    let q = c .request in
+    let r = recordFor (offerOf q) in
+    enterBy (verdictOf room m q) m r (allowed (q .budget) (length (recordBytes r))) (q .index)
 
 -- ---- a list of calls
 
@@ -177,3 +201,8 @@ modelAfter room m (c ∷ cs) = modelAfter room (enter room m c .model) cs
 unfoldable pub modelAnswers : ℕ → Model → List Call → List AppendResult
 modelAnswers room m [] = []
 modelAnswers room m (c ∷ cs) = enter room m c .answer ∷ modelAnswers room (enter room m c .model) cs
+
+-- and the index's buffer after each
+unfoldable pub modelIndexes : ℕ → Model → List Call → List (Option (List ℕ))
+modelIndexes room m [] = []
+modelIndexes room m (c ∷ cs) = enter room m c .index ∷ modelIndexes room (enter room m c .model) cs

@@ -3,7 +3,8 @@
 use mathlib.Core.Path.{_≡_}
 use Prim.Native.Nat.{ℕ, suc, _+_, _≤_, _<_}
 use mathlib.Core.List.{List, [], _∷_, _++_}
-use lib.ListN.{length, getD}
+use mathlib.Core.Option.{Option, none, some}
+use lib.ListN.{length, take, getD}
 use lib.Ieee.{binary64, toBits}
 use Rattle.limit.specs.Times.{minTicks, maxTicks, minCount, maxCount}
 use Rattle.limit.specs.Formula.{plainForm, sampleForm}
@@ -12,6 +13,7 @@ use Rattle.journal_spec.specs.Record.{Record, Last, IsDay, lastOf, minNa
 use Rattle.journal_spec.specs.Record.{evenChance, recordBytes}
 use Rattle.journal_spec.specs.Profile.{Rule, plain, profile, profileChances, profileTimes}
 use Rattle.journal_spec.specs.Scan.{maxLength}
+use Rattle.journal_spec.specs.Index.{indexBytes, freshIndex}
 use Rattle.journal_spec.specs.Request.{Request, Offer, offerOf}
 use Rattle.journal_spec.specs.Model.{Model, committedOf, workedOut, recordFor}
 
@@ -57,12 +59,20 @@ abbrev pub Keeps : Rule → Record → Type 0
 Keeps plain r = Unit {0}
 Keeps profile r = ProfileRanges r
 
+-- where an index is handed: the journal's stands at its buffer's front, and there is room for the one with the record
+abbrev pub IndexFits : Model → Record → Option (List ℕ) → Type 0
+IndexFits m r none = Unit {0}
+IndexFits m r (some b) =
+    let now = indexBytes (freshIndex (m .records)) in
+    (take (length now) b ≡ now) × (length (indexBytes (freshIndex (m .records ++ r ∷ []))) ≤ length b)
+
 -- a request that a journal with these records and this room takes
 pub record Accepted (room : ℕ) (m : Model) (q : Request) : Type 0 where
   pub offer : Offered m (offerOf q)
   pub rule : Keeps (q .rule) (recordFor (offerOf q))
   pub fitsSlice : committedOf m + length (recordBytes (recordFor (offerOf q))) ≤ room
   pub fitsJournal : committedOf m + length (recordBytes (recordFor (offerOf q))) ≤ maxLength
+  pub index : IndexFits m (recordFor (offerOf q)) (q .index)
 
 -- a record that may stand after the record `last`
 pub record RecordRanges (last : Last) (r : Record) : Type 0 where

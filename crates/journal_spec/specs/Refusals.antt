@@ -43,6 +43,14 @@ manyRefusal = 12
 abbrev pub oldFormRefusal : ℕ
 oldFormRefusal = 13
 
+-- 14: the index handed is not the journal's
+abbrev pub indexRefusal : ℕ
+indexRefusal = 14
+
+-- 15: its buffer cannot hold the index with the record finished
+abbrev pub indexRoomRefusal : ℕ
+indexRoomRefusal = 15
+
 -- 17: an offered chance above 500,000
 abbrev pub evenRefusal : ℕ
 evenRefusal = 17

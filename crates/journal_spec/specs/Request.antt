@@ -2,6 +2,7 @@
 -- Append's definition and the model share them.
 use Prim.Native.Nat.{ℕ}
 use mathlib.Core.List.{List, []}
+use mathlib.Core.Option.{Option}
 use Rattle.journal_spec.specs.Profile.{Rule}
 use Rattle.journal_spec.specs.Log.{Gathered, gathered, misread, gatherOf}
 
@@ -20,7 +21,7 @@ pub data Source : Type 0 where
   times : List ℕ → Source
   log : List ℕ → Source
 
--- what a call is handed besides the journal
+-- what a call is handed besides the journal; the index is the bytes of its buffer, where one is handed
 pub record Request : Type 0 where
   pub day : ℕ
   pub name : List ℕ
@@ -28,6 +29,7 @@ pub record Request : Type 0 where
   pub source : Source
   pub budget : Budget
   pub rule : Rule
+  pub index : Option (List ℕ)
 
 -- document 01's offered leaf, without its limits
 pub record Offer : Type 0 where
@@ -66,7 +68,8 @@ pub data AppendResult : Type 0 where
   declinedAt : ℕ → ℕ → AppendResult
   damaged : ℕ → ℕ → AppendResult
 
--- the answer, and the journal after the call
+-- the answer, and the journal and the index's buffer after the call
 pub record Outcome : Type 0 where
   pub answer : AppendResult
   pub journal : Journal
+  pub index : Option (List ℕ)

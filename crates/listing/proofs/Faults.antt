@@ -17,7 +17,8 @@ use Rattle.journal_spec.specs.Profile.{Rule, keeps}
 use Rattle.journal_spec.specs.Scan.{maxLength, Placed, Contents, standing, faulty, judged, recordAt, contentsOf, whole, torn, statusOf, scanOf}
 use Rattle.journal_spec.specs.Tests.{each}
 use Rattle.journal_spec.proofs.Reading.{field-cases}
-use Rattle.journal_spec.proofs.Scanning.{records-count, length-placed, contents-fits, contents-long}
+use Rattle.journal_spec.proofs.Scanning.{records-count, contents-fits, contents-long}
+use Rattle.journal_spec.proofs.Places.{length-placed}
 use Rattle.journal_spec.proofs.Table.{recordNumbers, among-each, contents-fault, scan-number}
 use Rattle.journal_spec.proofs.Explained.{holding}
 use Rattle.journal_spec.proofs.Profiles.{rule-then-plain}

@@ -15,7 +15,7 @@ use Rattle.journal_spec.specs.Profile.{Rule}
 use Rattle.journal_spec.specs.Scan.{Placed, recordsOf, Contents, standing, faulty, contentsOf, ScanResult, whole, torn, statusOf, scanOf}
 use Rattle.journal_spec.specs.Ranges.{RecordRanges, AllRanges}
 use Rattle.journal_spec.proofs.Ranged.{reads-back}
-use Rattle.journal_spec.proofs.Scanning.{recordsOf-placed, length-placed}
+use Rattle.journal_spec.proofs.Places.{recordsOf-placed, length-placed}
 use Rattle.journal_spec.proofs.Explained.{holding}
 use Rattle.journal_spec.proofs.Profiles.{rule-then-plain}
 use Rattle.listing.specs.Listing.{recordLine, recordLines, stateLine, listingOf}

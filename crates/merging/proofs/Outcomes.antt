@@ -1,7 +1,7 @@
 -- The merge's answers, by what the first pass says of two whole journals and by what both scans say. Assumes nothing.
 use mathlib.Core.Path.{_≡_, refl, sym, ap, subst, _∙_}
-use Prim.Native.Nat.{ℕ, suc, _≤_, _<_, min}
-use mathlib.Core.List.{List, [], _∷_}
+use Prim.Native.Nat.{ℕ, _≤_, _<_, min}
+use mathlib.Core.List.{List, []}
 use mathlib.Core.Option.{Option, none, some}
 use native.Mathlib.Omega.{arith}
 use lib.ListN.{length, take, getD}
@@ -13,6 +13,7 @@ use Rattle.journal_spec.specs.Scan.{maxLength, whole, scanOf}
 use Rattle.journal_spec.specs.Append.{written}
 use Rattle.journal_spec.specs.Model.{lengthsOf}
 use Rattle.journal_spec.specs.Cursor.{recordsUpto, recordsIn}
+use Rattle.journal_spec.proofs.Numbers.{are-bytes}
 use Rattle.journal_spec.proofs.Cursor.{follow-good, cursor-start}
 use Rattle.journal.specs.Answers.{meaning}
 use Rattle.journal.specs.declared.Status.{Status}
@@ -75,10 +76,6 @@ module _ (rs : List Record) (buffer : List ℕ) where
         (sym (whole-put rs buffer 0 0 0 0 (measured-length rs n h .0) (omega (arith, outcome-length))) ∙ whole-rows 0 0 0 0 rs buffer)
 
 -- ---- what the scans say
-
-are-bytes : (b : List ℕ) → ((i : ℕ) → getD b i 0 < 256) → AreBytes b
-are-bytes [] h = tt
-are-bytes (x ∷ xs) h = (h 0, are-bytes xs (λ i. h (suc i)))
 
 -- a whole journal's bytes, as the passes ask for them
 whole-bytes : (slice : List ℕ) (len : ℕ) → Whole slice len → WholeBytes (take len slice)

@@ -17,7 +17,7 @@ use Rattle.merge_spec.proofs.MergeLoop.{coming, Measured, measured-start, measu
 use Rattle.merge_spec.proofs.MergeLoop.{Copied, copied-start, copied-next}
 use Rattle.merging.specs.Records.{WholeBytes, sourceOf}
 use Rattle.merging.specs.Passes.{Reached, Somewhere, Took, Passed, measuredBy, measuredOf}
-use Rattle.merging.specs.declared.records.Part.{Part}
+use Rattle.merging.specs.declared.parts.Part.{Part}
 use Rattle.merging.specs.declared.stepping.Places.{Places}
 use Rattle.merging.specs.declared.measuring.Measured.the-variants as M
 use Rattle.merging.proofs.Steps.{start}

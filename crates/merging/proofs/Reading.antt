@@ -1,6 +1,6 @@
 -- What the counts of a record that stands at a place say, as the code reads them. Assumes nothing.
-use mathlib.Core.Path.{_≡_, refl, _∙_}
-use Prim.Native.Nat.{ℕ, _+_, _-_, _*_, _≤_, _<_}
+use mathlib.Core.Path.{_≡_, refl, sym, _∙_}
+use Prim.Native.Nat.{ℕ, _+_, _-_, _≤_, _<_}
 use mathlib.Core.List.{List, [], _∷_}
 use mathlib.Core.Bool.{true, false}
 use native.Mathlib.Omega.{arith}
@@ -11,10 +11,13 @@ use Rattle.journal_spec.specs.Bytes.{numberAt}
 use Rattle.journal_spec.specs.Record.{Record}
 use Rattle.journal_spec.specs.Scan.{maxLength}
 use Rattle.journal_spec.specs.Cursor.{formAt, dayAt, sizeAt}
-use Rattle.journal_spec.proofs.Cursor.{Cursor, Read, cursor-read, cursor-some}
+use Rattle.journal_spec.proofs.Pieces.{RecordHere}
+use Rattle.journal_spec.proofs.Cursor.{Cursor, cursor-read, cursor-some}
 use Rattle.journal.specs.Numbers.{numberIn}
+use Rattle.records.specs.Front.{recordSize}
+use Rattle.records.proofs.Front.{front-size}
 use Rattle.merging.specs.Records.{Rest, AtRecord, sourceOf}
-use Rattle.merging.specs.declared.records.Part.{Part}
+use Rattle.merging.specs.declared.parts.Part.{Part}
 
 number-stands : (at : ℕ) (b : List ℕ) → at + 2 ≤ length b → numberIn 2 at b ≡ numberAt 2 at b
 unfolding numberIn
@@ -52,7 +55,7 @@ pub rest-record : (b : List ℕ) (at : ℕ) → Rest b at → at < length b → 
 rest-record b at r h = at-record b at (r .records) (r .cursor) (r .short) h
 
 module _ (b : List ℕ) (at : ℕ) (a : AtRecord b at) where
-  abbrev read : Read b at (a .first) (a .others) (a .cursor)
+  abbrev read : RecordHere b at (a .first)
   read = cursor-read b at (a .first) (a .others) (a .cursor)
 
   pub day-read : numberIn 2 (at + 2) b ≡ dayAt b at
@@ -76,33 +79,6 @@ module _ (b : List ℕ) (at : ℕ) (a : AtRecord b at) where
     short = a .short;
   }
 
-  -- ---- the counts, by what `number_in` answered
-
-  names-read : numberIn 2 (at + 4) b ≡ length (a .first .name)
-  names-read = number-stands (at + 4) b (omega (arith, read .inside, read .length′)) ∙ read .names
-
-  pub names-small : (names : ℕ) → names ≡ numberIn 2 (at + 4) b → names ≤ 652
-  names-small names e = omega (arith, e ∙ names-read, read .small, read .length′)
-
-  chances-read : (names : ℕ) → names ≡ numberIn 2 (at + 4) b → numberIn 2 (at + 6 + names) b ≡ length (a .first .chances)
-  chances-read names e =
-      let n : names ≡ length (a .first .name) = e ∙ names-read in
-      number-stands (at + 6 + names) b (omega (arith, n, read .inside, read .length′)) ∙ rw n (read .chances)
-
-  pub chances-small : (names chances : ℕ) → names ≡ numberIn 2 (at + 4) b → chances ≡ numberIn 2 (at + 6 + names) b → chances ≤ 652
-  chances-small names chances e f = omega (arith, f ∙ chances-read names e, read .small, read .length′)
-
-  times-read : (names chances : ℕ) → names ≡ numberIn 2 (at + 4) b → chances ≡ numberIn 2 (at + 6 + names) b
-      → numberIn 2 (at + 8 + names + 4 * chances) b ≡ length (a .first .times)
-  times-read names chances e f =
-      let n : names ≡ length (a .first .name) = e ∙ names-read in
-      let m : chances ≡ length (a .first .chances) = f ∙ chances-read names e in
-      number-stands (at + 8 + names + 4 * chances) b (omega (arith, n, m, read .inside, read .length′)) ∙ rw (n, m) (read .times)
-
-  pub times-small : (names chances times : ℕ) → names ≡ numberIn 2 (at + 4) b → chances ≡ numberIn 2 (at + 6 + names) b
-      → times ≡ numberIn 2 (at + 8 + names + 4 * chances) b → (times ≤ 652) × (12 + names + 12 * chances + 4 * times ≡ sizeAt b at)
-  times-small names chances times e f g =
-      let n = e ∙ names-read in
-      let m = f ∙ chances-read names e in
-      let l = g ∙ times-read names chances e f in
-      (omega (arith, l, read .small, read .length′), omega (arith, n, m, l, read .size, read .length′))
+  -- the size, by the bytes from the record on
+  pub size-read : recordSize (drop at b) ≡ sizeAt b at
+  size-read = front-size b at (a .first) (a .others) (a .cursor) ∙ sym (read .size)

@@ -17,7 +17,7 @@ use Rattle.merge_spec.specs.Records.{kept, from, byDay, mergedOf, fallFrom}
 use Rattle.merge_spec.specs.Merge.{MergeOutcome, fallOf, roomOf, firstRefusal, settleMerge}
 use Rattle.merge_spec.proofs.ByDay.{DaysFrom}
 use Rattle.merging.specs.Records.{WholeBytes, sourceOf}
-use Rattle.merging.specs.declared.records.Part.{Part}
+use Rattle.merging.specs.declared.parts.Part.{Part}
 use Rattle.merging.specs.declared.stepping.Places.{Places}
 use Rattle.merging.specs.declared.stepping.Step.{Step}
 use Rattle.merging.specs.declared.stepping.Step.the-variants as S

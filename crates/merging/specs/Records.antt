@@ -10,7 +10,7 @@ use Rattle.journal_spec.specs.Cursor.{recordsIn}
 use Rattle.journal_spec.proofs.Cursor.{Cursor}
 use Rattle.merge_spec.specs.Records.{from}
 use Rattle.merge_spec.proofs.ByDay.{DaysFrom}
-use Rattle.merging.specs.declared.records.Part.{Part}
+use Rattle.merging.specs.declared.parts.Part.{Part}
 
 -- records end to end and nothing else
 pub record WholeBytes (b : List ℕ) : Type 0 where

@@ -9,7 +9,7 @@ ghost use Rattle.journal_spec.specs.Model.{lengthsOf};
 ghost use Rattle.journal_spec.specs.Cursor.{recordsIn};
 ghost use Rattle.merge_spec.specs.Records.{mergedOf};
 ghost use Rattle.merging.specs.Records.{WholeBytes};
-use crate::records::put_part;
+use crate::parts::put_part;
 use crate::stepping::Places;
 use crate::stepping::Step;
 use crate::stepping::next_step;

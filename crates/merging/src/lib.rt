@@ -18,7 +18,7 @@ use journal::scan;
 mod copying;
 mod inputs;
 mod measuring;
-mod records;
+mod parts;
 mod searching;
 mod stepping;
 

@@ -5,7 +5,7 @@ ghost use Rattle.journal_spec.specs.Cursor.{recordsIn};
 ghost use Rattle.merge_spec.specs.Records.{mergedOf};
 ghost use Rattle.merging.specs.Records.{WholeBytes};
 ghost use Rattle.merging.specs.Passes.{measuredOf};
-use crate::records::form_of;
+use crate::parts::form_of;
 use crate::stepping::Places;
 use crate::stepping::Step;
 use crate::stepping::next_step;

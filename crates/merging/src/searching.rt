@@ -6,8 +6,8 @@ ghost use Rattle.journal_spec.proofs.Cursor.{Cursor};
 ghost use Rattle.merge_spec.specs.Records.{isAmong, from};
 ghost use Rattle.merge_spec.proofs.SameDay.{ofDay};
 ghost use Rattle.merging.specs.Records.{WholeBytes, FromDay};
-use crate::records::day_at;
-use crate::records::size_at;
+use crate::parts::day_at;
+use crate::parts::size_at;
 use hex::same;
 
 // The place of the first record that is not before a day, from the place of one that is not behind it on.

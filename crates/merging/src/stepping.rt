@@ -8,9 +8,9 @@ ghost use lib.ListN.{length};
 ghost use Rattle.journal_spec.specs.Record.{Record};
 ghost use Rattle.merging.specs.Records.{Rest};
 ghost use Rattle.merging.specs.Passes.{firstNext, Reached, Somewhere, Stepped};
-use crate::records::Part;
-use crate::records::day_at;
-use crate::records::size_at;
+use crate::parts::Part;
+use crate::parts::day_at;
+use crate::parts::size_at;
 use crate::searching::day_start;
 use crate::searching::is_among;
 

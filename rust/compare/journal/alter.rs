@@ -7,11 +7,15 @@ use inputs::random::Random;
 use reference::record::Record;
 use reference::samples::{joined, profile_records};
 
-/// Records of the profile, one of which may break it, whole or with a field or a byte altered; a length of them, all or some bytes; and the
-/// last record's day.
+/// Records of the profile, one of which may break it: `any_of` them.
 pub fn any_of_profile(random: &mut Random) -> (Vec<u8>, usize, u16) {
     let count = random.whole(1, 4) as usize;
     let some = profile_records(random, count);
+    any_of(random, some)
+}
+
+/// Records whole or with a field or a byte altered; a length of them, all or some bytes; and the last record's day.
+pub fn any_of(random: &mut Random, some: Vec<Record>) -> (Vec<u8>, usize, u16) {
     let day = some.last().map_or(0, |record| record.day);
     let v = match random.below(4) {
         0 => field_altered(random, some),

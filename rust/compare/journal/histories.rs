@@ -154,8 +154,8 @@ fn almost_full(random: &mut Random, run: &mut Run) {
 
 fn single(run: &mut Run, v: Vec<u8>, len: usize, request: Request) {
     let (mut ours, mut expected) = (v.clone(), v);
-    let words = call_ours(&mut ours, len, &request);
-    let answer = answer_words(append(&mut expected, len, &request));
+    let words = call_ours(&mut ours, len, &request, None);
+    let answer = answer_words(append(&mut expected, len, &request, None));
     let after = scan(&expected, answer[1] as usize);
     let tail = answer[0] == 0 && matches!(after, Status::Torn { .. });
     let input = || format!("{request:?} at length {len} in {ours:02x?}");

@@ -1,13 +1,15 @@
-// A list of calls on one journal, with the model beside it: after each call the answer, every byte of the slice, scan and both reading calls.
-// A call is made by the C function that it needs: with a budget or without, with times or through a log, plain or by the profile.
+// A list of calls on one journal, with the model beside it: after each call the answer, every byte of the slice and of the index's buffer, scan
+// and both reading calls. A call is made by the C function that it needs: with a budget or without, with times or through a log; plain and
+// without an index, or with options.
 
 use super::requests::any_request;
 use super::run::Run;
 use super::words::by;
 use inputs::random::Random;
-use ours::PROFILE;
+use ours::{INDEX, PROFILE};
+use reference::index::Named;
 use reference::limit::{Form, Sums};
-use reference::model::{Answer, Model, Request};
+use reference::model::{make_index, Answer, Model, Request};
 use reference::profile::Rule;
 use reference::record::Record;
 use reference::samples::{joined, records};
@@ -22,29 +24,55 @@ pub fn answer_words(answer: Answer) -> [u64; 3] {
     }
 }
 
-pub fn call_ours(v: &mut [u8], len: usize, request: &Request) -> [u64; 3] {
+/// Our call of a request, with an index's buffer or without.
+pub fn call_ours(
+    v: &mut [u8],
+    len: usize,
+    request: &Request,
+    index: Option<&mut [u8]>,
+) -> [u64; 3] {
     let offer = ours::Offer {
         day: request.offer.day,
         name: &request.offer.name,
         chances: &request.offer.chances,
         times: &request.offer.times,
     };
-    // A plain call with an odd budget goes through the functions with options too.
-    let k = request.budget.unwrap_or(usize::MAX);
-    let options = match (request.rule, request.budget) {
-        (Rule::Plain, None) => None,
-        (Rule::Plain, Some(k)) => (k % 2 == 1).then_some(0),
-        (Rule::Profile, _) => Some(PROFILE),
-    };
-    match (&request.log, options, request.budget) {
-        (None, Some(options), _) => ours::journal_append_with(v, len, offer, k, options),
-        (Some(log), Some(options), _) => {
-            ours::journal_append_log_with(v, len, offer, log, k, options)
+    // A plain call without an index and with an odd budget goes through the functions with options too.
+    let (k, plain) = (
+        request.budget.unwrap_or(usize::MAX),
+        request.rule == Rule::Plain,
+    );
+    if plain && index.is_none() && (request.budget.is_none() || k % 2 == 0) {
+        return match (&request.log, request.budget) {
+            (None, None) => ours::journal_append(v, len, offer),
+            (None, Some(k)) => ours::journal_append_upto(v, len, offer, k),
+            (Some(log), None) => ours::journal_append_log(v, len, offer, log),
+            (Some(log), Some(k)) => ours::journal_append_log_upto(v, len, offer, log, k),
+        };
+    }
+    let handed = if index.is_some() { INDEX } else { 0 };
+    let options = if plain { handed } else { handed | PROFILE };
+    let index = index.unwrap_or_default();
+    match &request.log {
+        None => ours::journal_append_with(v, len, offer, k, index, options),
+        Some(log) => ours::journal_append_log_with(v, len, offer, log, k, index, options),
+    }
+}
+
+/// An index's buffer, as ours leaves it and as the reference does.
+#[derive(Default)]
+pub struct Index {
+    pub ours: Vec<u8>,
+    pub expected: Vec<u8>,
+}
+
+impl Index {
+    /// A buffer of these bytes on both sides.
+    pub fn of(bytes: Vec<u8>) -> Index {
+        Index {
+            ours: bytes.clone(),
+            expected: bytes,
         }
-        (None, _, None) => ours::journal_append(v, len, offer),
-        (None, _, Some(k)) => ours::journal_append_upto(v, len, offer, k),
-        (Some(log), _, None) => ours::journal_append_log(v, len, offer, log),
-        (Some(log), _, Some(k)) => ours::journal_append_log_upto(v, len, offer, log, k),
     }
 }
 
@@ -67,7 +95,11 @@ impl Run<'_> {
             [_, number, _] => format!("{by}append, declined {number:>2} at a line"),
         });
         self.tally.take(words, &input);
-        // The place of the first byte that differs, counted from 1.
+        self.take_bytes(v, input);
+    }
+
+    /// Every byte of a buffer after a call: the place of the first that differs, counted from 1.
+    pub fn take_bytes(&mut self, v: [&[u8]; 2], input: impl Fn() -> String) {
         let differs = v[0]
             .iter()
             .zip(v[1])
@@ -86,6 +118,21 @@ impl Run<'_> {
             self.limits
                 .take(limit, &mut self.tally, || format!("{offer:?} at {chance}"));
         }
+    }
+
+    /// Our index made afresh of the first `len` bytes of a slice, and every byte of its buffer.
+    pub fn take_index(&mut self, v: &[u8], len: usize, index: &mut Index) {
+        let before = index.ours.len();
+        let words = ours::journal_index(v, len, &mut index.ours);
+        let answer = answer_words(make_index(v, len, &mut index.expected));
+        self.kinds.add(match answer {
+            [0, ..] => "index, made".into(),
+            [1, number, _] => format!("index, declined {number:>2}"),
+            [_, number, _] => format!("index, damaged {number:>2}"),
+        });
+        let input = || format!("index in {before} bytes at length {len} of {v:02x?}");
+        self.tally.take([words, answer], input);
+        self.take_bytes([&index.ours, &index.expected], input);
     }
 
     /// What scan and reading, plain and by the profile, say of the journal after a call, against the model.
@@ -160,10 +207,24 @@ impl History {
         }
     }
 
+    /// A call without an index.
     pub fn call(&mut self, random: &mut Random, run: &mut Run, request: &Request) {
+        self.call_with(random, run, request, None);
+    }
+
+    /// A call, with an index's buffer or without.
+    pub fn call_with(
+        &mut self,
+        random: &mut Random,
+        run: &mut Run,
+        request: &Request,
+        mut index: Option<&mut Index>,
+    ) {
         let before = self.len;
-        let ours = call_ours(&mut self.v, self.len, request);
-        let answer = self.model.call(self.v.len(), request);
+        let buffer = index.as_mut().map(|index| &mut index.ours[..]);
+        let ours = call_ours(&mut self.v, self.len, request, buffer);
+        let buffer = index.as_mut().map(|index| &mut index.expected[..]);
+        let answer = self.model.call(self.v.len(), request, buffer);
         if let Answer::Length(length) = answer {
             self.len = length;
             run.take_limits(request);
@@ -179,7 +240,27 @@ impl History {
             tail,
             input,
         );
+        if let Some(index) = index {
+            run.take_bytes([&index.ours, &index.expected], || {
+                format!("{} with an index", input())
+            });
+        }
         run.take_shown(random, &self.v, self.len, &self.model);
+    }
+
+    /// The index made afresh.
+    pub fn make_index(&self, run: &mut Run, index: &mut Index) {
+        run.take_index(&self.v, self.len, index);
+    }
+
+    /// How long the index is now.
+    pub fn index_len(&self) -> usize {
+        self.model.index().len()
+    }
+
+    /// Each record's name and start.
+    pub fn names(&self) -> Vec<Named<'_>> {
+        self.model.names().collect()
     }
 
     /// The room behind the records.

@@ -124,8 +124,8 @@ fn every_text(_: &mut Random, run: &mut Run) {
                 ..Request::default()
             };
             let mut expected = v;
-            let words = call_ours(&mut v, 0, &request);
-            let answer = answer_words(append(&mut expected, 0, &request));
+            let words = call_ours(&mut v, 0, &request, None);
+            let answer = answer_words(append(&mut expected, 0, &request, None));
             let input = || format!("{request:?}");
             run.take_call(request.rule, [words, answer], [&v, &expected], false, input);
             v = expected;

@@ -3,7 +3,7 @@
 
 use inputs::journal::{profile_broken, profile_record};
 use inputs::journal::{record, record_of_size, Fields, LARGEST, OFFERED, SMALLEST};
-use inputs::journal::{CHANCES, NAME_BYTES, TIMES};
+use inputs::journal::{CHANCES, NAMES, NAME_BYTES, TIMES};
 use inputs::log::{lines_of, spoiled};
 use inputs::random::Random;
 use reference::model::{Offer, Request};
@@ -33,6 +33,36 @@ pub fn profile_request(random: &mut Random, last_day: u16) -> Request {
     let rule = match random.below(5) {
         0 => Rule::Plain,
         _ => Rule::Profile,
+    };
+    of_offer(random, offer, rule)
+}
+
+/// The same of one of few names.
+pub fn named_profile_request(random: &mut Random, last_day: u16) -> Request {
+    let mut request = profile_request(random, last_day);
+    request.offer.name = random.pick(&NAMES).to_vec();
+    if request.log.is_some() {
+        request.log = Some(any_log(random, &request.offer));
+    }
+    request
+}
+
+/// A request of one of few names, some of which begin others; plain or by the profile, right or not.
+pub fn named_request(random: &mut Random, last_day: u16) -> Request {
+    let mut offer = right_offer(random, last_day);
+    offer.chances.truncate(1);
+    offer.times.truncate(2);
+    offer.name = random.pick(&NAMES).to_vec();
+    if random.below(10) == 0 {
+        break_rule(random, &mut offer, last_day);
+    }
+    if random.below(12) == 0 {
+        offer = offer_of(profile_record(random, last_day));
+        offer.name = random.pick(&NAMES).to_vec();
+    }
+    let rule = match random.below(10) {
+        0 => Rule::Profile,
+        _ => Rule::Plain,
     };
     of_offer(random, offer, rule)
 }

@@ -15,54 +15,54 @@ use Rattle.append.proofs.extend.extend.Statement.{statement}
 use Rattle.append.proofs.extend.extend.Tie as tie
 
 -- what is offered
-offer : tie.After-append-with → Offer
+offer : tie.After-append → Offer
 offer c =
-    let a = c .before .before .before .before .before .before .args in
+    let a = c .before .before .before .before .before .before .before .before .args in
     offerFrom (a .day) (now (a .name)) (now (a .chances)) (now (a .times))
 
 -- the record ends at the new length, and that is inside the longest journal
 fits : (c : tie.After-known-told)
-    → let a = c .before .before .before .before .before .before .before .before .before .before .before .args in
+    → let a = c .before .before .before .before .before .before .before .before .before .before .before .before .before .before .before .args in
     (12 + length (now (a .name)) + 4 * length (now (a .chances)) + 4 * length (now (a .times)) + 8 * length (now (a .chances)) ≤ c .before .answer .given .0 .0)
     × (c .before .answer .given .0 .0 ≤ maxLength)
 unfolding offer offerFrom asBudget
 fits c =
-    let appended = c .before .before .before .before .before in
-    let a = appended .before .before .before .before .before .before .args in
-    let x = extended-said (now (a .v)) (a .len) (asRule (a .rule)) (offer appended) (appended .append-with .result) _ (appended .append-with .ensures) _
+    let appended = c .before .before .before .before .before .before .before in
+    let a = appended .before .before .before .before .before .before .before .before .args in
+    let x = extended-said (now (a .v)) (a .len) (asRule (a .rule)) (offer appended) _ (appended .append .result) _ _ (appended .append .ensures) _
     (c .before .answer .given .1) in
     (omega (arith, x .place, offered-length (offer appended)), omega (arith, x .room))
 
 returns : tie.Need-returns
 unfolding offer offerFrom asBudget
 returns c =
-    let appended = c .before .before .before .before .before in
-    let a = appended .before .before .before .before .before .before .args in
-    extends-record (now (a .v)) (a .len) (asRule (a .rule)) (offer appended) (appended .append-with .result) _ (appended .append-with .ensures)
+    let appended = c .before .before .before .before .before .before .before in
+    let a = appended .before .before .before .before .before .before .before .before .args in
+    extends-record (now (a .v)) (a .len) (asRule (a .rule)) (offer appended) _ (appended .append .result) _ _ (appended .append .ensures)
     _ _ (c .before .answer .given .1) refl (omega arith)
 
 returns-2 : tie.Need-returns-2
 unfolding offer offerFrom asBudget
 returns-2 c =
-    let appended = c .before .before .before .before in
-    let a = appended .before .before .before .before .before .before .args in
-    extends-nothing (now (a .v)) (a .len) (asRule (a .rule)) (offer appended) (appended .append-with .result) _ (appended .append-with .ensures)
+    let appended = c .before .before .before .before .before .before in
+    let a = appended .before .before .before .before .before .before .before .before .args in
+    extends-nothing (now (a .v)) (a .len) (asRule (a .rule)) (offer appended) _ (appended .append .result) _ _ (appended .append .ensures)
     (declined-unwritten _ _ (c .enum-told .given .1))
 
 returns-3 : tie.Need-returns-3
 unfolding offer offerFrom asBudget
 returns-3 c =
-    let appended = c .before .before .before .before in
-    let a = appended .before .before .before .before .before .before .args in
-    extends-nothing (now (a .v)) (a .len) (asRule (a .rule)) (offer appended) (appended .append-with .result) _ (appended .append-with .ensures)
+    let appended = c .before .before .before .before .before .before in
+    let a = appended .before .before .before .before .before .before .before .before .args in
+    extends-nothing (now (a .v)) (a .len) (asRule (a .rule)) (offer appended) _ (appended .append .result) _ _ (appended .append .ensures)
     (line-unwritten _ _ (c .enum-told2 .given .1))
 
 returns-4 : tie.Need-returns-4
 unfolding offer offerFrom asBudget
 returns-4 c =
-    let appended = c .before .before .before .before in
-    let a = appended .before .before .before .before .before .before .args in
-    extends-nothing (now (a .v)) (a .len) (asRule (a .rule)) (offer appended) (appended .append-with .result) _ (appended .append-with .ensures)
+    let appended = c .before .before .before .before .before .before in
+    let a = appended .before .before .before .before .before .before .before .before .args in
+    extends-nothing (now (a .v)) (a .len) (asRule (a .rule)) (offer appended) _ (appended .append .result) _ _ (appended .append .ensures)
     (damaged-unwritten _ _ (c .enum-told3 .given .1))
 
 pub extend-spec : {M : Type 1} → statement M
@@ -83,10 +83,14 @@ extend-spec =
     (λ c. search needs)
     (λ c. search needs)
     (λ c. search needs)
+    (λ c. search needs)
     returns
+    (λ c. search needs)
     (λ c. search needs)
     returns-2
     (λ c. search needs)
+    (λ c. search needs)
     returns-3
+    (λ c. search needs)
     (λ c. search needs)
     returns-4)

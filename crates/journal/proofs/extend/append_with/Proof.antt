@@ -20,7 +20,7 @@ returns-2 : tie.Need-returns-2
 unfolding timesOf gatherBy
 returns-2 c =
     let read = c .before .before .before .contents-of in
-    append-damaged _ _ _ 0 (read .result) (read .ensures) _ (c .before .x2 .given .1) _ _ refl refl
+    append-damaged _ _ _ 0 (read .result) (read .ensures) _ (c .before .x2 .given .1) _ _ refl refl refl
 
 pub append-with-spec : {M : Type 1} → statement M
 append-with-spec =

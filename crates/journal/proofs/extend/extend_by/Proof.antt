@@ -1,6 +1,6 @@
 -- `extend_by` declines what the check refuses, and else hands the record with the limits' bits on.
 -- Assumes nothing.
-use mathlib.Core.Path.{_≡_, sym, _∙_}
+use mathlib.Core.Path.{_≡_, refl, sym, _∙_}
 use native.Mathlib.Omega.{arith}
 use borrow.Author.Needs.{needs}
 use lib.ListN.{length-take}
@@ -17,7 +17,7 @@ returns : tie.Need-returns
 unfolding requestFrom offerOf timesIn timesOf gatherBy offerFrom
 returns c len ps is =
     let check = c .before .before .offer-refusal in
-    offer-declined _ _ _ _ ps is (check .result) (omega arith) (check .ensures .refusal)
+    offer-declined _ _ _ refl _ ps is (check .result) (omega arith) (check .ensures .refusal)
 
 -- the offer is not refused
 few : (c : tie.After-extend-within-arg)
@@ -50,7 +50,7 @@ returns-2 c len ps is =
     let check = c .before .before .before .before .before .before .before .offer-refusal in
     let none : check .result ≡ 0 = omega arith in
     c .before .before .extend-within .ensures len
-    ∙ offer-settled _ _ _ _ ps is _ (sym (check .ensures .refusal) ∙ none) (offered-record _ _ _ _ _ (check .ensures .limits none))
+    ∙ offer-settled _ _ _ refl _ ps is _ (sym (check .ensures .refusal) ∙ none) (offered-record _ _ _ _ _ (check .ensures .limits none))
 
 pub extend-by-spec : {M : Type 1} → statement M
 extend-by-spec =

@@ -1,0 +1,29 @@
+-- `append` hands the index on, or none.
+-- Assumes nothing.
+use borrow.Author.Needs.{needs}
+use Rattle.journal.specs.Handed.{asBudget, offerFrom}
+use Rattle.append.proofs.WrittenPart.{with-index, without-index}
+use Rattle.append.proofs.extend.append.Statement.{statement}
+use Rattle.append.proofs.extend.append.Tie as tie
+
+returns : tie.Need-returns
+unfolding asBudget offerFrom
+returns c =
+    with-index _ _ _ _ _ _ _ _ _ (c .before .before .before .before .before .before .before .if1 .taken)
+    (c .before .before .before .before .append-indexed .ensures)
+
+returns-2 : tie.Need-returns-2
+unfolding asBudget offerFrom
+returns-2 c = without-index _ _ _ _ _ _ _ _ _ (c .before .before .before .before .if1 .left) (c .before .before .append-with .ensures)
+
+pub append-spec : {M : Type 1} → statement M
+append-spec =
+    tie.close
+    (tie.spec
+    (λ c κs. search needs)
+    (λ c. search needs)
+    (λ c. search needs)
+    returns
+    (λ c κs. search needs)
+    (λ c. search needs)
+    returns-2)

@@ -1,0 +1,33 @@
+-- The line that says what became of an index: `indexed` and its length where it is made; `own` and its length where it is the volume's;
+-- `declined` and 14 or 15; or `damaged`, number and place, as in the listing.
+use Prim.Native.Nat.{ℕ}
+use mathlib.Core.List.{List, [], _∷_}
+use Rattle.hex.specs.Hex.{decimalDigits}
+use Rattle.journal_spec.specs.Scan as Scan
+use Rattle.journal_spec.specs.MakeIndex.{IndexResult, made, declined, damaged, IndexCheck, own, notOwn, faulted}
+use Rattle.listing.specs.Listing.{lineOf, stateLine}
+
+-- the words `indexed`, `own`, `declined`
+unfoldable pub wordIndexed : List ℕ
+wordIndexed = 0x69 ∷ 0x6e ∷ 0x64 ∷ 0x65 ∷ 0x78 ∷ 0x65 ∷ 0x64 ∷ []
+
+unfoldable pub wordOwn : List ℕ
+wordOwn = 0x6f ∷ 0x77 ∷ 0x6e ∷ []
+
+unfoldable pub wordDeclined : List ℕ
+wordDeclined = 0x64 ∷ 0x65 ∷ 0x63 ∷ 0x6c ∷ 0x69 ∷ 0x6e ∷ 0x65 ∷ 0x64 ∷ []
+
+-- a word and a number
+unfoldable pub numbered : List ℕ → ℕ → List ℕ
+numbered word n = lineOf (word ∷ decimalDigits n ∷ [])
+
+unfoldable pub madeLine : IndexResult → List ℕ
+madeLine (made n) = numbered wordIndexed n
+madeLine (declined n) = numbered wordDeclined n
+madeLine (damaged n p) = stateLine (Scan.damaged n p)
+
+-- by the length that the entries of the buffer come to
+unfoldable pub checkedLine : ℕ → IndexCheck → List ℕ
+checkedLine size own = numbered wordOwn size
+checkedLine size notOwn = numbered wordDeclined 14
+checkedLine size (faulted n p) = stateLine (Scan.damaged n p)

@@ -1,0 +1,61 @@
+// What became of an index as a line of text, put at the front of a lent buffer.
+// A line with a place, that of a damaged volume, is the listing's.
+ghost use lib.ListN.{length};
+ghost use Rattle.hex.specs.Text.{Put};
+ghost use Rattle.journal_spec.specs.MakeIndex.{checkIndexOf};
+ghost use Rattle.entries.specs.Entries.{entriesIn};
+ghost use Rattle.entries.specs.Places.{endOf};
+ghost use Rattle.indexing.specs.Checked.{checkMeaning};
+ghost use Rattle.indexing.specs.Made.{madeMeaning};
+ghost use Rattle.index.specs.Verdict.{numbered, madeLine, checkedLine};
+use hex::put;
+use indexing::Checked;
+use indexing::IndexMade;
+use listing::put_words;
+
+// An index that is made, or not.
+pub fn made_line(answer: IndexMade, out: &mut [u8]) -> usize
+    ensures { λ r. ⌜ Put (now (out .entry)) 0 (madeLine (madeMeaning answer)) (now (out .exit)) r ⌝ }
+{
+    match answer {
+        IndexMade::Length(n) => put_word(out, b"indexed", n as u64),
+        IndexMade::Declined(n) => put_word(out, b"declined", n as u64),
+        IndexMade::Damaged(f) => put_words(out, b"damaged", f.number as u64, f.place as u64),
+    }
+}
+
+// Whether bytes begin with the index of a volume, which is all of a slice.
+pub fn checked_line(v: &[u8], index: &[u8], out: &mut [u8]) -> usize
+    ensures { λ r. ⌜ Put (now (out .entry)) 0
+        (checkedLine (endOf (entriesIn (now (index .entry))) .place)
+        (checkIndexOf (record { slice = now (v .entry); len = length (now (v .entry)) }) (now (index .entry)))) (now (out .exit)) r ⌝ }
+{
+    let end = entries::end_of(index);
+    let size = end.place;
+    let answer = indexing::check_index(v, v.len(), index);
+    said_line(answer, size, out)
+}
+
+// By the answer, and by the length that the entries come to.
+fn said_line(answer: Checked, size: usize, out: &mut [u8]) -> usize
+    ensures { λ r. ⌜ Put (now (out .entry)) 0 (checkedLine size (checkMeaning answer)) (now (out .exit)) r ⌝ }
+{
+    match answer {
+        Checked::Own => put_word(out, b"own", size as u64),
+        Checked::Other => put_word(out, b"declined", 14),
+        Checked::Damaged(f) => put_words(out, b"damaged", f.number as u64, f.place as u64),
+    }
+}
+
+// A word and a number, as a line.
+pub(crate) fn put_word(out: &mut [u8], word: &[u8], n: u64) -> usize
+    ensures { λ r. ⌜ Put (now (out .entry)) 0 (numbered (now (word .entry)) n) (now (out .exit)) r ⌝ }
+{
+    let d = hex::decimal_of(n);
+    let digits = d.digits;
+    let count = d.count;
+    let p = put(out, 0, word);
+    let q = put(out, p, b" ");
+    let r = put(out, q, &digits[..count]);
+    put(out, r, b"\n")
+}

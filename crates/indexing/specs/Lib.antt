@@ -1,0 +1,9 @@
+-- What the contracts of the index's code cite besides the journal's definitions: the answers, and for private contracts what stands in bytes.
+-- The index itself is defined in crate journal_spec.
+pub mod Outcome
+pub mod Checked
+pub mod Made
+-- for private contracts: what stands in bytes, records held against the entries of a buffer, and the place of an entry's record
+pub mod Standing
+pub mod Owned
+pub mod Next
