@@ -17,8 +17,8 @@ counts = {}
 wrong = []
 
 
-def count(what):
-    counts[what] = counts.get(what, 0) + 1
+def count(what, number=1):
+    counts[what] = counts.get(what, 0) + number
 
 
 def expect(what, got, wanted):

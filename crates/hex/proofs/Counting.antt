@@ -2,11 +2,13 @@
 -- Assumes nothing.
 use Prim.Native.Nat.{ℕ, zero, suc, _+_, _*_, _/_, _^_, _≤_, _<_}
 use mathlib.Core.Path.{_≡_, refl, sym, _∙_}
-use native.Mathlib.Nat.{pow-suc}
+use native.Mathlib.Nat.{pow-suc, pow-le-pow-right}
 use native.Mathlib.Omega.{arith}
 use borrow.Author.Tests.{lt-ltb, le-ltb}
-use Rattle.hex.specs.Hex.{orMore, placesIn, placesOf}
+use lib.ListN.{length}
+use Rattle.hex.specs.Hex.{orMore, placesIn, placesOf, decimalDigits}
 use Rattle.hex.proofs.Cases.{split}
+use Rattle.hex.proofs.Writing.{length-digits}
 
 -- a number below the base has one digit, whatever bound is given
 pub places-one : (b most n : ℕ) → n < b → placesIn b most n ≡ 1
@@ -46,6 +48,28 @@ places-least (suc most) n h l p e =
         let power = pow-suc 10 q in
         let more : p ≡ suc q = omega arith in
         rw more (omega arith)
+
+-- a number below 10^k has at most k digits
+places-most : (k n : ℕ) → 0 < k → n < 10 ^ k → placesOf n ≤ k
+unfolding placesOf
+places-most k n pos h = go (placesIn 10 n n) refl
+  where
+    go : (d : ℕ) → placesIn 10 n n ≡ d → placesIn 10 n n ≤ k
+    go zero e = omega arith
+    go (suc d) e =
+        split (suc d) k
+        (λ few. omega arith)
+        (λ many.
+        split 1 n
+        (λ some.
+        let least : 10 ^ d ≤ n = places-least n n (omega arith) (omega arith) d e in
+        let power : 10 ^ k ≤ 10 ^ d = pow-le-pow-right {n = 10} (omega arith) (omega arith) in
+        absurd (omega arith))
+        (λ none. omega (arith, places-one 10 n n (omega arith))))
+
+pub decimal-most : (k n : ℕ) → 0 < k → n < 10 ^ k → length (decimalDigits n) ≤ k
+unfolding decimalDigits
+decimal-most k n pos h = omega (arith, length-digits 10 (placesOf n) n, places-most k n pos h)
 
 -- what the loop that counts keeps: the count so far with the places of the rest is one too many, and the rest fits the
 -- places that are left of twenty

@@ -12,6 +12,7 @@ pub use digit::digit_of;
 pub use read::Number;
 pub use read::read_hex;
 pub use text::put;
+pub use text::put_decimal;
 pub use write::Decimal;
 pub use write::decimal_into;
 pub use write::decimal_of;

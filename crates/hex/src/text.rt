@@ -4,7 +4,9 @@ ghost use mathlib.Core.Path.{_≡_};
 ghost use Prim.Native.Nat.{_-_, _≤_, min};
 ghost use lib.ListN.{length};
 ghost use lib.Seq.{paste};
+ghost use Rattle.hex.specs.Hex.{decimalDigits};
 ghost use Rattle.hex.specs.Text.{Put};
+use crate::write::decimal_of;
 
 // Puts text into the line from a place on, and answers the place behind it.
 pub fn put(line: &mut [u8], place: usize, text: &[u8]) -> usize
@@ -13,6 +15,16 @@ pub fn put(line: &mut [u8], place: usize, text: &[u8]) -> usize
     let count = room_for(line.len(), place, text.len());
     copy(line, place, text, count);
     place + count
+}
+
+// Puts the decimal digits of a number, with no zero in front.
+pub fn put_decimal(line: &mut [u8], place: usize, n: u64) -> usize
+    ensures { λ r. ⌜ Put (now (line .entry)) place (decimalDigits n) (now (line .exit)) r ⌝ }
+{
+    let d = decimal_of(n);
+    let digits = d.digits;
+    let count = d.count;
+    put(line, place, &digits[..count])
 }
 
 // How many of the wanted bytes have room from a place on.

@@ -5,6 +5,7 @@
 pub mod Plainly
 pub mod Reached
 pub mod Insides
+pub mod There
 pub mod Rooms
 -- texts put one behind another
 pub mod Putting

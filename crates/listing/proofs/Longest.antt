@@ -1,15 +1,13 @@
 -- How long a line is: that of a record in document 01's ranges takes at most `maxLine` bytes, and so does that of an end state whose numbers have
 -- at most 20 digits, as those of a u64 do. A buffer of `maxLine` bytes holds every line of a listing. Assumes nothing.
 use mathlib.Core.Path.{_≡_, refl}
-use Prim.Native.Nat.{ℕ, zero, suc, _+_, _*_, _^_, _≤_, _<_}
+use Prim.Native.Nat.{ℕ, suc, _+_, _*_, _^_, _≤_, _<_}
 use mathlib.Core.List.{List, [], _∷_, _++_}
 use native.Mathlib.Omega.{arith}
-use native.Mathlib.Nat.{pow-le-pow-right}
 use lib.ListN.{length, length-append}
-use Rattle.hex.specs.Hex.{placesIn, placesOf, decimalDigits, hexDigits, digits}
-use Rattle.hex.proofs.Cases.{split}
+use Rattle.hex.specs.Hex.{decimalDigits, hexDigits, digits}
 use Rattle.hex.proofs.Writing.{length-digits}
-use Rattle.hex.proofs.Counting.{places-one, places-least}
+use Rattle.hex.proofs.Counting.{decimal-most}
 use Rattle.limit.specs.Answer.{MomentsResult}
 use Rattle.limit.specs.Limit.{momentsOfTimes}
 use Rattle.journal_spec.specs.Record.{Record, Last}
@@ -20,28 +18,6 @@ use Rattle.listing.specs.Listing.{space, lineOf, meanBits, spreadBits, q
 use Rattle.listing.specs.Spaced.{eachSpaced}
 use Rattle.listing.specs.Lines.{maxLine}
 use Rattle.listing.proofs.Texts.{momentsPart, record-line, words-line}
-
--- a number below 10^k has at most k digits
-places-most : (k n : ℕ) → 0 < k → n < 10 ^ k → placesOf n ≤ k
-unfolding placesOf
-places-most k n pos h = go (placesIn 10 n n) refl
-  where
-    go : (d : ℕ) → placesIn 10 n n ≡ d → placesIn 10 n n ≤ k
-    go zero e = omega arith
-    go (suc d) e =
-        split (suc d) k
-        (λ few. omega arith)
-        (λ many.
-        split 1 n
-        (λ some.
-        let least : 10 ^ d ≤ n = places-least n n (omega arith) (omega arith) d e in
-        let power : 10 ^ k ≤ 10 ^ d = pow-le-pow-right {n = 10} (omega arith) (omega arith) in
-        absurd (omega arith))
-        (λ none. omega (arith, places-one 10 n n (omega arith))))
-
-pub decimal-most : (k n : ℕ) → 0 < k → n < 10 ^ k → length (decimalDigits n) ≤ k
-unfolding decimalDigits
-decimal-most k n pos h = omega (arith, length-digits 10 (placesOf n) n, places-most k n pos h)
 
 -- a space, a chance of six digits, a colon and a limit, so many times
 pairs-most : (cs ls : List ℕ) → Each 1 999_999 cs → length (eachSpaced (quotedLimits cs ls)) ≤ 24 * length cs

@@ -6,11 +6,9 @@ use mathlib.Core.List.{List, [], _∷_, _++_, append-assoc, append-nil}
 use native.Mathlib.Omega.{arith}
 use native.Mathlib.Nat.{zero-min, min-zero, suc-min-suc, suc-mul, add-assoc, add-zero}
 use native.Mathlib.Numerals.{add-one}
-use lib.ListN.{length, take, drop, getD, replicate, length-take, length-drop}
-use lib.Seq.{take-at, drop-cons, take-take, drop-drop}
-use Rattle.hex.specs.Hex.{placesOf, decimalDigits, decimalOf, hexDigits}
-use Rattle.hex.specs.declared.write.Decimal.{Decimal}
-use Rattle.hex.proofs.Writing.{length-digits}
+use lib.ListN.{length, take, drop, getD, length-take, length-drop}
+use lib.Seq.{drop-cons, take-take, drop-drop}
+use Rattle.hex.specs.Hex.{decimalDigits, hexDigits}
 use Rattle.limit.specs.Limit.{momentsOfTimes}
 use Rattle.journal_spec.specs.Bytes.{valueOf, numberAt, numbersIn}
 use Rattle.journal_spec.specs.Record.{Record}
@@ -18,11 +16,6 @@ use Rattle.journal_spec.specs.Read.{letterOf, markOf, timesIn}
 use Rattle.journal_spec.proofs.Reading.{drop-take}
 use Rattle.listing.specs.Listing.{space, newline, spaced, lineOf, meanBits, spreadBits, quotedLimits, recordLine}
 use Rattle.listing.specs.Spaced.{eachSpaced}
-
--- the digits that stand at the front of a decimal's array
-pub decimal-text : (n : ℕ) (d : Decimal) → d ≡ decimalOf n → take (d .count) (d .digits) ≡ decimalDigits n
-unfolding decimalOf decimalDigits
-decimal-text n d e = rw e (take-at (decimalDigits n) (drop (placesOf n) (replicate 20 0)) (placesOf n) (length-digits 10 (placesOf n) n))
 
 -- numbers of one byte are the bytes themselves
 pub bytes-in : (n at : ℕ) (b : List ℕ) → at + n * 1 ≤ length b → numbersIn 1 n at b ≡ take n (drop at b)

@@ -4,4 +4,5 @@ pub mod Listing
 pub mod Spaced
 pub mod Plain
 pub mod Spans
+pub mod MomentsIn
 pub mod Lines

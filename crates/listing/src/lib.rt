@@ -13,8 +13,8 @@ use crate::words::put_state;
 use journal::Rule;
 use journal::Status;
 
-mod moments;
-mod spans;
+pub mod moments;
+pub mod spans;
 mod text;
 mod words;
 

@@ -1,4 +1,4 @@
-// Mean and spread of a record's times, for its line: the times are copied out of the bytes and summed.
+// Mean and spread of a record's times, for its line and for a planner's: the times are copied out of the bytes and summed.
 // More times than a record may have are not copied; they have no mean and spread, as no times have none.
 ghost use mathlib.Core.Path.{_≡_};
 ghost use mathlib.Core.Bool.{cond};
@@ -10,13 +10,29 @@ ghost use Rattle.limit.specs.Answer.{momentsMeaning};
 ghost use Rattle.limit.specs.Limit.{momentsOfTimes};
 ghost use Rattle.journal_spec.specs.Bytes.{numberAt, numbersIn};
 ghost use Rattle.listing.specs.Listing.{meanBits, spreadBits};
+ghost use Rattle.listing.specs.MomentsIn.{momentsIn};
 ghost use Rattle.listing.specs.Spans.{Inside, numbersOf};
 use crate::spans::Span;
+use crate::spans::spans_at;
 use journal::number_in;
 use limit::Worked;
 
-// The most times of a record.
+// The most times of a record, and document 01's refusal of times.
 const MAX_TIMES: usize = 128;
+
+const TIMES_REFUSAL: u32 = 6;
+
+// Mean and spread of the record that stands at a place, whatever the bytes are; 6 where none does.
+pub fn moments_in(b: &[u8], at: usize) -> Worked
+    ensures { λ r. ⌜ momentsMeaning r ≡ momentsIn at (now (b .entry)) ⌝ }
+{
+    let spans = spans_at(b, at);
+    let last = spans.limits;
+    if !last.stands {
+        return Worked::Refused(TIMES_REFUSAL);
+    }
+    moments_at(b, at, spans.times)
+}
 
 // Mean and spread of the times of the record at a place.
 pub(crate) fn moments_at(b: &[u8], at: usize, times: Span) -> Worked
@@ -53,7 +69,7 @@ fn copy_times(b: &[u8], first: usize, n: usize, ticks: &mut [u32])
 }
 
 // The bits of the mean, 0 where there is none.
-pub(crate) fn mean_bits(worked: Worked) -> u64
+pub fn mean_bits(worked: Worked) -> u64
     ensures { λ r. ⌜ r ≡ meanBits (momentsMeaning worked) ⌝ }
 {
     match worked {
@@ -63,7 +79,7 @@ pub(crate) fn mean_bits(worked: Worked) -> u64
 }
 
 // The bits of the spread, 0 where there is none.
-pub(crate) fn spread_bits(worked: Worked) -> u64
+pub fn spread_bits(worked: Worked) -> u64
     ensures { λ r. ⌜ r ≡ spreadBits (momentsMeaning worked) ⌝ }
 {
     match worked {

@@ -6,7 +6,7 @@ ghost use Rattle.listing.specs.Spans.{headAt, spanAt, spanAfter, spansAt
 use journal::number_in;
 
 // The place of a section's first number, how many numbers there are, the place after them, and whether they all stand.
-pub(crate) struct Span {
+pub struct Span {
     pub first: usize,
     pub count: usize,
     pub next: usize,
@@ -14,7 +14,7 @@ pub(crate) struct Span {
 }
 
 // The sections of a record; all stand if the last does.
-pub(crate) struct Spans {
+pub struct Spans {
     pub name: Span,
     pub chances: Span,
     pub times: Span,
@@ -29,7 +29,7 @@ const NO_SPAN: Span = Span {
 };
 
 // The sections of the record at a place.
-pub(crate) fn spans_at(b: &[u8], at: usize) -> Spans
+pub fn spans_at(b: &[u8], at: usize) -> Spans
     ensures { λ r. ⌜ r ≡ spansAt at (now (b .entry)) ⌝ }
 {
     let head = head_at(b, at);

@@ -4,7 +4,7 @@ ghost use mathlib.Core.Path.{_≡_};
 ghost use mathlib.Core.List.{_∷_, _++_};
 ghost use Prim.Native.Nat.{_+_, _*_, _≤_, min};
 ghost use lib.ListN.{length};
-ghost use Rattle.hex.specs.Hex.{decimalDigits, hexDigits};
+ghost use Rattle.hex.specs.Hex.{hexDigits};
 ghost use Rattle.hex.specs.Text.{Put};
 ghost use Rattle.limit.specs.Answer.{momentsMeaning};
 ghost use Rattle.journal_spec.specs.Bytes.{numbersIn};
@@ -15,18 +15,9 @@ use crate::moments::mean_bits;
 use crate::moments::spread_bits;
 use crate::spans::Span;
 use hex::put;
+use hex::put_decimal;
 use journal::number_in;
 use limit::Worked;
-
-// A number in decimal.
-pub(crate) fn put_decimal(out: &mut [u8], at: usize, n: u64) -> usize
-    ensures { λ r. ⌜ Put (now (out .entry)) at (decimalDigits n) (now (out .exit)) r ⌝ }
-{
-    let d = hex::decimal_of(n);
-    let digits = d.digits;
-    let count = d.count;
-    put(out, at, &digits[..count])
-}
 
 // Mean and spread, a space before each.
 pub(crate) fn put_moments(out: &mut [u8], at: usize, worked: Worked) -> usize

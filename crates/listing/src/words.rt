@@ -15,10 +15,10 @@ ghost use Rattle.listing.specs.Spans.{Inside, numbersOf, recordIn, spans
 use crate::moments::moments_at;
 use crate::spans::Span;
 use crate::spans::Spans;
-use crate::text::put_decimal;
 use crate::text::put_limits;
 use crate::text::put_moments;
 use hex::put;
+use hex::put_decimal;
 use journal::Status;
 use journal::marks::letter_of;
 use journal::marks::mark_of;

@@ -2,7 +2,7 @@
 -- Assumes nothing.
 use borrow.Author.Needs.{needs}
 use Rattle.listing.proofs.Putting.{put-put, put-as}
-use Rattle.listing.proofs.Texts.{decimal-text}
+use Rattle.hex.proofs.Putting.{decimal-text}
 use Rattle.merge.specs.Verdict.{numbered}
 use Rattle.merge.proofs.verdict.put_numbered.Statement.{statement}
 use Rattle.merge.proofs.verdict.put_numbered.Tie as tie

@@ -1,10 +1,9 @@
 -- `put_decimal` puts the digits that stand at the front of the array.
 -- Assumes nothing.
 use borrow.Author.Needs.{needs}
-use Rattle.listing.proofs.Putting.{put-as}
-use Rattle.listing.proofs.Texts.{decimal-text}
-use Rattle.listing.proofs.text.put_decimal.Statement.{statement}
-use Rattle.listing.proofs.text.put_decimal.Tie as tie
+use Rattle.hex.proofs.Putting.{put-as, decimal-text}
+use Rattle.hex.proofs.text.put_decimal.Statement.{statement}
+use Rattle.hex.proofs.text.put_decimal.Tie as tie
 
 returns : tie.Need-returns
 returns c =

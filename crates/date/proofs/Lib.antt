@@ -1,0 +1,2 @@
+-- The program's proofs need no law of its own: those of dates stand in crate calendar.
+-- Assumes nothing.

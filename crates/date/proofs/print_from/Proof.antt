@@ -1,0 +1,27 @@
+-- `print_from` passes on a last day that is one.
+-- Assumes nothing.
+use native.Mathlib.Omega.{arith}
+use borrow.Author.Needs.{needs}
+use Rattle.date.proofs.print_from.Statement.{statement}
+use Rattle.date.proofs.print_from.Tie as tie
+
+print-days-requires : tie.Need-print-days-requires
+print-days-requires c κs = omega (arith, c .before .before .pre)
+
+print-days-requires-2 : tie.Need-print-days-requires-2
+print-days-requires-2 c κs = let below = c .before .before .before .day .ensures _ (c .before .last .given .1) in omega (arith, below)
+
+pub print-from-spec : {M : Type 1} → statement M
+print-from-spec =
+    tie.close
+    (tie.spec
+    (λ c κs. search needs)
+    print-days-requires
+    (λ c. search needs)
+    (λ c κs. search needs)
+    (λ c. search needs)
+    print-days-requires-2
+    (λ c. search needs)
+    (λ c κs. search needs)
+    (λ c. search needs)
+    (λ c. search needs))

@@ -1,0 +1,2 @@
+-- No definitions: the program is thin over crates listing, calendar and ticks.
+-- Assumes nothing.

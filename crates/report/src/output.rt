@@ -1,0 +1,114 @@
+// Standard output: the slots with the end state's line, a record's lines, or `refused 10` where there is no such record, or the help that was asked for.
+// What fails is said on standard error.
+use crate::find::Place;
+use crate::find::at_position;
+use crate::find::last_named;
+use crate::input;
+use crate::input::Asked;
+use crate::lines;
+use crate::slots;
+use journal::Rule;
+use journal::Status;
+use listing::Cursor;
+
+// What is asked for.
+pub(crate) fn print_asked(v: &[u8], asked: Asked) {
+    let records = records_of(v);
+    match asked {
+        Asked::Name(word) => print_named(v, records, word),
+        Asked::At(i) => print_record(v, records, at_position(v, records, i as usize)),
+        Asked::Slots(chances) => print_slots(v, records, false, chances),
+        Asked::Tabs(chances) => print_slots(v, records, true, chances),
+        Asked::Nothing => usage(),
+    }
+}
+
+// The slots with the limits at the chances among the arguments from one on, and then the end state.
+fn print_slots(v: &[u8], records: usize, tabs: bool, first: usize) {
+    let mut asked = [0u32; 8];
+    let n = input::chances(first, &mut asked);
+    slots::print_slots(v, records, tabs, &asked[..n]);
+    print_state(v);
+}
+
+// The last record of the name in an argument.
+fn print_named(v: &[u8], records: usize, word: usize) {
+    let mut name = [0u8; 33];
+    let size = input::name(word, &mut name);
+    let place = last_named(v, records, &name[..size]);
+    print_record(v, records, place);
+}
+
+// How many records stand; none where the volume is damaged.
+fn records_of(v: &[u8]) -> usize {
+    let cursor = listing::start(v, Rule::Plain);
+    cursor.left
+}
+
+// The record at a place; or the volume's fault, or that there is no such record.
+fn print_record(v: &[u8], records: usize, place: Place) {
+    if place.found {
+        if input::is_ticks() {
+            lines::print_times(v, place.at);
+        } else {
+            lines::print_fields(v, records, place.i, place.at);
+        }
+        return;
+    }
+    print_fault(v);
+}
+
+// The line of a damaged volume, or the refusal of a position that no record has.
+fn print_fault(v: &[u8]) {
+    let cursor = listing::start(v, Rule::Plain);
+    let status = cursor.status;
+    match status {
+        Status::Damaged(_) => print_state(v),
+        Status::Whole {
+            records: _,
+            committed: _,
+        } => print_absent(),
+        Status::Torn {
+            records: _,
+            committed: _,
+        } => print_absent(),
+    }
+}
+
+fn print_absent() {
+    arguments::print(b"refused 10\n", b"report: standard output");
+}
+
+// The line of the end state.
+fn print_state(v: &[u8]) {
+    let status = listing::start(v, Rule::Plain).status;
+    let cursor = Cursor {
+        at: 0,
+        left: 0,
+        ended: false,
+        status,
+    };
+    let mut out = [0u8; listing::MAX_LINE];
+    let line = listing::next_line(v, cursor, &mut out);
+    let size = line.size;
+    lines::print_text(&out, size);
+}
+
+// The help, if it is what the first argument asks for; anything else is wrong.
+pub(crate) fn usage() {
+    arguments::usage(
+        b"usage: report slots [--tsv] [CHANCE..] < VOLUME\n\
+        \x20      report record [--ticks] NAME < VOLUME\n\
+        \x20      report record [--ticks] --at I < VOLUME\n\
+        slots: under a head, for each name its last record, by name: name, date, mark, number of times, mean and spread to\n\
+        the nearest tick, and chance:limit for each chance, or for the chances asked for, up to eight; a limit is rounded up\n\
+        to a whole tick, - where there is none. Mean, spread and limits are milliseconds. The last line is the volume's end\n\
+        state. With --tsv a tab separates the columns, and there is no head.\n\
+        record: the last record of a name, or the one at position I, counted from 0: every field in words, times in ticks\n\
+        and milliseconds, mean, spread and limits as bits, exactly, and rounded. With --ticks the times alone, one a line,\n\
+        as append takes them. A NAME that starts with a dash stands behind --. The last line is damaged with the fault's\n\
+        number and place where the volume is damaged, and refused 10 where there is no such record.\n",
+        b"report: it takes slots [--tsv] [CHANCE..] or record [--ticks] and NAME or --at I, and a volume on standard input\n",
+        b"report: standard output",
+    );
+}
