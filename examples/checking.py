@@ -1,4 +1,5 @@
-"""What append-check, log-check, kept-check, awaqlla-check and merge-check share: counts of what was tried, what differed, files, and what document 01's book says.
+"""What append-check, log-check, kept-check, awaqlla-check, merge-check, trial-check and index-check share: counts of what was tried, what
+differed, files, and what document 01's book says.
 
 The expected bytes come from tools/leaf.py, which is written from documents 01 and 02 with the Rust's quantiles, not from this library."""
 

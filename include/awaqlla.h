@@ -18,13 +18,15 @@ extern "C" {
 #define JOURNAL_MAX_LINE 267     /* the most bytes of a line of the listing, with its line end */
 
 /* The first number of an answer: of the limit, of the band, of a scan, of an append, which may answer JOURNAL_DAMAGED too, and
-   through a log JOURNAL_DECLINED_AT, for a line of it; of an index made, which may answer JOURNAL_DECLINED and JOURNAL_DAMAGED too; and of a merge. */
+   through a log JOURNAL_DECLINED_AT, for a line of it; of an index made, which may answer JOURNAL_DECLINED and JOURNAL_DAMAGED too; of a merge; and of
+   a trial. */
 enum { LIMIT_ANSWERED = 0, LIMIT_REFUSED = 1 };
 enum { BAND_ANSWERED = 0, BAND_REFUSED = 1 };
 enum { JOURNAL_WHOLE = 0, JOURNAL_TORN = 1, JOURNAL_DAMAGED = 2 };
 enum { JOURNAL_EXTENDED = 0, JOURNAL_DECLINED = 1, JOURNAL_DECLINED_AT = 3 };
 enum { JOURNAL_INDEXED = 0 };
 enum { MERGE_DONE = 0, MERGE_DECLINED = 1, MERGE_INPUT_DAMAGED = 2, MERGE_INPUT_TORN = 3 };
+enum { TRIAL_DONE = 0, TRIAL_DECLINED = 1, TRIAL_DAMAGED = 2, TRIAL_LOG = 3 };
 
 /* The refusals' numbers (docs/DEFINITION.md, section 10; SHARE 8.1). 8 was that of a limit not finite, which there is none; it is not used again. */
 enum {
@@ -36,7 +38,7 @@ enum {
     AWAQLLA_REFUSAL_TIMES = 6,       /* 2 to 128 times, each 1 to 1,048,575 ticks */
     AWAQLLA_REFUSAL_LIMIT = 7,       /* the limits' count, or the bits of one that does not come out again */
     AWAQLLA_REFUSAL_ROOM = 9,        /* the record ends beyond the slice or JOURNAL_MAX_LENGTH */
-    AWAQLLA_REFUSAL_ABSENT = 10,     /* there are not so many records */
+    AWAQLLA_REFUSAL_ABSENT = 10,     /* there are not so many records, or entries of the index */
     AWAQLLA_REFUSAL_LINE = 11,       /* a line of the log not of its shape or range */
     AWAQLLA_REFUSAL_MANY = 12,       /* a 129th line of the name */
     AWAQLLA_REFUSAL_OLD_FORM = 13,   /* form 1 after a record of form 2 */
@@ -141,6 +143,20 @@ size_t journal_line(const uint8_t *v, size_t len, size_t i, uint8_t *out, size_t
    Only a merge that is done changes a byte of c, and none behind the result. a and b may be the same bytes, c overlaps neither; out points to four places. */
 void journal_merge(const uint8_t *a, size_t a_size, size_t a_len, const uint8_t *b, size_t b_size, size_t b_len,
     uint8_t *c, size_t c_size, uint64_t out[4]);
+
+/* The trial of a recorded log (2026-12): the limits that stand in the journal of the first len bytes of the size at v, on the links of the log_len bytes
+   at log, whose lines are those of journal_append_log. The index_size bytes at index begin with the journal's own index, as journal_index makes it.
+   For the entry at a position of the index, from 0: {TRIAL_DONE, links, chances, the lowest chance exceeded or 0, overs at each chance ..}: how many lines
+   have the entry's name, how many chances the last record of that name has, the lowest of these at which overs * 1,000,000 exceed chance * links, and
+   how many of the links have more ticks than each limit, 0 where there is no chance. {TRIAL_LOG, LINE, place in the log, 0 ..} for the first line that
+   is refused, judged before all else; {TRIAL_DAMAGED, refusal, place, 0 ..} as scan's; {TRIAL_DECLINED, INDEX or ABSENT, 0 ..}: another index, or a position
+   not below the index's count. out points to twelve places. */
+void journal_trial(const uint8_t *log, size_t log_len, const uint8_t *v, size_t size, size_t len,
+    const uint8_t *index, size_t index_size, size_t position, uint64_t out[12]);
+
+/* The lines of the log whose names are not in the index: {TRIAL_DONE, lines, 0}, or as above but for ABSENT. out points to three places. */
+void journal_trial_unknown(const uint8_t *log, size_t log_len, const uint8_t *v, size_t size, size_t len,
+    const uint8_t *index, size_t index_size, uint64_t out[3]);
 
 #ifdef __cplusplus
 }

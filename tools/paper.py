@@ -14,12 +14,18 @@ ROOT = pathlib.Path(__file__).resolve().parent.parent
 PAPER = ROOT / "docs/DEFINITION.md"
 
 
-def load_recompute():
-    """tools/recompute as a module, with the paper's constants read."""
+def load_tool(name):
+    """A tool as a module."""
     sys.dont_write_bytecode = True
-    loader = importlib.machinery.SourceFileLoader("recompute", str(ROOT / "tools/recompute"))
-    module = importlib.util.module_from_spec(importlib.util.spec_from_loader("recompute", loader))
+    loader = importlib.machinery.SourceFileLoader(name, str(ROOT / "tools" / name))
+    module = importlib.util.module_from_spec(importlib.util.spec_from_loader(name, loader))
     loader.exec_module(module)
+    return module
+
+
+def load_recompute():
+    """tools/recompute with the paper's constants read."""
+    module = load_tool("recompute")
     module.load(PAPER)
     return module
 

@@ -1,9 +1,11 @@
 // Times our functions beside the Rust's and prints a table in markdown.
 // Both sides are called through one driver, on bit patterns, by the C convention, and take turns.
 
+mod index;
 mod log;
 mod merge;
 mod scan;
+mod trial;
 
 use inputs::doubles::{low_part, moderate};
 use inputs::journal::LARGEST;
@@ -44,6 +46,8 @@ fn main() {
     append_rows(&mut random);
     log_rows(&mut random);
     merge::rows(&mut random);
+    index::rows();
+    trial::rows(&mut random);
 }
 
 /// The append of a largest record to journals of rising length, beside the scan of the same journal: what is left is the record's own cost.

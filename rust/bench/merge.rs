@@ -87,7 +87,7 @@ fn row(name: &str, a: &[u8], b: &[u8]) {
 }
 
 /// The least time of a turn, in milliseconds.
-fn least(mut call: impl FnMut()) -> f64 {
+pub fn least(mut call: impl FnMut()) -> f64 {
     let times = (0..TURNS).map(|_| {
         let start = Instant::now();
         call();

@@ -1,4 +1,4 @@
-// The journal against rust/reference: scan and reading's two calls over random and altered bytes, histories of appends, logs, indexes, and merges.
+// The journal against rust/reference: scan and reading's two calls over random and altered bytes, histories of appends, logs, indexes, merges, and trials.
 // The lines at the end say how often each kind of answer came.
 
 mod alter;
@@ -10,6 +10,7 @@ mod merges;
 mod reading;
 mod requests;
 mod run;
+mod trials;
 mod words;
 
 use crate::options::Options;
@@ -26,5 +27,8 @@ pub fn compare(options: &Options, totals: &mut Totals) {
     }
     if options.runs("merges") {
         merges::compare(options, totals);
+    }
+    if options.runs("trials") {
+        trials::compare(options, totals);
     }
 }

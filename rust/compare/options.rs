@@ -4,9 +4,16 @@
 use inputs::random::Random;
 
 pub const USAGE: &str =
-    "usage: compare [--scale N] [--seed S] [--only numbers|inverse|reading|histories|merges] [--beside FILE]";
+    "usage: compare [--scale N] [--seed S] [--only numbers|inverse|reading|histories|merges|trials] [--beside FILE]";
 
-const PARTS: [&str; 5] = ["numbers", "inverse", "reading", "histories", "merges"];
+const PARTS: [&str; 6] = [
+    "numbers",
+    "inverse",
+    "reading",
+    "histories",
+    "merges",
+    "trials",
+];
 
 pub struct Options {
     pub scale: u64,

@@ -222,6 +222,60 @@ pub fn journal_index(v: &[u8], len: usize, index: &mut [u8]) -> [u64; 3] {
     out
 }
 
+/// A C function of the trial over a log, a slice with the journal's length in it and an index, by a position or not.
+macro_rules! trial {
+    ($(#[$said:meta])* $name:ident($($position:ident)?) -> $words:literal) => {
+        $(#[$said])*
+        pub fn $name(
+            log: &[u8],
+            v: &[u8],
+            len: usize,
+            index: &[u8],
+            $($position: usize)?
+        ) -> [u64; $words] {
+            unsafe extern "C" {
+                fn $name(
+                    log: *const u8,
+                    log_len: usize,
+                    v: *const u8,
+                    size: usize,
+                    len: usize,
+                    index: *const u8,
+                    index_size: usize,
+                    $($position: usize,)?
+                    out: *mut [u64; $words],
+                );
+            }
+            let mut out = [u64::MAX; $words];
+            // Each pointer and the length behind it are those of a slice, and out has its places.
+            unsafe {
+                $name(
+                    log.as_ptr(),
+                    log.len(),
+                    v.as_ptr(),
+                    v.len(),
+                    len,
+                    index.as_ptr(),
+                    index.len(),
+                    $($position,)?
+                    &mut out,
+                )
+            };
+            out
+        }
+    };
+}
+
+trial! {
+    /// The trial of an entry of the index: {0, links, chances, the lowest exceeded chance or 0, overs by chance, 0 ..}, {1, 14 or 10, 0 ..},
+    /// {2, number, place, 0 ..} or {3, 11, place in the log, 0 ..}.
+    journal_trial(position) -> 12
+}
+trial! {
+    /// The lines with unknown names: {0, lines, 0}, {1, 14, 0}, {2, number, place} or {3, 11, place in the log}.
+    journal_trial_unknown() -> 3
+}
+
 /// Two journals, each a slice and its length in it, merged into a third buffer: {0, length, 0, 0}, {1, 9, 0, 0}, {1, 13, place, 0},
 /// {2, number, place, whose} or {3, 16, 0, whose}.
 pub fn journal_merge(a: (&[u8], usize), b: (&[u8], usize), c: &mut [u8]) -> [u64; 4] {

@@ -269,7 +269,7 @@ fn try_index(slice: &[u8], len: usize, buffer: &mut [u8]) -> Result<usize, Answe
 }
 
 /// The committed length and the records that stand, or the fault.
-fn standing(rule: Rule, slice: &[u8], len: usize) -> Result<(usize, Vec<Entry>), Answer> {
+pub fn standing(rule: Rule, slice: &[u8], len: usize) -> Result<(usize, Vec<Entry>), Answer> {
     let (status, entries) = scan_all(rule, slice, len);
     match status {
         Status::Damaged { number, place } => Err(Answer::Damaged { number, place }),
@@ -280,7 +280,7 @@ fn standing(rule: Rule, slice: &[u8], len: usize) -> Result<(usize, Vec<Entry>),
 }
 
 /// Each record's name and start.
-fn names_in<'a>(slice: &'a [u8], entries: &[Entry]) -> Vec<Named<'a>> {
+pub fn names_in<'a>(slice: &'a [u8], entries: &[Entry]) -> Vec<Named<'a>> {
     let name = |entry: &Entry| (name_of(&slice[entry.start..]), entry.start);
     entries.iter().map(name).collect()
 }

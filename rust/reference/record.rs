@@ -37,6 +37,20 @@ impl Record {
         }
     }
 
+    /// The record that stands at the front of these bytes.
+    pub fn standing(bytes: &[u8]) -> Record {
+        let mut rest = bytes;
+        let [form, day] = [(); 2].map(|()| u16::from_le_bytes(taken(&mut rest)));
+        Record {
+            form,
+            day,
+            name: section(&mut rest, u8::from_le_bytes),
+            chances: section(&mut rest, u32::from_le_bytes),
+            times: section(&mut rest, u32::from_le_bytes),
+            limits: section(&mut rest, u64::from_le_bytes),
+        }
+    }
+
     /// The record of the same arguments in the other form, where its own is one of the two.
     pub fn in_other_form(&self) -> Record {
         let form = Form::of(self.form.into()).expect("form 1 or 2").other();
@@ -84,6 +98,19 @@ impl Record {
         let equal = self.times.iter().all(|time| Some(time) == first);
         mark(equal, self.times.len())
     }
+}
+
+/// The next W bytes of a record that stands.
+fn taken<const W: usize>(rest: &mut &[u8]) -> [u8; W] {
+    let (bytes, behind) = rest.split_first_chunk().expect("a record that stands");
+    *rest = behind;
+    *bytes
+}
+
+/// The numbers of W bytes each behind their count.
+fn section<const W: usize, T>(rest: &mut &[u8], number: fn([u8; W]) -> T) -> Vec<T> {
+    let count = u16::from_le_bytes(taken(rest));
+    (0..count).map(|_| number(taken(rest))).collect()
 }
 
 pub fn name_fits(name: &[u8]) -> bool {

@@ -1,5 +1,9 @@
-// What the programs that open files share: the three standard streams, the sync of a file's folder, and what is said of a file.
+// What the programs that open files share: the three standard streams, a file read to its end, the sync of a file's folder, and what is said of a
+// file.
 // `program` starts each message, as in `append: `.
+ghost use Rattle.io.specs.Counts.{Counts};
+use crate::input::Input;
+use crate::input::read_input;
 use crate::path::folder_end;
 
 // Whether all three streams are open. Where one is closed, a file that is opened takes its number, and what is printed there lands in the
@@ -25,6 +29,43 @@ fn is_closed(fd: i32) -> bool {
         return false;
     }
     os::errno() == libc::EBADF
+}
+
+// Reads the file that an argument names to its end, or as much as there is room for; where that fails, what failed is said. `nameless` is what is
+// wrong with a name that is no path.
+pub fn read_argument(program: &[u8], i: usize, nameless: &[u8], out: &mut [u8]) -> Input
+    ensures { λ r. ⌜ Counts (r .size) (now (out .exit)) ⌝ }
+{
+    let mut path = io::buffer();
+    let size = os::arg(i, &mut path);
+    if size == 0 {
+        complain(program, nameless);
+        return Input {
+            size: 0,
+            failed: true,
+        };
+    }
+    read_at(program, &path[..size], out)
+}
+
+// Reads a file.
+fn read_at(program: &[u8], path: &[u8], out: &mut [u8]) -> Input
+    ensures { λ r. ⌜ Counts (r .size) (now (out .exit)) ⌝ }
+{
+    let fd = os::open_read(path);
+    if fd < 0 {
+        fail_file(program, path);
+        return Input {
+            size: 0,
+            failed: true,
+        };
+    }
+    let read = read_input(fd, out);
+    if read.failed {
+        fail_file(program, path);
+    }
+    libc::close(fd);
+    read
 }
 
 // Syncs the folder of a path, so that the name of a file that is new stays. Where that fails, what failed is said.

@@ -13,6 +13,7 @@ mod pieces;
 pub use digit::Number;
 pub use files::complain;
 pub use files::fail_file;
+pub use files::read_argument;
 pub use files::streams_are_open;
 pub use files::sync_folder;
 pub use help::is_argument;

@@ -51,12 +51,18 @@ next-rises t k =
           | yes v ↦
               let some = month-has (t .year + 1) 1 in
               rw (le-ltb (t .day) (monthDays (t .year) (t .month)) w, le-ltb (t .month) 12 v)
-              (record { is = record { first-month = omega arith; last-month = omega arith; first-day = omega arith; last-day = omega arith }; more = omega arith })
+              (record {
+                is = record { first-month = omega arith; last-month = omega arith; first-day = omega arith; last-day = omega arith };
+                more = omega arith;
+              })
           | no v ↦
               let less = lt-of-not-le v in
               let some = month-has (t .year) (t .month + 1) in
               rw (le-ltb (t .day) (monthDays (t .year) (t .month)) w, lt-ltb (t .month) 12 less)
-              (record { is = record { first-month = omega arith; last-month = omega arith; first-day = omega arith; last-day = omega arith }; more = omega arith })
+              (record {
+                is = record { first-month = omega arith; last-month = omega arith; first-day = omega arith; last-day = omega arith };
+                more = omega arith;
+              })
         ]
 
 -- so many days on

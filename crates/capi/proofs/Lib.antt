@@ -4,3 +4,4 @@ pub mod AppendOutcome
 pub mod IndexOutcome
 pub mod LineAt
 pub mod MergeOutcome
+pub mod TrialWords

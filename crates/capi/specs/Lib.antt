@@ -7,3 +7,4 @@ pub mod Journal
 pub mod Limit
 pub mod Line
 pub mod Merge
+pub mod Trial

@@ -10,3 +10,4 @@ pub mod limits;
 pub mod line;
 pub mod merge;
 pub mod quantile;
+pub mod trial;

@@ -31,7 +31,7 @@ unfolding recordReader plain then
 plain-same last other = refl
 
 -- a record that nothing refuses is found again behind any bytes
-record-there : (last : Last) (r : Record) (pre post : List ℕ) → RecordRanges last r
+pub record-there : (last : Last) (r : Record) (pre post : List ℕ) → RecordRanges last r
     → plainRecordAt (length pre) (pre ++ (recordBytes r ++ post)) ≡ found r (length pre + length (recordBytes r)) post
 unfolding plainRecordAt
 record-there last r pre post good =

@@ -1,43 +1,5 @@
-// The files: both journals are read to their ends, and the result is written to a new one. A file that exists is never written over, and
-// one that cannot be finished is taken away again.
-ghost use Rattle.io.specs.Counts.{Counts};
-use arguments::Input;
-
-// Reads the file that an argument names; where that fails, what failed is said. `nameless` is what is wrong with a name that is no path.
-pub(crate) fn read_argument(i: usize, nameless: &[u8], out: &mut [u8]) -> Input
-    ensures { λ r. ⌜ Counts (r .size) (now (out .exit)) ⌝ }
-{
-    let mut path = io::buffer();
-    let size = os::arg(i, &mut path);
-    if size == 0 {
-        arguments::complain(b"merge: ", nameless);
-        return Input {
-            size: 0,
-            failed: true,
-        };
-    }
-    read_at(&path[..size], out)
-}
-
-// Reads a file.
-fn read_at(path: &[u8], out: &mut [u8]) -> Input
-    ensures { λ r. ⌜ Counts (r .size) (now (out .exit)) ⌝ }
-{
-    let fd = os::open_read(path);
-    if fd < 0 {
-        arguments::fail_file(b"merge: ", path);
-        return Input {
-            size: 0,
-            failed: true,
-        };
-    }
-    let read = arguments::read_input(fd, out);
-    if read.failed {
-        arguments::fail_file(b"merge: ", path);
-    }
-    libc::close(fd);
-    read
-}
+// The new file: the result is written to it. A file that exists is never written over, and one that cannot be finished is taken
+// away again.
 
 // Writes the result to a new file, the third argument's, and answers whether it stands.
 pub(crate) fn write_new(result: &[u8]) -> bool {

@@ -14,7 +14,8 @@ fn main() {
         return;
     }
     let mut room = arguments::input_room();
-    let read = files::read_argument(
+    let read = arguments::read_argument(
+        b"merge: ",
         1,
         b"FIRST: an empty name, or one of more than 4096 bytes",
         &mut room,
@@ -28,7 +29,8 @@ fn main() {
 // The second journal, where the first is read.
 fn merge_with(first: &[u8]) {
     let mut room = arguments::input_room();
-    let read = files::read_argument(
+    let read = arguments::read_argument(
+        b"merge: ",
         2,
         b"SECOND: an empty name, or one of more than 4096 bytes",
         &mut room,

@@ -50,7 +50,8 @@ low-fraction s t =
 mid-value : (s : Bool) (x t : ℕ) → suc x < 2047 → IsFraction (ofFields binary64 s (suc x) t) s ((2 ^ 52 + t) * 2 ^ x) (2 ^ 1074)
 unfolding ofFields
 mid-value s x t h =
-    rw (ne-eqb (suc x) 2047 (λ e. omega arith)) (of-value (odd 53 s (2 ^ 52 + t) x 1074) s ((2 ^ 52 + t) * 2 ^ x) (2 ^ 1074) (odd-sign 53 s (2 ^ 52 + t) x 1074))
+    rw (ne-eqb (suc x) 2047 (λ e. omega arith))
+    (of-value (odd 53 s (2 ^ 52 + t) x 1074) s ((2 ^ 52 + t) * 2 ^ x) (2 ^ 1074) (odd-sign 53 s (2 ^ 52 + t) x 1074))
 
 mid-fraction : (s : Bool) (x k t : ℕ) → suc x < 2047 → k + x ≡ 1074 → IsFraction (ofFields binary64 s (suc x) t) s (2 ^ 52 + t) (2 ^ k)
 mid-fraction s x k t h e =
@@ -74,7 +75,8 @@ unfolding ofFields
 fields-num s zero t = odd-num 53 s t 0 1074
 fields-num s (suc x) t = go (eqb (suc x) 2047) (eqb t 0)
   where
-    go : (b z : Bool) → num (cond b (cond z (inf s) nan) (odd 53 s (2 ^ 52 + t) x 1074)) ≡ num (cond b (cond z (inf false) nan) (odd 53 false (2 ^ 52 + t) x 1074))
+    go : (b z : Bool)
+        → num (cond b (cond z (inf s) nan) (odd 53 s (2 ^ 52 + t) x 1074)) ≡ num (cond b (cond z (inf false) nan) (odd 53 false (2 ^ 52 + t) x 1074))
     go true true = refl
     go true false = refl
     go false z = odd-num 53 s (2 ^ 52 + t) x 1074
@@ -84,7 +86,8 @@ unfolding ofFields
 fields-den s zero t = odd-den 53 s t 0 1074
 fields-den s (suc x) t = go (eqb (suc x) 2047) (eqb t 0)
   where
-    go : (b z : Bool) → den (cond b (cond z (inf s) nan) (odd 53 s (2 ^ 52 + t) x 1074)) ≡ den (cond b (cond z (inf false) nan) (odd 53 false (2 ^ 52 + t) x 1074))
+    go : (b z : Bool)
+        → den (cond b (cond z (inf s) nan) (odd 53 s (2 ^ 52 + t) x 1074)) ≡ den (cond b (cond z (inf false) nan) (odd 53 false (2 ^ 52 + t) x 1074))
     go true true = refl
     go true false = refl
     go false z = odd-den 53 s (2 ^ 52 + t) x 1074

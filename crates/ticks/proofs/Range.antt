@@ -70,7 +70,9 @@ pub pattern-in : (b : ℕ) → b % 2 ^ 63 < 1076 * 2 ^ 52 → inRange (ofBits bi
 pattern-in b h = go (b % 2 ^ 63 / 2 ^ 52) refl
   where
     go : (e : ℕ) → b % 2 ^ 63 / 2 ^ 52 ≡ e → inRange (ofBits binary64 b) ≡ true
-    go zero e = fraction-in (ofBits binary64 b) (leb (2 ^ 63) b) (b % 2 ^ 52) (2 ^ 1074) (pattern-low b e) (few (b % 2 ^ 52) (2 ^ 1074) (omega arith) (pow-pos 1074))
+    go zero e =
+        fraction-in (ofBits binary64 b) (leb (2 ^ 63) b) (b % 2 ^ 52) (2 ^ 1074) (pattern-low b e)
+        (few (b % 2 ^ 52) (2 ^ 1074) (omega arith) (pow-pos 1074))
     go (suc x) e =
         let k : ℕ = 1074 - x in
         let sum : k + x ≡ 1074 = omega arith in

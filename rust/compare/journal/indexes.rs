@@ -30,7 +30,7 @@ pub fn compare(options: &Options, totals: &mut Totals) {
 }
 
 /// So many random bytes.
-fn bytes(random: &mut Random, size: usize) -> Vec<u8> {
+pub fn bytes(random: &mut Random, size: usize) -> Vec<u8> {
     (0..size).map(|_| random.bits() as u8).collect()
 }
 
@@ -42,7 +42,8 @@ fn of_few_names(random: &mut Random, mut records: Vec<Record>) -> Vec<Record> {
     records
 }
 
-fn some_records(random: &mut Random, count: u64) -> Vec<Record> {
+/// So many records of few names.
+pub fn some_records(random: &mut Random, count: u64) -> Vec<Record> {
     let some = records(random, count);
     of_few_names(random, some)
 }
@@ -149,7 +150,7 @@ fn nearly_right(random: &mut Random, run: &mut Run) {
 }
 
 /// A count off by one, entries exchanged, missing or twice, another record's start, names by their length first.
-fn nearly(placed: &[Named]) -> Vec<Vec<u8>> {
+pub fn nearly(placed: &[Named]) -> Vec<Vec<u8>> {
     let entries = entries_of(placed.iter().copied());
     let count = entries.len();
     let mut wrong = vec![bytes_of(count + 1, &entries)];

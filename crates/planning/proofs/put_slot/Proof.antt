@@ -28,7 +28,9 @@ returns c =
     let third = fourth .before .before .before .before .before in
     let second = third .before .before .before .before in
     let first = second .before .before .before .before in
-    put-put _ _ _ _ _ _ _ _ (put-put _ _ _ _ _ _ _ _ (put-put _ _ _ _ _ _ _ _ (first .put-front .ensures) (second .put-figures .ensures)) (third .put-limits .ensures)) (fourth .put .ensures)
+    put-put _ _ _ _ _ _ _ _
+    (put-put _ _ _ _ _ _ _ _ (put-put _ _ _ _ _ _ _ _ (first .put-front .ensures) (second .put-figures .ensures)) (third .put-limits .ensures))
+    (fourth .put .ensures)
 
 pub put-slot-spec : {M : Type 1} → statement M
 put-slot-spec =

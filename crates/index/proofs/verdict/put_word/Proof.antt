@@ -2,7 +2,7 @@
 -- Assumes nothing.
 use borrow.Author.Needs.{needs}
 use Rattle.listing.proofs.Putting.{put-put, put-as}
-use Rattle.listing.proofs.Texts.{decimal-text}
+use Rattle.hex.proofs.Putting.{decimal-text}
 use Rattle.index.proofs.Lines.{word-line}
 use Rattle.index.proofs.verdict.put_word.Statement.{statement}
 use Rattle.index.proofs.verdict.put_word.Tie as tie

@@ -16,14 +16,16 @@ unfolding recordBy Scan.recordAt recordAt
 returns c =
     let kept = c .before .kept-by in
     let read = c .before .before .before .before .before in
-    (entry-kept _ _ _ _ (sym (c .before .before .before .x .given .1) ∙ read .record-at .ensures .0) (sym (kept .ensures) ∙ c .if1 .taken), read .record-at .ensures .1)
+    let told = sym (c .before .before .before .x .given .1) ∙ read .record-at .ensures .0 in
+    (entry-kept _ _ _ _ told (sym (kept .ensures) ∙ c .if1 .taken), read .record-at .ensures .1)
 
 returns-2 : tie.Need-returns-2
 unfolding recordBy Scan.recordAt recordAt
 returns-2 c =
     let kept = c .before .kept-by in
     let read = c .before .before .before .before .before in
-    (entry-broken _ _ _ _ (sym (c .before .before .before .x .given .1) ∙ read .record-at .ensures .0) (sym (kept .ensures) ∙ c .if1 .left), read .record-at .ensures .1)
+    let told = sym (c .before .before .before .x .given .1) ∙ read .record-at .ensures .0 in
+    (entry-broken _ _ _ _ told (sym (kept .ensures) ∙ c .if1 .left), read .record-at .ensures .1)
 
 returns-3 : tie.Need-returns-3
 unfolding recordBy Scan.recordAt recordAt

@@ -11,7 +11,8 @@ returns c =
     let third = c .before .before in
     let second = third .before .before .before .before in
     let first = second .before .before .before .before in
-    put-as _ _ _ _ _ _ (column-parts _ _ _) (put-put _ _ _ _ _ _ _ _ (put-put _ _ _ _ _ _ _ _ (first .put-gap .ensures) (second .put-fill .ensures)) (third .put .ensures))
+    put-as _ _ _ _ _ _ (column-parts _ _ _)
+    (put-put _ _ _ _ _ _ _ _ (put-put _ _ _ _ _ _ _ _ (first .put-gap .ensures) (second .put-fill .ensures)) (third .put .ensures))
 
 pub put-column-spec : {M : Type 1} → statement M
 put-column-spec =

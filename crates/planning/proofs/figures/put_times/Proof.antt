@@ -20,7 +20,9 @@ returns : tie.Need-returns
 returns c =
     let made = c .before .before .before .before .before .before in
     let a = made .before .before .before .args in
-    put-as _ _ _ _ _ _ (ap (column (a .tabs) timesWidth) (put-whole _ _ _ _ (times-fit (a .count) (omega arith)) (made .put-decimal .ensures))) (c .before .before .put-column .ensures)
+    put-as _ _ _ _ _ _
+    (ap (column (a .tabs) timesWidth) (put-whole _ _ _ _ (times-fit (a .count) (omega arith)) (made .put-decimal .ensures)))
+    (c .before .before .put-column .ensures)
 
 pub put-times-spec : {M : Type 1} → statement M
 put-times-spec =

@@ -19,7 +19,8 @@ returns c =
     let first = second .before .before .before .before in
     let number = first .before .before in
     let a = number .before .before .before .args in
-    let day = day-is _ (a .at) (now (a .v)) (λ k. omega (arith, number .before .before .shared-slice-known .given k)) (omega arith) (number .number-in .ensures) in
+    let day = day-is _ (a .at) (now (a .v)) (λ k. omega (arith, number .before .before .shared-slice-known .given k)) (omega arith)
+    (number .number-in .ensures) in
     put-as _ _ _ _ _ _ (ap (λ (d : ℕ). gap (a .tabs) ∷ isoOf d) day) (put-put _ _ _ _ _ _ _ _ (first .put-gap .ensures) (second .put-date .ensures))
 
 pub put-day-spec : {M : Type 1} → statement M

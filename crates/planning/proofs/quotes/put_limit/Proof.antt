@@ -20,7 +20,9 @@ returns : tie.Need-returns
 returns c =
     let made = c .before .before .before .before .before .before in
     let a = made .before .before .before .args in
-    put-as _ _ _ _ _ _ (ap (column (a .tabs) limitWidth) (put-whole _ _ _ _ (slot-fits (a .chance) (a .limit) (omega arith)) (made .put-quote .ensures))) (c .before .before .put-column .ensures)
+    put-as _ _ _ _ _ _
+    (ap (column (a .tabs) limitWidth) (put-whole _ _ _ _ (slot-fits (a .chance) (a .limit) (omega arith)) (made .put-quote .ensures)))
+    (c .before .before .put-column .ensures)
 
 pub put-limit-spec : {M : Type 1} → statement M
 put-limit-spec =

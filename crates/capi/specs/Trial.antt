@@ -1,0 +1,47 @@
+-- The answers of a trial as the C interface gives them: twelve words for an entry of the index, three for unknown names.
+-- The first says which case it is, the others hold its numbers, 0 where there is none.
+use Prim.Native.Nat.{ℕ}
+use mathlib.Core.List.{List, [], _∷_, _++_, replicate}
+use lib.ListN.{length, getD}
+use Rattle.journal_spec.specs.Refusals.{lineRefusal}
+use Rattle.trial_spec.specs.Trial.{Refusal, unread, damaged, declined, TrialResult, tried, untried, UnknownResult, unknown, uncounted}
+use Rattle.trying.specs.Counting.{eight}
+use Rattle.trying.specs.Answers.{padded, lowestWord}
+use Rattle.trying.specs.declared.leaf.Answer.{Answer}
+use Rattle.trying.specs.declared.leaf.Answer.the-variants as A
+use Rattle.trying.specs.declared.leaf.Trial.{Trial}
+use Rattle.trying.specs.declared.strangers.Unknown.{Unknown}
+use Rattle.trying.specs.declared.strangers.Unknown.the-variants as U
+
+-- 1 and the number by which it is declined; 2 and the journal's fault, with number and place; 3, 11 and the place in the log
+unfoldable pub refusalWords : Refusal → List ℕ
+refusalWords (declined n) = 1 ∷ n ∷ 0 ∷ []
+refusalWords (damaged n p) = 2 ∷ n ∷ p ∷ []
+refusalWords (unread p) = 3 ∷ lineRefusal ∷ p ∷ []
+
+-- 0, the links, how many chances there are, the lowest that was exceeded or 0, and the overs by chance, 0 where there is none
+unfoldable pub trialWords : TrialResult → List ℕ
+trialWords (tried t) = 0 ∷ t .links ∷ length (t .overs) ∷ lowestWord (t .lowest) ∷ padded (t .overs)
+trialWords (untried r) = refusalWords r ++ replicate 9 0
+
+-- 0 and the lines
+unfoldable pub unknownWords : UnknownResult → List ℕ
+unknownWords (unknown n) = 0 ∷ n ∷ 0 ∷ []
+unknownWords (uncounted r) = refusalWords r
+
+-- ---- of the code's answers
+
+unfoldable pub answerWords : Answer → List ℕ → List ℕ
+answerWords (A.Tried links chances lowest) overs = 0 ∷ links ∷ chances ∷ lowest ∷ eight (λ j. getD overs j 0)
+answerWords (A.Declined n) overs = 1 ∷ n ∷ 0 ∷ replicate 9 0
+answerWords (A.Damaged f) overs = 2 ∷ f .number ∷ f .place ∷ replicate 9 0
+answerWords (A.Unread p) overs = 3 ∷ lineRefusal ∷ p ∷ replicate 9 0
+
+unfoldable pub wordsOf : Trial → List ℕ
+wordsOf t = answerWords (t .answer) (t .overs)
+
+unfoldable pub wordsOfUnknown : Unknown → List ℕ
+wordsOfUnknown (U.Lines n) = 0 ∷ n ∷ 0 ∷ []
+wordsOfUnknown (U.Declined n) = 1 ∷ n ∷ 0 ∷ []
+wordsOfUnknown (U.Damaged f) = 2 ∷ f .number ∷ f .place ∷ []
+wordsOfUnknown (U.Unread p) = 3 ∷ lineRefusal ∷ p ∷ []

@@ -1,0 +1,113 @@
+// The trial of a recorded log (request 2026-12): the call for an entry of the index, with its answer in twelve words, and the call for unknown names,
+// in three. `log` is all of the log, `v` the slice, `len` the journal's length in it, `index` the buffer with the index at its front.
+ghost use mathlib.Core.Path.{_≡_};
+ghost use Rattle.trial_spec.specs.Trial.{tryEntry, tryUnknown};
+ghost use Rattle.capi.specs.Trial.{trialWords, wordsOf, unknownWords, wordsOfUnknown};
+use trying::Answer;
+use trying::Trial;
+use trying::Unknown;
+
+// The number for a line of the log that is refused.
+const LINE_REFUSAL: u64 = 11;
+
+#[no_mangle]
+pub extern "C" fn journal_trial(
+    log: &[u8],
+    v: &[u8],
+    len: usize,
+    index: &[u8],
+    position: usize,
+    out: &mut [u64; 12],
+)
+    ensures { λ r. ⌜ now (out .exit) ≡ trialWords (tryEntry (now (log .entry)) (now (v .entry)) len (now (index .entry)) position) ⌝ }
+{
+    let t = trying::try_entry(log, v, len, index, position);
+    put_trial(t, out);
+}
+
+#[no_mangle]
+pub extern "C" fn journal_trial_unknown(
+    log: &[u8],
+    v: &[u8],
+    len: usize,
+    index: &[u8],
+    out: &mut [u64; 3],
+)
+    ensures { λ r. ⌜ now (out .exit) ≡ unknownWords (tryUnknown (now (log .entry)) (now (v .entry)) len (now (index .entry))) ⌝ }
+{
+    let u = trying::try_unknown(log, v, len, index);
+    put_unknown(u, out);
+}
+
+// 0, the links, how many chances there are, the lowest that was exceeded or 0, and the overs by chance; 1 and the number by which it is declined; 2, with
+// the fault's number and place; or 3, 11 and the place in the log.
+fn put_trial(t: Trial, out: &mut [u64; 12])
+    ensures { λ r. ⌜ now (out .exit) ≡ wordsOf t ⌝ }
+{
+    let o = t.overs;
+    let answer = t.answer;
+    match answer {
+        Answer::Tried {
+            links,
+            chances,
+            lowest,
+        } => {
+            *out = [
+                0,
+                links,
+                chances as u64,
+                lowest,
+                o[0],
+                o[1],
+                o[2],
+                o[3],
+                o[4],
+                o[5],
+                o[6],
+                o[7],
+            ];
+        }
+        Answer::Declined(n) => {
+            *out = [1, n as u64, 0, 0, 0, 0, 0, 0, 0, 0, 0, 0];
+        }
+        Answer::Damaged(f) => {
+            *out = [
+                2,
+                f.number as u64,
+                f.place as u64,
+                0,
+                0,
+                0,
+                0,
+                0,
+                0,
+                0,
+                0,
+                0,
+            ];
+        }
+        Answer::Unread(place) => {
+            *out = [3, LINE_REFUSAL, place as u64, 0, 0, 0, 0, 0, 0, 0, 0, 0];
+        }
+    }
+}
+
+// 0 and the lines; else as above.
+fn put_unknown(u: Unknown, out: &mut [u64; 3])
+    ensures { λ r. ⌜ now (out .exit) ≡ wordsOfUnknown u ⌝ }
+{
+    match u {
+        Unknown::Lines(n) => {
+            *out = [0, n, 0];
+        }
+        Unknown::Declined(n) => {
+            *out = [1, n as u64, 0];
+        }
+        Unknown::Damaged(f) => {
+            *out = [2, f.number as u64, f.place as u64];
+        }
+        Unknown::Unread(place) => {
+            *out = [3, LINE_REFUSAL, place as u64];
+        }
+    }
+}

@@ -1,0 +1,2 @@
+-- The program's proofs need no laws of their own.
+-- Assumes nothing.

@@ -1,0 +1,150 @@
+// The trial of a log, and what is printed of it: a line for each name in the index's order, then the lines with unknown names; or the refusal.
+// The program makes the index itself, so that 14 and 10 are no answers here.
+ghost use mathlib.Core.Path.{_≡_};
+ghost use Prim.Native.Nat.{_≤_};
+ghost use lib.ListN.{length};
+use crate::output::print_line;
+use crate::output::print_refusal;
+use crate::output::print_unknown;
+use crate::passes::try_pieces;
+use crate::table::count_at;
+use crate::table::table_room;
+use crate::text::put_chance;
+use crate::text::put_head;
+use hex::put;
+use journal::number_in;
+use trying::Unknown;
+
+// The number for a line of the log that is refused.
+const LINE_REFUSAL: u32 = 11;
+
+// Room for the longest index: an entry is shorter than its record.
+fn index_room() -> [u8; 65_538]
+    ensures { λ r. ⌜ 65_538 ≡ length r ⌝ }
+{
+    [0; 65_538]
+}
+
+// Room for a line.
+fn line_room() -> [u8; 1_024]
+    ensures { λ r. ⌜ 1_024 ≡ length r ⌝ }
+{
+    [0; 1_024]
+}
+
+// Tries the log of a descriptor on the journal that is all of a slice.
+pub(crate) fn try_log(fd: i32, v: &[u8]) {
+    let mut index = index_room();
+    indexing::make_index(v, v.len(), &mut index);
+    let mut table = table_room();
+    let p = try_pieces(fd, v, &index, &mut table);
+    if p.failed {
+        os::fail(b"trial: the log");
+        return;
+    }
+    let answer = p.answer;
+    match answer {
+        Unknown::Lines(n) => print_all(v, &index, &table, n),
+        Unknown::Declined(n) => print_refusal(b"declined", n, 0),
+        Unknown::Damaged(f) => print_refusal(b"damaged", f.number, f.place),
+        Unknown::Unread(place) => print_refusal(b"log", LINE_REFUSAL, place),
+    }
+}
+
+// The lines of all names, then the lines with unknown names.
+fn print_all(v: &[u8], index: &[u8], table: &[u64], unknown: u64) {
+    let count = number_in(index, 0, 2) as usize;
+    let mut k: usize = 0;
+    while k < count {
+        if !print_name(v, index, table, k) {
+            return;
+        }
+        k += 1;
+    }
+    print_unknown(unknown);
+}
+
+// The line of the name at a position; whether it is printed.
+fn print_name(v: &[u8], index: &[u8], table: &[u64], k: usize) -> bool {
+    let at = entries::entry_place(index, k);
+    let size = entries::size_at(index, at);
+    if size < 6 {
+        return true;
+    }
+    if index.len() < size {
+        return true;
+    }
+    if index.len() - size < at {
+        return true;
+    }
+    let names = size - 6;
+    let start = entries::start_at(index, at);
+    let mut out = line_room();
+    let from = at + 2;
+    let to = from + names;
+    let head = put_head(&mut out, &index[from..to], count_at(table, k, 0));
+    let end = put_chances(&mut out, head, v, chances_place(start, names), table, k);
+    let last = put(&mut out, end, b"\n");
+    print_line(&out, last)
+}
+
+// Where the count of a record's chances stands, behind so many bytes of a name.
+fn chances_place(start: usize, names: usize) -> usize {
+    std::num::wrapping_add_usize(start, std::num::wrapping_add_usize(names, 6))
+}
+
+// Puts the overs at each chance of the record whose chances' count stands at a place; the lowest chance that was exceeded is marked.
+fn put_chances(
+    out: &mut [u8],
+    from: usize,
+    v: &[u8],
+    place: usize,
+    table: &[u64],
+    k: usize,
+) -> usize {
+    let count = eight_at_most(number_in(v, place, 2));
+    let first = first_exceeded(v, place, count, table, k);
+    let mut end = from;
+    let mut j: usize = 0;
+    while j < count {
+        let chance = chance_at(v, place, j);
+        let overs = count_at(table, k, j + 1);
+        end = put_chance(out, end, chance, overs, j == first);
+        j += 1;
+    }
+    end
+}
+
+// Which of the chances is the first that was exceeded, or their count.
+fn first_exceeded(v: &[u8], place: usize, count: usize, table: &[u64], k: usize) -> usize
+    requires { ⌜ count ≤ 8 ⌝ }
+{
+    let links = count_at(table, k, 0);
+    let mut j: usize = 0;
+    while j < count {
+        let chance = chance_at(v, place, j);
+        let overs = count_at(table, k, j + 1);
+        if trying::exceeds(links, chance, overs) {
+            return j;
+        }
+        j += 1;
+    }
+    count
+}
+
+// A chance of the record whose chances' count stands at a place.
+fn chance_at(v: &[u8], place: usize, j: usize) -> u64
+    requires { ⌜ j ≤ 8 ⌝ }
+{
+    number_in(v, std::num::wrapping_add_usize(place, 2 + 4 * j), 4)
+}
+
+// A count of chances: a record has no more than eight.
+fn eight_at_most(n: u64) -> usize
+    ensures { λ r. ⌜ r ≤ 8 ⌝ }
+{
+    if n < 8 {
+        return n as usize;
+    }
+    8
+}

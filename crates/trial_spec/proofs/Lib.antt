@@ -1,0 +1,13 @@
+-- The laws of a trial: every line is counted once, overs are links, the lowest chance, the refusals' order, and the sums over the answers.
+-- `Trials` has the theorems of the two calls.
+pub mod Tallies
+pub mod Lines
+pub mod Names
+pub mod Counts
+pub mod Overrun
+pub mod Standing
+pub mod Rows
+pub mod Trials
+pub mod Pieces
+-- examples
+pub mod Examples
