@@ -23,9 +23,11 @@ type OnBits = extern "C" fn(u64) -> u64;
 type OnLog = fn(&[u8], &[u8]) -> u64;
 type OnPart = fn(&RefCell<Vec<u8>>, usize) -> u64;
 
-/// Calls in a turn, and turns of each side; the least time of a turn counts.
+/// Calls in a turn; the turns of each side, and how long they go on, at least; the least time of a turn counts. A machine's slow moments of some
+/// tens of milliseconds are shorter than a row.
 const CALLS: usize = 2_000;
 const TURNS: usize = 200;
+const ROW: Duration = Duration::from_millis(500);
 
 fn main() {
     let mut random = Random::new(1);
@@ -162,7 +164,10 @@ fn drawn<T>(draw: impl FnMut() -> T) -> Vec<T> {
 /// The least time of a turn of each function; the two take turns over the same inputs.
 fn race<F: Copy, I>(sides: [F; 2], inputs: &[I], call: impl Fn(F, &I) -> u64) -> [Duration; 2] {
     let mut least = [Duration::MAX; 2];
-    for _ in 0..TURNS {
+    let mut turns = 0;
+    let began = Instant::now();
+    while turns < TURNS || began.elapsed() < ROW {
+        turns += 1;
         for (function, least) in sides.into_iter().zip(&mut least) {
             let function = black_box(function);
             let start = Instant::now();
