@@ -3,7 +3,8 @@
 use mathlib.Core.Path.{_≡_, ap}
 use Prim.Native.Nat.{ℕ}
 use mathlib.Core.List.{List, [], _∷_, _++_, append-assoc}
-use Rattle.listing.specs.Listing.{space, newline, spaced, lineOf}
+use Rattle.journal_spec.specs.Log.{space, newline}
+use Rattle.listing.specs.Listing.{spaced, lineOf}
 
 -- a word and a number
 pub word-line : (w n : List ℕ) → w ++ (space ∷ []) ++ n ++ (newline ∷ []) ≡ lineOf (w ∷ n ∷ [])

@@ -4,7 +4,8 @@ use mathlib.Core.Path.{_≡_, ap}
 use Prim.Native.Nat.{ℕ}
 use mathlib.Core.List.{List, [], _∷_, _++_, append-assoc}
 use Rattle.hex.specs.Hex.{decimalDigits}
-use Rattle.listing.specs.Listing.{space, newline, spaced, lineOf}
+use Rattle.journal_spec.specs.Log.{space, newline}
+use Rattle.listing.specs.Listing.{spaced, lineOf}
 use Rattle.journal_spec.specs.MakeIndex.{IndexCheck}
 use Rattle.entries.specs.declared.walking.End.{End}
 use Rattle.index.specs.Verdict.{numbered, checkedLine}

@@ -11,6 +11,7 @@ use Rattle.limit.specs.Times.{minTicks, maxTicks, minCount, maxCount, allInRang
 use Rattle.limit.specs.Sums.{sumsOf}
 use Rattle.limit.specs.Answer.{timesRefusal}
 use Rattle.limit.proofs.InRange as I
+use Rattle.limit.proofs.Bounds.{all-append}
 use Rattle.journal_spec.specs.Bytes.{valueOf}
 use Rattle.journal_spec.specs.Refusals.{outside}
 use Rattle.journal_spec.specs.Reader.{Reader, Found, found, fault, short, run, then}
@@ -26,7 +27,7 @@ use Rattle.journal.specs.declared.section.SectionRead.the-variants as S
 use Rattle.journal.specs.Rules.{ruled}
 use Rattle.journal.specs.Found.{sectionRead, sectionAt}
 use Rattle.journal.specs.Records.{Stands}
-use Rattle.journal.proofs.RuleLoop.{all-append, time-between}
+use Rattle.journal.proofs.RuleLoop.{time-between}
 
 -- ---- the section's answer, taken back
 

@@ -9,8 +9,7 @@ use lib.ListN.{length, drop}
 use Rattle.limit.specs.declared.sums.Sums.{Sums}
 use Rattle.limit.specs.Times.{minTicks, maxTicks, maxCount, timeInRange, allInRange, sumOf, squaresOf}
 use Rattle.limit.specs.Sums.{sumsOf, noTimes, addTime}
-use Rattle.limit.proofs.InRange.{both, inside}
-use Rattle.limit.proofs.Bounds.{head-in-range, tail-in-range}
+use Rattle.limit.proofs.InRange.{inside}
 use Rattle.limit.proofs.Adding.{add-one-time}
 use Rattle.journal_spec.specs.Reader.{run}
 use Rattle.journal_spec.specs.Section.{items}
@@ -25,11 +24,6 @@ use Rattle.journal.proofs.Fields.{afterField, field-value}
 use Rattle.journal.proofs.Items.{items-answer, items-more}
 
 -- ---- one number more at the end of a list
-
-pub all-append : (ts : List ℕ) (t : ℕ) → allInRange ts ≡ true → timeInRange t ≡ true → allInRange (ts ++ t ∷ []) ≡ true
-unfolding allInRange
-all-append [] t e d = both d refl
-all-append (u ∷ ts) t e d = both (head-in-range u ts e) (all-append ts t (tail-in-range u ts e) d)
 
 pub time-between : (t : ℕ) → minTicks ≤ t → t ≤ maxTicks → timeInRange t ≡ true
 unfolding timeInRange

@@ -71,7 +71,8 @@ limit-judged form times c bits k t e = ap (λ (r : LimitResult). judgeLimit r bi
 
 -- ---- what fits 8 bytes
 
-formula-fits : (form : ℕ) (times : List ℕ) (c : ℕ) → T (fits binary64 (workedOut form times c))
+-- a limit worked out is a double
+pub formula-fits : (form : ℕ) (times : List ℕ) (c : ℕ) → T (fits binary64 (workedOut form times c))
 unfolding workedOut formulaOf limitFrom
 formula-fits form times c = add-fits binary64 _ _
 

@@ -1,14 +1,14 @@
 -- Bounds of the sums of times that are each in range: S lies between n × 1 and n × 1,048,575, and Q is at most 1,048,575 × S.
 -- By induction over the list. Assumes nothing.
-use mathlib.Core.Path.{_≡_}
+use mathlib.Core.Path.{_≡_, refl}
 use mathlib.Core.Bool.{true}
-use mathlib.Core.List.{List, [], _∷_}
+use mathlib.Core.List.{List, [], _∷_, _++_}
 use Prim.Native.Nat.{ℕ, _*_, _≤_}
 use native.Mathlib.Nat.{mul-le-mul-right}
 use native.Mathlib.Omega.{arith}
 use lib.ListN.{length}
 use Rattle.limit.specs.Times.{minTicks, maxTicks, timeInRange, allInRange, sumOf, squaresOf}
-use Rattle.limit.proofs.InRange.{first-of, second-of, at-least, at-most}
+use Rattle.limit.proofs.InRange.{both, first-of, second-of, at-least, at-most}
 
 pub time-at-least : (t : ℕ) → timeInRange t ≡ true → minTicks ≤ t
 unfolding timeInRange
@@ -26,6 +26,12 @@ module _ (t : ℕ) (ts : List ℕ) (e : allInRange (t ∷ ts) ≡ true) where
   pub tail-in-range : allInRange ts ≡ true
   unfolding allInRange
   tail-in-range = second-of (timeInRange t) (allInRange ts) e
+
+-- times in range with one more that is
+pub all-append : (ts : List ℕ) (t : ℕ) → allInRange ts ≡ true → timeInRange t ≡ true → allInRange (ts ++ t ∷ []) ≡ true
+unfolding allInRange
+all-append [] t e d = both d refl
+all-append (u ∷ ts) t e d = both (head-in-range u ts e) (all-append ts t (tail-in-range u ts e) d)
 
 pub sum-at-least : (ts : List ℕ) → allInRange ts ≡ true → length ts * minTicks ≤ sumOf ts
 unfolding sumOf

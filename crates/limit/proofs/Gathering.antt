@@ -12,8 +12,8 @@ use Rattle.limit.specs.declared.sums.Sums.{Sums}
 use Rattle.limit.specs.declared.sums.Gathered.the-variants.{Within, Outside}
 use Rattle.limit.specs.Times.{minCount, maxCount, inRange, timeInRange, allInRange, timesInRange, sumOf, squaresOf}
 use Rattle.limit.specs.Sums.{sumsOf, noTimes, addTime, gatheredMeaning, gatherOf}
-use Rattle.limit.proofs.InRange.{both, second-fails, at-most}
-use Rattle.limit.proofs.Bounds.{time-at-most, head-in-range, tail-in-range}
+use Rattle.limit.proofs.InRange.{second-fails, at-most}
+use Rattle.limit.proofs.Bounds.{time-at-most, all-append}
 use Rattle.limit.proofs.Adding.{add-one-time}
 
 pub record Gathering (times : List ℕ) (i : ℕ) (s : Sums) : Type 0 where
@@ -21,11 +21,6 @@ pub record Gathering (times : List ℕ) (i : ℕ) (s : Sums) : Type 0 where
   pub reached : i ≤ length times
   pub each : allInRange (take i times) ≡ true
   pub sums : s ≡ sumsOf (take i times)
-
-all-append : (ts : List ℕ) (t : ℕ) → allInRange ts ≡ true → timeInRange t ≡ true → allInRange (ts ++ t ∷ []) ≡ true
-unfolding allInRange
-all-append [] t e d = both d refl
-all-append (u ∷ ts) t e d = both (head-in-range u ts e) (all-append ts t (tail-in-range u ts e) d)
 
 one-outside : (ts : List ℕ) (i : ℕ) → i < length ts → timeInRange (getD ts i 0) ≡ false → allInRange ts ≡ false
 unfolding allInRange

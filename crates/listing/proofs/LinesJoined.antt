@@ -10,7 +10,8 @@ use Rattle.journal_spec.specs.Record.{Record, lastOf, recordBytes, recordsBytes
 use Rattle.journal_spec.specs.Profile.{Rule}
 use Rattle.journal_spec.specs.Scan.{ScanResult, whole, torn, damaged, scanOf}
 use Rattle.journal_spec.specs.Ranges.{AllRanges}
-use Rattle.listing.specs.Listing.{newline, spaced, lineOf, recordLine, stateLine, listingOf}
+use Rattle.journal_spec.specs.Log.{newline}
+use Rattle.listing.specs.Listing.{spaced, lineOf, recordLine, stateLine, listingOf}
 use Rattle.listing.specs.Lines.{Position, listedOf, startOf, endOf, noLine, stepBy, step, onward, linesFrom}
 use Rattle.listing.proofs.Starting.{leaving, step-next, starting}
 

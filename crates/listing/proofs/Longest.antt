@@ -14,7 +14,8 @@ use Rattle.journal_spec.specs.Record.{Record, Last}
 use Rattle.journal_spec.specs.Read.{letterOf, markOf}
 use Rattle.journal_spec.specs.Ranges.{Each, RecordRanges}
 use Rattle.journal_spec.specs.Scan.{ScanResult, whole, torn, damaged}
-use Rattle.listing.specs.Listing.{space, lineOf, meanBits, spreadBits, quotedLimit, quotedLimits, wordWhole, wordTorn, wordDamaged, recordLine, stateLine}
+use Rattle.journal_spec.specs.Log.{space}
+use Rattle.listing.specs.Listing.{lineOf, meanBits, spreadBits, quotedLimit, quotedLimits, wordWhole, wordTorn, wordDamaged, recordLine, stateLine}
 use Rattle.listing.specs.Spaced.{eachSpaced}
 use Rattle.listing.specs.Lines.{maxLine}
 use Rattle.listing.proofs.Texts.{momentsPart, record-line, words-line}

@@ -14,7 +14,8 @@ use Rattle.journal_spec.specs.Bytes.{valueOf, numberAt, numbersIn}
 use Rattle.journal_spec.specs.Record.{Record}
 use Rattle.journal_spec.specs.Read.{letterOf, markOf, timesIn}
 use Rattle.journal_spec.proofs.Reading.{drop-take}
-use Rattle.listing.specs.Listing.{space, newline, spaced, lineOf, meanBits, spreadBits, quotedLimits, recordLine}
+use Rattle.journal_spec.specs.Log.{space, newline}
+use Rattle.listing.specs.Listing.{spaced, lineOf, meanBits, spreadBits, quotedLimits, recordLine}
 use Rattle.listing.specs.Spaced.{eachSpaced}
 
 -- numbers of one byte are the bytes themselves

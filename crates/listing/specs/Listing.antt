@@ -10,15 +10,9 @@ use Rattle.hex.specs.Hex.{hexDigits, decimalDigits}
 use Rattle.journal_spec.specs.Bytes.{joined}
 use Rattle.journal_spec.specs.Record.{Record}
 use Rattle.journal_spec.specs.Profile.{Rule}
+use Rattle.journal_spec.specs.Log.{space, newline}
 use Rattle.journal_spec.specs.Scan.{recordsOf, Contents, standing, faulty, contentsOf, ScanResult, whole, torn, damaged, statusOf}
 use Rattle.journal_spec.specs.Read.{letterOf, markOf}
-
--- A space, and the byte that ends a line.
-abbrev pub space : ℕ
-space = 0x20
-
-abbrev pub newline : ℕ
-newline = 0x0a
 
 -- Words by single spaces.
 unfoldable pub spaced : List (List ℕ) → List ℕ

@@ -2,7 +2,7 @@
 -- Law `spaced-rest` says that they are the rest of words by single spaces.
 use Prim.Native.Nat.{ℕ}
 use mathlib.Core.List.{List, [], _∷_, _++_}
-use Rattle.listing.specs.Listing.{space}
+use Rattle.journal_spec.specs.Log.{space}
 
 -- a space before each word
 unfoldable pub eachSpaced : List (List ℕ) → List ℕ

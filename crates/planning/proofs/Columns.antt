@@ -8,7 +8,7 @@ use lib.ListN.{length, take, replicate, length-take}
 use lib.Seq.{paste, length-paste, take-paste, take-length}
 use Rattle.hex.specs.Text.{roomFor, Put}
 use Rattle.hex.proofs.Putting.{put-nothing, put-put}
-use Rattle.listing.specs.Listing.{space}
+use Rattle.journal_spec.specs.Log.{space}
 use Rattle.planning.specs.Slot.{gap, fill, column}
 
 -- a text that has room at the front of a line stands there

@@ -14,7 +14,8 @@ use Rattle.ticks.specs.Text.{ticksText}
 use Rattle.journal_spec.specs.Reader.{Found, found, fault, short}
 use Rattle.journal_spec.specs.Record.{Record}
 use Rattle.journal_spec.specs.Read.{letterOf, markOf}
-use Rattle.listing.specs.Listing.{space, newline, meanBits, spreadBits}
+use Rattle.journal_spec.specs.Log.{space, newline}
+use Rattle.listing.specs.Listing.{meanBits, spreadBits}
 
 -- what stands before a column: a tab, or a space
 unfoldable pub gap : Bool → ℕ

@@ -5,7 +5,7 @@ ghost use mathlib.Core.List.{[], _∷_};
 ghost use Prim.Native.Nat.{_-_};
 ghost use lib.ListN.{replicate};
 ghost use Rattle.hex.specs.Text.{Put};
-ghost use Rattle.listing.specs.Listing.{space};
+ghost use Rattle.journal_spec.specs.Log.{space};
 ghost use Rattle.planning.specs.Slot.{gap, fill, column};
 use hex::put;
 

@@ -4,7 +4,7 @@ use mathlib.Core.Path.{ap}
 use Prim.Native.Nat.{ℕ}
 use mathlib.Core.List.{List, _∷_}
 use borrow.Author.Needs.{needs}
-use Rattle.listing.specs.Listing.{space}
+use Rattle.journal_spec.specs.Log.{space}
 use Rattle.listing.proofs.Putting.{put-put, put-as}
 use Rattle.listing.proofs.text.put_bits.Statement.{statement}
 use Rattle.listing.proofs.text.put_bits.Tie as tie

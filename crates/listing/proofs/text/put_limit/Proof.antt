@@ -5,7 +5,8 @@ use Prim.Native.Nat.{ℕ}
 use mathlib.Core.List.{List, [], _∷_, _++_, append-assoc}
 use borrow.Author.Needs.{needs}
 use Rattle.hex.specs.Hex.{decimalDigits}
-use Rattle.listing.specs.Listing.{space, quotedLimit}
+use Rattle.journal_spec.specs.Log.{space}
+use Rattle.listing.specs.Listing.{quotedLimit}
 use Rattle.listing.proofs.Putting.{put-put, put-as}
 use Rattle.listing.proofs.text.put_limit.Statement.{statement}
 use Rattle.listing.proofs.text.put_limit.Tie as tie
