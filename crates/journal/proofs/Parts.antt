@@ -61,8 +61,8 @@ refused-found short x h = let z : _≡_ {A = ℕ} 0 1 = cc in absurd (omega arit
 
 -- ---- what follows a section
 
-module _ {B : Type 0} (k : List ℕ → Reader B) (s : Section) (r : SectionRule) (same : ruled r ≡ s) (at : ℕ) (b : List ℕ)
-    (x : SectionRead) (read : x ≡ sectionAt r at b) where
+module _ {B : Type 0} (k : List ℕ → Reader B) (s : Section) (w : ℕ) (r : SectionRule) (same : ruled w r ≡ s) (at : ℕ) (b : List ℕ)
+    (x : SectionRead) (read : x ≡ sectionAt w r at b) where
   ran : x ≡ sectionRead (run (section s) at (drop at b))
   unfolding sectionAt
   ran = read ∙ ap (λ (t : Section). sectionRead (run (section t) at (drop at b))) same

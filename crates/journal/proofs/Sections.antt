@@ -25,25 +25,25 @@ use Rattle.journal.proofs.Fields.{afterField, by-field}
 
 -- ---- by the count
 
-module _ (r : SectionRule) (at : ℕ) (b : List ℕ) (f : FieldRead) (read : f ≡ fieldAt 2 (r .least) (r .most) (r .refusal) at b) where
+module _ (w : ℕ) (r : SectionRule) (at : ℕ) (b : List ℕ) (f : FieldRead) (read : f ≡ fieldAt 2 (r .least) (r .most) (r .refusal) at b) where
   -- what the section's reader finds, by the answer of its count
-  by-count : run (section (ruled r)) at (drop at b)
-      ≡ afterField (λ n. items (r .width) (itemRefusal (r .rising) (r .low) (r .high) (r .refusal)) n []) 2 at b f
+  by-count : run (section (ruled w r)) at (drop at b)
+      ≡ afterField (λ n. items w (itemRefusal (r .rising) (r .low) (r .high) (r .refusal)) n []) 2 at b f
   unfolding section ruled
   by-count =
       by-field 2 (outside (r .least) (r .most) (r .refusal))
-      (λ n. items (r .width) (itemRefusal (r .rising) (r .low) (r .high) (r .refusal)) n []) at b
+      (λ n. items w (itemRefusal (r .rising) (r .low) (r .high) (r .refusal)) n []) at b
       ∙ rw (← read) refl
 
-  pub section-numbers : (n : ℕ) → f ≡ F.Value n → numbersAt r n (at + 2) b ≡ sectionAt r at b
+  pub section-numbers : (n : ℕ) → f ≡ F.Value n → numbersAt w r n (at + 2) b ≡ sectionAt w r at b
   unfolding numbersAt sectionAt afterField
   section-numbers n told = rw by-count (rw told refl)
 
-  pub section-short : f ≡ F.Short → S.Short ≡ sectionAt r at b
+  pub section-short : f ≡ F.Short → S.Short ≡ sectionAt w r at b
   unfolding sectionAt sectionRead afterField
   section-short told = rw by-count (rw told refl)
 
-  pub section-refused : (x : Fault) → f ≡ F.Refused x → S.Refused x ≡ sectionAt r at b
+  pub section-refused : (x : Fault) → f ≡ F.Refused x → S.Refused x ≡ sectionAt w r at b
   unfolding sectionAt sectionRead afterField
   section-refused x told = rw by-count (rw told refl)
 
@@ -65,14 +65,14 @@ least-rising (x ∷ y ∷ xs) = after x y xs
     after x y (z ∷ xs) = after y z xs
 
 -- the name's section
-pub name-ruled : ruled nameRule ≡ nameSection
+pub name-ruled : ruled 1 nameRule ≡ nameSection
 unfolding ruled nameRule nameSection itemRefusal
 name-ruled =
     let build : (List ℕ → ℕ → ℕ) → Section = λ item. record { width = 1; count = outside minName maxName nameRefusal; item = item } in
     ap build (fun-ext (λ before. ap (λ (low : ℕ). outside low maxByte nameRefusal) (least-same minByte before)))
 
 -- the chances' section
-pub chance-ruled : ruled chanceRule ≡ chanceSection
+pub chance-ruled : ruled 4 chanceRule ≡ chanceSection
 unfolding ruled chanceRule chanceSection itemRefusal
 chance-ruled =
     let build : (List ℕ → ℕ → ℕ) → Section = λ item. record { width = 4; count = outside minChances maxChances chanceRefusal; item = item } in
@@ -81,7 +81,7 @@ chance-ruled =
     ap (λ (low : ℕ). outside low maxChance chanceRefusal) (least-rising before) ∙ fun-ext (λ c. sym (chance-agrees before c))))
 
 -- the times' section
-pub time-ruled : ruled timeRule ≡ timeSection
+pub time-ruled : ruled 4 timeRule ≡ timeSection
 unfolding ruled timeRule timeSection itemRefusal
 time-ruled =
     let build : (List ℕ → ℕ → ℕ) → Section = λ item. record { width = 4; count = outside minCount maxCount timesRefusal; item = item } in

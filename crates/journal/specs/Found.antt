@@ -41,13 +41,13 @@ sectionRead (found xs at rest) = S.Read at (sumsOf xs)
 sectionRead (fault n p) = S.Refused (record { number = n; place = p })
 sectionRead short = S.Short
 
--- the n numbers of a rule's section at a place
-unfoldable pub numbersAt : SectionRule → ℕ → ℕ → List ℕ → SectionRead
-numbersAt r n at b = sectionRead (run (items (r .width) (itemRefusal (r .rising) (r .low) (r .high) (r .refusal)) n []) at (drop at b))
+-- the n numbers of w bytes of a rule's section at a place
+unfoldable pub numbersAt : ℕ → SectionRule → ℕ → ℕ → List ℕ → SectionRead
+numbersAt w r n at b = sectionRead (run (items w (itemRefusal (r .rising) (r .low) (r .high) (r .refusal)) n []) at (drop at b))
 
--- the section of a rule at a place
-unfoldable pub sectionAt : SectionRule → ℕ → List ℕ → SectionRead
-sectionAt r at b = sectionRead (run (section (ruled r)) at (drop at b))
+-- the section of a rule at a place, with numbers of w bytes
+unfoldable pub sectionAt : ℕ → SectionRule → ℕ → List ℕ → SectionRead
+sectionAt w r at b = sectionRead (run (section (ruled w r)) at (drop at b))
 
 -- ---- limits
 

@@ -24,17 +24,16 @@ leastAfter rising low (x ∷ xs) = leastAfter rising (leastNext rising low x) xs
 unfoldable pub itemRefusal : Bool → ℕ → ℕ → ℕ → List ℕ → ℕ → ℕ
 itemRefusal rising low high n before = outside (leastAfter rising low before) high n
 
--- the section that a rule stands for
-unfoldable pub ruled : SectionRule → Section
-ruled r = record {
-  width = r .width;
+-- the section that a rule stands for, with numbers of w bytes
+unfoldable pub ruled : ℕ → SectionRule → Section
+ruled w r = record {
+  width = w;
   count = outside (r .least) (r .most) (r .refusal);
   item = itemRefusal (r .rising) (r .low) (r .high) (r .refusal);
 }
 
 -- What every rule here keeps: its numbers are in the range of times and no more than there are times, so that their sums are exact.
 pub record RuleFits (r : SectionRule) : Type 0 where
-  pub narrow : r .width ≤ 4
   pub refuses : 0 < r .refusal
   pub few : r .most ≤ maxCount
   pub least : minTicks ≤ r .low
@@ -45,7 +44,6 @@ pub record RuleFits (r : SectionRule) : Type 0 where
 -- the name: 1 to 32 bytes, each 21 to 7e
 unfoldable pub nameRule : SectionRule
 nameRule = record {
-  width = 1;
   least = minName;
   most = maxName;
   low = minByte;
@@ -57,7 +55,6 @@ nameRule = record {
 -- the chances: 1 to 8, in range, rising strictly
 unfoldable pub chanceRule : SectionRule
 chanceRule = record {
-  width = 4;
   least = minChances;
   most = maxChances;
   low = minChance;
@@ -69,7 +66,6 @@ chanceRule = record {
 -- the times: 2 to 128, in range
 unfoldable pub timeRule : SectionRule
 timeRule = record {
-  width = 4;
   least = minCount;
   most = maxCount;
   low = minTicks;

@@ -48,7 +48,6 @@ pub(crate) const DAY_REFUSAL: u32 = 3;
 
 // The name: 1 to 32 bytes, each 21 to 7e.
 pub(crate) const NAME: SectionRule = SectionRule {
-    width: 1,
     least: 1,
     most: 32,
     low: 0x21,
@@ -59,7 +58,6 @@ pub(crate) const NAME: SectionRule = SectionRule {
 
 // The chances: 1 to 8, in range, rising strictly.
 pub(crate) const CHANCES: SectionRule = SectionRule {
-    width: 4,
     least: 1,
     most: 8,
     low: MIN_CHANCE,
@@ -70,7 +68,6 @@ pub(crate) const CHANCES: SectionRule = SectionRule {
 
 // The times: 2 to 128, in range.
 const TIMES: SectionRule = SectionRule {
-    width: 4,
     least: MIN_COUNT,
     most: MAX_COUNT,
     low: MIN_TICKS,
@@ -194,7 +191,7 @@ fn name_part(
     ensures { λ r. ⌜ r ≡ recordRead (run (nameStage (head .form) (head .day)) at (drop at (now (b .entry)))) ⌝ }
     ensures { λ _. ⌜ Remembered (now (kept .exit)) (now (quantiles .exit)) ⌝ }
 {
-    let x = section_at(b, at, NAME);
+    let x = section_at(b, at, 1, NAME);
     match x {
         SectionRead::Read { next, sums: _ } => chances_part(b, next, head, kept, quantiles),
         SectionRead::Short => RecordRead::Short,
@@ -214,7 +211,7 @@ fn chances_part(
     ensures { λ r. ⌜ ((name : List ℕ) → r ≡ recordRead (run (chanceStage (head .form) (head .day) name) at (drop at (now (b .entry))))) ⌝ }
     ensures { λ _. ⌜ Remembered (now (kept .exit)) (now (quantiles .exit)) ⌝ }
 {
-    let x = section_at(b, at, CHANCES);
+    let x = section_at(b, at, 4, CHANCES);
     match x {
         SectionRead::Read { next, sums } => times_part(
             b,
@@ -245,7 +242,7 @@ fn times_part(
         → r ≡ recordRead (run (timeStage (head .form) (head .day) name list) at (drop at (now (b .entry))))) ⌝ }
     ensures { λ _. ⌜ Remembered (now (kept .exit)) (now (quantiles .exit)) ⌝ }
 {
-    let x = section_at(b, at, TIMES);
+    let x = section_at(b, at, 4, TIMES);
     match x {
         SectionRead::Read { next, sums } => limits_part(
             b,

@@ -11,10 +11,8 @@ use crate::field::FieldRead;
 use crate::field::field_at;
 use limit::sums::Sums;
 
-// The bytes of a number; how many numbers there are, least and most; the range of a number; whether each is above the one before it;
-// and the number of the refusal.
+// How many numbers there are, least and most; the range of a number; whether each is above the one before it; and the number of the refusal.
 pub(crate) struct SectionRule {
-    pub width: usize,
     pub least: u64,
     pub most: u64,
     pub low: u64,
@@ -30,30 +28,32 @@ pub(crate) enum SectionRead {
     Refused(Fault),
 }
 
-// The section at a place.
-pub(crate) fn section_at(b: &[u8], at: usize, rule: SectionRule) -> SectionRead
-    requires { ⌜ (at ≤ length (now b)) × RuleFits rule ⌝ }
-    ensures { λ r. ⌜ r ≡ sectionAt rule at (now (b .entry)) ⌝ }
+// The section at a place, with numbers of so many bytes. The width stands apart from the rule, which goes by memory: so the compiler knows it
+// at each call and reads the numbers without a loop over their bytes.
+pub(crate) fn section_at(b: &[u8], at: usize, width: usize, rule: SectionRule) -> SectionRead
+    requires { ⌜ (at ≤ length (now b)) × (width ≤ 4) × RuleFits rule ⌝ }
+    ensures { λ r. ⌜ r ≡ sectionAt width rule at (now (b .entry)) ⌝ }
 {
     let count = field_at(b, at, 2, rule.least, rule.most, rule.refusal);
     match count {
-        FieldRead::Value(n) => numbers_at(b, at + 2, n, rule),
+        FieldRead::Value(n) => numbers_at(b, at + 2, n, width, rule),
         FieldRead::Short => SectionRead::Short,
         FieldRead::Refused(f) => SectionRead::Refused(f),
     }
 }
 
-// The n numbers at a place. Their sums are kept while they are read, so that the limits need no second pass over the times.
-fn numbers_at(b: &[u8], at: usize, n: u64, rule: SectionRule) -> SectionRead
-    requires { ⌜ (at ≤ length (now b)) × (n ≤ maxCount) × RuleFits rule ⌝ }
-    ensures { λ r. ⌜ r ≡ numbersAt rule n at (now (b .entry)) ⌝ }
+// The n numbers at a place. Their sums are kept while they are read, so that the limits need no second pass over the times; no step asks
+// whether they still fit, since no rule lets more or greater numbers through than a record's times.
+fn numbers_at(b: &[u8], at: usize, n: u64, width: usize, rule: SectionRule) -> SectionRead
+    requires { ⌜ (at ≤ length (now b)) × (n ≤ maxCount) × (width ≤ 4) × RuleFits rule ⌝ }
+    ensures { λ r. ⌜ r ≡ numbersAt width rule n at (now (b .entry)) ⌝ }
 {
-    let width = rule.width;
     let high = rule.high;
     let rising = rule.rising;
     let refusal = rule.refusal;
     let mut low = rule.low;
-    let mut sums = Sums::new();
+    let mut sum: u64 = 0;
+    let mut squares: u64 = 0;
     let mut p = at;
     let mut left = n;
     while 0 < left {
@@ -61,7 +61,8 @@ fn numbers_at(b: &[u8], at: usize, n: u64, rule: SectionRule) -> SectionRead
         match x {
             FieldRead::Value(v) => {
                 low = least_next(rising, low, v);
-                sums = sums.add(v as u32);
+                sum += v;
+                squares += v * v;
                 p += width;
                 left -= 1;
             }
@@ -69,7 +70,14 @@ fn numbers_at(b: &[u8], at: usize, n: u64, rule: SectionRule) -> SectionRead
             FieldRead::Refused(f) => return SectionRead::Refused(f),
         }
     }
-    SectionRead::Read { next: p, sums }
+    SectionRead::Read {
+        next: p,
+        sums: Sums {
+            count: n,
+            sum,
+            squares,
+        },
+    }
 }
 
 // The least number that may follow x: where numbers rise it is the one above x.

@@ -29,10 +29,10 @@ module _ (ts : List ℕ) (t : ℕ) (each : allInRange ts ≡ true) (room : lengt
   count-fits : length ts + 1 < 2 ^ 64
   count-fits = omega arith
 
-  sum-fits : sumOf ts + t < 2 ^ 64
+  pub sum-fits : sumOf ts + t < 2 ^ 64
   sum-fits = omega (arith, sum-at-most ts each)
 
-  squares-fit : squaresOf ts + t * t < 2 ^ 64
+  pub squares-fit : squaresOf ts + t * t < 2 ^ 64
   squares-fit = omega (arith, squares-at-most ts each, sum-at-most ts each, mul-le-mul small small)
 
   pub add-one-time : addTime (sumsOf ts) t ≡ sumsOf (ts ++ t ∷ [])

@@ -24,7 +24,7 @@ times-part-requires c κs =
     let start = read .before .before in
     let a = start .args in
     let x = told .before .x .given in
-    let p = part-read (λ l. done l) chanceSection chanceRule chance-ruled (a .at) (now (a .b)) (read .section-at .result)
+    let p = part-read (λ l. done l) chanceSection 4 chanceRule chance-ruled (a .at) (now (a .b)) (read .section-at .result)
     (read .section-at .ensures) (x .0 .0) (x .0 .1 .0) (x .1) in
     let stand = chances-stand (now (a .b)) (p .xs) (a .at) (x .0 .0) (p .rest) (x .0 .1 .0) (p .known) (p .total) in
     let there = p .known .inside (start .pre .0) in
@@ -39,7 +39,7 @@ returns c =
           let a = read .before .before .args in
           let x = told .before .x .given in
           let k : List ℕ → Reader Record = λ list. timeStage (a .head .form) (a .head .day) name list in
-          let p = part-read k chanceSection chanceRule chance-ruled (a .at) (now (a .b)) (read .section-at .result)
+          let p = part-read k chanceSection 4 chanceRule chance-ruled (a .at) (now (a .b)) (read .section-at .result)
           (read .section-at .ensures) (x .0 .0) (x .0 .1 .0) (x .1) in
           let stand = chances-stand (now (a .b)) (p .xs) (a .at) (x .0 .0) (p .rest) (x .0 .1 .0) (p .known) (p .total) in
           c .times-part .ensures .0 name (p .xs) (stand .0) ∙ ap recordRead (p .goes)),
@@ -54,7 +54,7 @@ returns-2 c =
           let a = read .before .before .args in
           let k : List ℕ → Reader Record = λ list. timeStage (a .head .form) (a .head .day) name list in
           ap recordRead
-          (part-short k chanceSection chanceRule chance-ruled (a .at) (now (a .b)) (read .section-at .result) (read .section-at .ensures)
+          (part-short k chanceSection 4 chanceRule chance-ruled (a .at) (now (a .b)) (read .section-at .result) (read .section-at .ensures)
           (c .enum-told .given .1))),
       read .before .before .pre .1,
     )
@@ -67,7 +67,7 @@ returns-3 c =
           let a = read .before .before .args in
           let k : List ℕ → Reader Record = λ list. timeStage (a .head .form) (a .head .day) name list in
           ap recordRead
-          (part-refused k chanceSection chanceRule chance-ruled (a .at) (now (a .b)) (read .section-at .result) (read .section-at .ensures)
+          (part-refused k chanceSection 4 chanceRule chance-ruled (a .at) (now (a .b)) (read .section-at .result) (read .section-at .ensures)
           (c .before .x2 .given .0 .0) (c .before .x2 .given .1))),
       read .before .before .pre .1,
     )

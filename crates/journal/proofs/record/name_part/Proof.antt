@@ -23,7 +23,7 @@ chances-part-requires c κs =
     let start = read .before .before in
     let a = start .args in
     let x = told .before .x .given in (
-      part-read (λ l. done l) nameSection nameRule name-ruled (a .at) (now (a .b)) (read .section-at .result)
+      part-read (λ l. done l) nameSection 1 nameRule name-ruled (a .at) (now (a .b)) (read .section-at .result)
           (read .section-at .ensures) (x .0 .0) (x .0 .1 .0) (x .1) .known .inside (start .pre .0),
       start .pre .1,
     )
@@ -36,7 +36,7 @@ returns c =
     let a = read .before .before .args in
     let x = told .before .x .given in
     let k : List ℕ → Reader Record = λ name. chanceStage (a .head .form) (a .head .day) name in
-    let p = part-read k nameSection nameRule name-ruled (a .at) (now (a .b)) (read .section-at .result)
+    let p = part-read k nameSection 1 nameRule name-ruled (a .at) (now (a .b)) (read .section-at .result)
     (read .section-at .ensures) (x .0 .0) (x .0 .1 .0) (x .1) in (
       c .chances-part .ensures .0 (p .xs) ∙ ap recordRead (p .goes),
       c .chances-part .ensures .1,
@@ -49,7 +49,7 @@ returns-2 c =
     let a = read .before .before .args in
     let k : List ℕ → Reader Record = λ name. chanceStage (a .head .form) (a .head .day) name in (
       ap recordRead
-          (part-short k nameSection nameRule name-ruled (a .at) (now (a .b)) (read .section-at .result) (read .section-at .ensures)
+          (part-short k nameSection 1 nameRule name-ruled (a .at) (now (a .b)) (read .section-at .result) (read .section-at .ensures)
           (c .enum-told .given .1)),
       read .before .before .pre .1,
     )
@@ -61,7 +61,7 @@ returns-3 c =
     let a = read .before .before .args in
     let k : List ℕ → Reader Record = λ name. chanceStage (a .head .form) (a .head .day) name in (
       ap recordRead
-          (part-refused k nameSection nameRule name-ruled (a .at) (now (a .b)) (read .section-at .result) (read .section-at .ensures)
+          (part-refused k nameSection 1 nameRule name-ruled (a .at) (now (a .b)) (read .section-at .result) (read .section-at .ensures)
           (c .before .x2 .given .0 .0) (c .before .x2 .given .1)),
       read .before .before .pre .1,
     )

@@ -24,7 +24,7 @@ limits-part-requires c κs =
     let start = read .before .before in
     let a = start .args in
     let x = told .before .x .given in
-    let p = part-read (λ l. done l) timeSection timeRule time-ruled (a .at) (now (a .b)) (read .section-at .result) (read .section-at .ensures)
+    let p = part-read (λ l. done l) timeSection 4 timeRule time-ruled (a .at) (now (a .b)) (read .section-at .result) (read .section-at .ensures)
     (x .0 .0) (x .0 .1 .0) (x .1) in (
       p .known .inside (start .pre .0),
       start .pre .1,
@@ -41,7 +41,7 @@ returns c =
           let a = read .before .before .args in
           let x = told .before .x .given in
           let k : List ℕ → Reader Record = λ times. limitStage (a .head .form) (a .head .day) name list times in
-          let p = part-read k timeSection timeRule time-ruled (a .at) (now (a .b)) (read .section-at .result) (read .section-at .ensures)
+          let p = part-read k timeSection 4 timeRule time-ruled (a .at) (now (a .b)) (read .section-at .result) (read .section-at .ensures)
           (x .0 .0) (x .0 .1 .0) (x .1) in
           let good = times-in-range (now (a .b)) (p .xs) (a .at) (x .0 .0) (p .rest) (p .found′) in
           c .limits-part .ensures .0 name list (p .xs) stand good (p .total) ∙ ap recordRead (p .goes)),
@@ -56,7 +56,8 @@ returns-2 c =
           let a = read .before .before .args in
           let k : List ℕ → Reader Record = λ times. limitStage (a .head .form) (a .head .day) name list times in
           ap recordRead
-          (part-short k timeSection timeRule time-ruled (a .at) (now (a .b)) (read .section-at .result) (read .section-at .ensures) (c .enum-told .given .1))),
+          (part-short k timeSection 4 timeRule time-ruled (a .at) (now (a .b)) (read .section-at .result) (read .section-at .ensures)
+          (c .enum-told .given .1))),
       read .before .before .pre .2,
     )
 
@@ -68,7 +69,7 @@ returns-3 c =
           let a = read .before .before .args in
           let k : List ℕ → Reader Record = λ times. limitStage (a .head .form) (a .head .day) name list times in
           ap recordRead
-          (part-refused k timeSection timeRule time-ruled (a .at) (now (a .b)) (read .section-at .result) (read .section-at .ensures)
+          (part-refused k timeSection 4 timeRule time-ruled (a .at) (now (a .b)) (read .section-at .result) (read .section-at .ensures)
           (c .before .x2 .given .0 .0) (c .before .x2 .given .1))),
       read .before .before .pre .2,
     )

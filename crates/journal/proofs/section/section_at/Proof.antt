@@ -15,29 +15,29 @@ numbers-at-requires c κs =
     let a = start .args in
     let r = a .rule in
     let read = c .before .before .before .field-at in
-    let v = field-value 2 (r .least) (r .most) (r .refusal) (a .at) (now (a .b)) (start .pre .1 .refuses)
+    let v = field-value 2 (r .least) (r .most) (r .refusal) (a .at) (now (a .b)) (start .pre .2 .refuses)
     (read .result) (read .ensures) (c .before .count .given .0 .0) (c .before .count .given .1) in
-    (omega (arith, v .there, start .pre .0), omega (arith, v .most, start .pre .1 .few), start .pre .1)
+    (omega (arith, v .there, start .pre .0), omega (arith, v .most, start .pre .2 .few), start .pre .1, start .pre .2)
 
 returns : tie.Need-returns
 returns c =
     let read = c .before .before .before .before in
     let a = read .before .before .args in
     c .numbers-at .ensures
-    ∙ section-numbers (a .rule) (a .at) (now (a .b)) (read .field-at .result) (read .field-at .ensures)
+    ∙ section-numbers (a .width) (a .rule) (a .at) (now (a .b)) (read .field-at .result) (read .field-at .ensures)
     (c .before .before .count .given .0 .0) (c .before .before .count .given .1)
 
 returns-2 : tie.Need-returns-2
 returns-2 c =
     let read = c .before .before in
     let a = read .before .before .args in
-    section-short (a .rule) (a .at) (now (a .b)) (read .field-at .result) (read .field-at .ensures) (c .enum-told .given .1)
+    section-short (a .width) (a .rule) (a .at) (now (a .b)) (read .field-at .result) (read .field-at .ensures) (c .enum-told .given .1)
 
 returns-3 : tie.Need-returns-3
 returns-3 c =
     let read = c .before .before .before in
     let a = read .before .before .args in
-    section-refused (a .rule) (a .at) (now (a .b)) (read .field-at .result) (read .field-at .ensures)
+    section-refused (a .width) (a .rule) (a .at) (now (a .b)) (read .field-at .result) (read .field-at .ensures)
     (c .before .count2 .given .0 .0) (c .before .count2 .given .1)
 
 pub section-at-spec : {M : Type 1} → statement M
