@@ -10,6 +10,7 @@ use borrow.Author.Tests.{ne-eqb}
 use lib.Ieee.{Float, binary64, ofBits}
 use lib.Ieee.Bits.{ofBits-fits}
 use lib.Ieee.Positive.{num, den}
+use lib.Ieee.Scale.{finite}
 use Rattle.hex.specs.Hex.{glyphOf, digits, decimalDigits}
 use Rattle.hex.proofs.Writing.{length-digits, digits-front}
 use Rattle.ticks.specs.Ticks.{minusOf}
@@ -18,6 +19,7 @@ use Rattle.decimal.specs.Decimal.{placesBehind, fractionText, signedText
 use Rattle.decimal.specs.Meaning.{areDigits, numberFrom, endsInZero, pointed, IsExact}
 use Rattle.decimal.proofs.LowestTerms.{places-den, own-parts}
 use Rattle.decimal.proofs.Behind.{tens, whole-tens}
+use Rattle.decimal.proofs.Shown.{shown-in}
 use Rattle.decimal.proofs.Reading.{glyph-is, number-append, last-zero, digits-are, decimal-are, decimal-lean, number-digits, number-decimal}
 
 -- ---- the last digit
@@ -59,13 +61,14 @@ number-exact m k = mul-assoc m (5 ^ k) (2 ^ k) ∙ ap (λ (p : ℕ). m * p) (mul
 
 -- ---- the text
 
-module _ (x : Float) where
+module _ (x : Float) (there : finite x ≡ true) where
   whole-exact : placesBehind x ≡ 0 → IsExact x (signedText (minusOf x) (num x) 0)
   unfolding signedText fractionText pointed
   whole-exact z =
       let one : den x ≡ 1 = places-den x ∙ ap (λ (k : ℕ). 2 ^ k) z in
       let none = append-nil (decimalDigits (num x)) in
       record {
+        is-finite = there;
         whole = decimalDigits (num x);
         behind = [];
         parts = rw none;
@@ -84,6 +87,7 @@ module _ (x : Float) where
       let w : ℕ = m / 2 ^ suc k in
       let lower : den x ≡ 2 ^ suc k = places-den x ∙ ap (λ (j : ℕ). 2 ^ j) e in
       record {
+        is-finite = there;
         whole = decimalDigits w;
         behind = digits 10 (suc k) v;
         parts = rw (pointed-digits k v);
@@ -97,9 +101,9 @@ module _ (x : Float) where
 -- the text of a pattern that is shown
 pub exact-text : (b : ℕ) → isShown (ofBits binary64 b) ≡ true → IsExact (ofBits binary64 b) (exactText (ofBits binary64 b))
 unfolding exactText
-exact-text b h = rw h (go (placesBehind (ofBits binary64 b)) refl)
+exact-text b h = rw h (go (placesBehind (ofBits binary64 b)) refl (shown-in (ofBits binary64 b) h .0))
   where
-    go : (k : ℕ) → placesBehind (ofBits binary64 b) ≡ k
+    go : (k : ℕ) → placesBehind (ofBits binary64 b) ≡ k → finite (ofBits binary64 b) ≡ true
         → IsExact (ofBits binary64 b) (signedText (minusOf (ofBits binary64 b)) (num (ofBits binary64 b)) k)
-    go zero e = whole-exact (ofBits binary64 b) e
-    go (suc k) e = behind-exact (ofBits binary64 b) k e (own-parts (ofBits binary64 b) (ofBits-fits binary64 b) (omega arith) .0)
+    go zero e f = whole-exact (ofBits binary64 b) f e
+    go (suc k) e f = behind-exact (ofBits binary64 b) f k e (own-parts (ofBits binary64 b) (ofBits-fits binary64 b) (omega arith) .0)

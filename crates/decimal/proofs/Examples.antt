@@ -1,4 +1,4 @@
--- Closed cases, computed: zeros, halves, the double nearest to a tenth, README's limit, the ends of what is shown, and dashes. Assumes nothing.
+-- Closed cases, computed: zeros, halves, the double nearest to a tenth, the paper's worked limit, the ends of what is shown, and dashes. Assumes nothing.
 use mathlib.Core.Path.{_≡_, refl}
 use mathlib.Core.List.{[], _∷_, _++_}
 use lib.Count.{trailingZeros}
@@ -7,7 +7,7 @@ use Rattle.hex.specs.Hex.{digits, glyphOf, orMore, placesIn, placesOf, decimalD
 use Rattle.ticks.specs.Ticks.{inRange}
 use Rattle.decimal.specs.Decimal.{fractionText, signedText, isShown, exactText}
 
--- 0, -0, 0.5, -2.5 and 100; 0.1, whose double has 55 digits behind the point; 143.70.., README's limit at 1,000 in a million, with 44
+-- 0, -0, 0.5, -2.5 and 100; 0.1, whose double has 55 digits behind the point; 143.70.., the paper's worked limit, with 44
 record Shown : Type 0 where
   zero : exactText (ofBits binary64 0) ≡ 48 ∷ []
   minus-zero : exactText (ofBits binary64 0x8000_0000_0000_0000) ≡ 45 ∷ 48 ∷ []

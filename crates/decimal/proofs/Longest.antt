@@ -5,18 +5,14 @@ use mathlib.Core.List.{[], _∷_}
 use Prim.Native.Nat.{ℕ, zero, suc, _-_, _*_, _/_, _^_, _≤_, _<_}
 use native.Mathlib.Nat.{div-lt-iff-lt-mul}
 use native.Mathlib.Omega.{arith}
-use lib.Dec.{ltb}
 use lib.ListN.{length, length-append}
 use lib.Pow.{pow-pos}
 use lib.Ieee.{Float}
-use lib.Ieee.Positive.{num, den}
-use lib.Ieee.Scale.{finite}
-use borrow.Author.Tests.{ltb-true}
+use lib.Ieee.Positive.{num}
 use Rattle.hex.specs.Hex.{digits, decimalDigits}
-use Rattle.hex.proofs.Cases.{both-hold}
 use Rattle.hex.proofs.Counting.{decimal-most}
 use Rattle.hex.proofs.Writing.{length-digits}
-use Rattle.ticks.specs.Ticks.{minusOf, inRange}
+use Rattle.ticks.specs.Ticks.{minusOf}
 use Rattle.ticks.specs.Text.{minusSign, point}
 use Rattle.decimal.specs.Decimal.{placesBehind, fractionText, signedText, mostPlaces, isShown, exactText}
 use Rattle.decimal.proofs.LowestTerms.{places-den}
@@ -40,15 +36,11 @@ unfolding signedText
 signed-most true m k h = omega arith
 signed-most false m k h = omega arith
 
-in-below : (x : Float) → inRange x ≡ true → num x < 2 ^ 53 * den x
-unfolding inRange
-in-below x h = ltb-true (num x) (2 ^ 53 * den x) (both-hold (finite x) (ltb (num x) (2 ^ 53 * den x)) h .1)
-
 shown-most : (x : Float) → isShown x ≡ true → length (signedText (minusOf x) (num x) (placesBehind x)) ≤ maxText
 shown-most x h =
     let told = shown-in x h in
     signed-most (minusOf x) (num x) (placesBehind x)
-    (fraction-most (num x) (placesBehind x) (rw (places-den x) at (in-below x (told .0))) (told .1))
+    (fraction-most (num x) (placesBehind x) (rw (places-den x) at (told .1)) (told .2))
 
 pub exact-text-most : (x : Float) → length (exactText x) ≤ maxText
 unfolding exactText

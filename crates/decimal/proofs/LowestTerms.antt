@@ -12,24 +12,24 @@ use lib.Ieee.{Float, nan, inf, fin, binary64, fits, ofBits}
 use lib.Ieee.Bits.{ofBits-fits}
 use lib.Ieee.Fits.{and-l, and-r}
 use lib.Ieee.Positive.{num, den}
+use Rattle.hex.proofs.Cases.{split}
 use Rattle.ticks.proofs.Patterns.{IsFraction, pattern-low, pattern-mid}
 use Rattle.decimal.specs.Decimal.{placesBehind}
 use Rattle.decimal.specs.Lowest.{IsLowest, IsSize}
+use Rattle.decimal.proofs.Powers.{crossed, base-divides}
 
 -- a power of two taken out by one
-pub twice : (a j : ℕ) → a * 2 ^ suc j ≡ a * 2 ^ j * 2
+twice : (a j : ℕ) → a * 2 ^ suc j ≡ a * 2 ^ j * 2
 twice a j = ap (λ (p : ℕ). a * p) (pow-suc 2 j) ∙ sym (mul-assoc a (2 ^ j) 2)
 
 -- two equal fractions in lowest terms have the same parts
-pub lowest-unique : (a k n j : ℕ) → (0 < k → a % 2 ≡ 1) → (0 < j → n % 2 ≡ 1) → n * 2 ^ k ≡ a * 2 ^ j → (n ≡ a) × (j ≡ k)
-lowest-unique a zero n zero p q e = (omega arith, refl)
-lowest-unique a zero n (suc j) p q e = let t = twice a j in let o = q (omega arith) in absurd (omega arith)
-lowest-unique a (suc k) n zero p q e = let t = twice n k in let o = p (omega arith) in absurd (omega arith)
-lowest-unique a (suc k) n (suc j) p q e =
-    let s = twice n k in
-    let t = twice a j in
-    let both = lowest-unique a k n j (λ h. p (omega arith)) (λ h. q (omega arith)) (omega arith) in
-    (both .0, ap suc (both .1))
+lowest-unique : (a k n j : ℕ) → (0 < k → a % 2 ≡ 1) → (0 < j → n % 2 ≡ 1) → n * 2 ^ k ≡ a * 2 ^ j → (n ≡ a) × (j ≡ k)
+lowest-unique a k n j p q e =
+    let same : j ≡ k =
+    split j k
+    (λ h. split k j (λ g. omega arith) (λ g. absurd (omega (arith, p (omega arith), base-divides 2 n j a k (omega arith) e g))))
+    (λ h. absurd (omega (arith, q (omega arith), base-divides 2 a k n j (omega arith) (sym e) h))) in
+    (eq-of-mul-eq-mul-right (2 ^ k) (pow-pos k) n a (e ∙ ap (λ (i : ℕ). a * 2 ^ i) same), same)
 
 -- ---- a double's parts
 
@@ -59,16 +59,11 @@ own-parts (fin s (suc m) (negsuc e)) f h =
     (omega arith, omega arith)
 
 -- the fraction that a pattern gives, in lowest terms, has the double's parts
-crossed : (a k n j b p : ℕ) → b * 2 ^ k ≡ a * 2 ^ p → n * 2 ^ k ≡ a * 2 ^ j → b * 2 ^ j ≡ n * 2 ^ p
-crossed a k n j b p e f =
-    eq-of-mul-eq-mul-right (2 ^ k) (pow-pos k) (b * 2 ^ j) (n * 2 ^ p)
-    (mul-right-comm b (2 ^ j) (2 ^ k) ∙ ap (λ (x : ℕ). x * 2 ^ j) e ∙ mul-right-comm a (2 ^ p) (2 ^ j)
-    ∙ ap (λ (x : ℕ). x * 2 ^ p) (sym f) ∙ mul-right-comm n (2 ^ k) (2 ^ p))
-
-pub size-of : (x : Float) (s : Bool) (a k n j : ℕ) → T (fits binary64 x) → IsFraction x s a (2 ^ k) → IsLowest a k n j → IsSize x n j
+size-of : (x : Float) (s : Bool) (a k n j : ℕ) → T (fits binary64 x) → IsFraction x s a (2 ^ k) → IsLowest a k n j → IsSize x n j
 size-of x s a k n j f g l =
     let own = g .cross ∙ ap (λ (d : ℕ). a * d) (places-den x) in
-    let both = lowest-unique n j (num x) (placesBehind x) (l .odd) (λ h. own-parts x f h .0) (crossed a k n j (num x) (placesBehind x) own (l .same)) in
+    let same = crossed a (2 ^ k) (num x) (2 ^ placesBehind x) n (2 ^ j) (pow-pos k) own (l .same) in
+    let both = lowest-unique n j (num x) (placesBehind x) (l .odd) (λ h. own-parts x f h .0) same in
     record { upper = sym (both .0); lower = sym (both .1) }
 
 -- by the exponent's field of its pattern

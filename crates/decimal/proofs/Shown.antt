@@ -4,14 +4,15 @@ use mathlib.Core.Path.{_≡_, refl, sym, ap, _∙_}
 use mathlib.Core.Bool.{true, and-false}
 use Prim.Native.Nat.{ℕ, zero, suc, _+_, _-_, _*_, _/_, _%_, _^_, _≤_, _<_}
 use mathlib.Core.List.{[], _∷_, _++_, append-assoc}
-use native.Mathlib.Nat.{mul-assoc, eq-of-mul-eq-mul-right, pow-le-pow-right}
+use native.Mathlib.Nat.{mul-assoc, pow-le-pow-right}
 use native.Mathlib.Omega.{arith}
-use borrow.Author.Tests.{leb-true, le-leb, lt-leb}
-use lib.Dec.{leb}
-use lib.Pow.{pow-add, pow-pos}
+use borrow.Author.Tests.{ltb-true, leb-true, le-leb, lt-leb}
+use lib.Dec.{leb, ltb}
+use lib.Pow.{pow-add}
 use lib.Ieee.{Float, binary64, ofBits}
 use lib.Ieee.Bits.{ofBits-fits}
 use lib.Ieee.Positive.{num, den}
+use lib.Ieee.Scale.{finite}
 use Rattle.hex.specs.Hex.{digits, decimalDigits}
 use Rattle.hex.proofs.Cases.{split, both-hold}
 use Rattle.ticks.specs.Ticks.{inRange}
@@ -20,7 +21,8 @@ use Rattle.ticks.proofs.Range.{pattern-in, pattern-out}
 use Rattle.ticks.proofs.Halving.{pattern-sign}
 use Rattle.decimal.specs.Decimal.{placesBehind, fractionText, signedText, mostPlaces, isShown, exactText}
 use Rattle.decimal.specs.Lowest.{IsSize}
-use Rattle.decimal.proofs.LowestTerms.{twice, places-den, own-parts}
+use Rattle.decimal.proofs.Powers.{base-divides}
+use Rattle.decimal.proofs.LowestTerms.{places-den, own-parts}
 use Rattle.decimal.proofs.Behind.{digits-rest}
 
 -- ---- the text of a pattern
@@ -50,22 +52,14 @@ few-units n k h =
 
 units-few : (n k a : ℕ) → (0 < k → n % 2 ≡ 1) → n * 2 ^ 60 ≡ a * 2 ^ k → k ≤ mostPlaces
 units-few n k a odd e =
-    split k mostPlaces (λ h. h)
-    (λ h.
-    let d : ℕ = k - 61 in
-    let sum : suc d + 60 ≡ k = omega arith in
-    let power : 2 ^ k ≡ 2 ^ suc d * 2 ^ 60 = ap (λ (j : ℕ). 2 ^ j) (sym sum) ∙ pow-add 2 (suc d) 60 in
-    let even : n ≡ a * 2 ^ suc d =
-    eq-of-mul-eq-mul-right (2 ^ 60) (pow-pos 60) n (a * 2 ^ suc d) (e ∙ ap (λ (p : ℕ). a * p) power ∙ sym (mul-assoc a (2 ^ suc d) (2 ^ 60))) in
-    let t = twice a d in
-    let o = odd (omega arith) in
-    absurd (omega arith))
+    split k mostPlaces (λ h. h) (λ h. absurd (omega (arith, odd (omega arith), base-divides 2 a 60 n k (omega arith) (sym e) h)))
 
-pub shown-in : (x : Float) → isShown x ≡ true → (inRange x ≡ true) × (placesBehind x ≤ mostPlaces)
-unfolding isShown
+pub shown-in : (x : Float) → isShown x ≡ true → (finite x ≡ true) × (num x < 2 ^ 53 * den x) × (placesBehind x ≤ mostPlaces)
+unfolding isShown inRange
 shown-in x h =
     let both = both-hold (inRange x) (leb (placesBehind x) mostPlaces) h in
-    (both .0, leb-true (placesBehind x) mostPlaces (both .1))
+    let in-range = both-hold (finite x) (ltb (num x) (2 ^ 53 * den x)) (both .0) in
+    (in-range .0, ltb-true (num x) (2 ^ 53 * den x) (in-range .1), leb-true (placesBehind x) mostPlaces (both .1))
 
 in-shown : (x : Float) → inRange x ≡ true → placesBehind x ≤ mostPlaces → isShown x ≡ true
 unfolding isShown
@@ -73,7 +67,7 @@ in-shown x h l = rw (h, le-leb (placesBehind x) mostPlaces l)
 
 pub shown-units : (x : Float) → isShown x ≡ true → num x * 2 ^ 60 ≡ num x * 2 ^ (60 - placesBehind x) * den x
 shown-units x h =
-    few-units (num x) (placesBehind x) (shown-in x h .1) ∙ ap (λ (d : ℕ). num x * 2 ^ (60 - placesBehind x) * d) (sym (places-den x))
+    few-units (num x) (placesBehind x) (shown-in x h .2) ∙ ap (λ (d : ℕ). num x * 2 ^ (60 - placesBehind x) * d) (sym (places-den x))
 
 module _ (b : ℕ) where
   pub units-shown : (a : ℕ) → inRange (ofBits binary64 b) ≡ true → num (ofBits binary64 b) * 2 ^ 60 ≡ a * den (ofBits binary64 b)

@@ -7,6 +7,7 @@ use lib.Dec.{leb, ltb, eqb}
 use lib.ListN.{length}
 use lib.Ieee.{Float}
 use lib.Ieee.Positive.{num, den}
+use lib.Ieee.Scale.{finite}
 use Rattle.ticks.specs.Ticks.{minusOf}
 use Rattle.ticks.specs.Text.{minusSign, point}
 
@@ -37,9 +38,10 @@ unfoldable pub pointed : List ℕ → List ℕ
 pointed [] = []
 pointed (c ∷ cs) = point ∷ c ∷ cs
 
--- the text is x, no more and no less, and in the one way: a sign where x has one, digits with no 0 in front, and behind a point digits of which the last
--- is not 0; the number that all of them make is x times 10 for each of those behind the point
+-- x is finite, and the text is x, no more and no less, in the one way: a sign where x has one, digits with no 0 in front of others, and behind a point
+-- digits of which the last is not 0; the number that all the digits make is x times 10 for each of those behind the point
 pub record IsExact (x : Float) (text : List ℕ) : Type 0 where
+  pub is-finite : finite x ≡ true
   pub whole : List ℕ
   pub behind : List ℕ
   pub parts : text ≡ cond (minusOf x) (minusSign ∷ []) [] ++ (whole ++ pointed behind)

@@ -5,7 +5,7 @@ ghost use mathlib.Core.Path.{_≡_};
 ghost use lib.Ieee.{binary64, ofBits};
 ghost use Rattle.hex.specs.Hex.{digits};
 ghost use Rattle.hex.specs.Text.{Put};
-ghost use Rattle.decimal.specs.Decimal.{fractionText, signedText, exactText};
+ghost use Rattle.decimal.specs.Decimal.{mostPlaces, fractionText, signedText, exactText};
 use crate::fraction::fraction_of;
 use hex::put;
 use hex::put_decimal;
@@ -35,7 +35,7 @@ pub fn put_exact(line: &mut [u8], place: usize, b: u64) -> usize
 
 // m / 2^k behind a sign, where it has one.
 fn put_signed(line: &mut [u8], place: usize, below: bool, m: u64, k: u64) -> usize
-    requires { ⌜ k ≤ 60 ⌝ }
+    requires { ⌜ k ≤ mostPlaces ⌝ }
     ensures { λ r. ⌜ Put (now (line .entry)) place (signedText below m k) (now (line .exit)) r ⌝ }
 {
     if below {
@@ -47,7 +47,7 @@ fn put_signed(line: &mut [u8], place: usize, below: bool, m: u64, k: u64) -> usi
 
 // m / 2^k: the whole number, and behind a point what is left, if something is.
 fn put_fraction(line: &mut [u8], place: usize, m: u64, k: u64) -> usize
-    requires { ⌜ k ≤ 60 ⌝ }
+    requires { ⌜ k ≤ mostPlaces ⌝ }
     ensures { λ r. ⌜ Put (now (line .entry)) place (fractionText m k) (now (line .exit)) r ⌝ }
 {
     let unit = 1u64 << k;
