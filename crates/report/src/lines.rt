@@ -1,7 +1,7 @@
 // The record's lines, each made in a buffer of its own and printed: every field in words, or the times alone.
 // The texts of dates, ticks and numbers are those of crates calendar, ticks and hex.
-use crate::exact::put_exact;
 use calendar::put_date;
+use decimal::put_exact;
 use hex::put;
 use hex::put_decimal;
 use journal::marks::Mark;
