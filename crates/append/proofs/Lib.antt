@@ -3,4 +3,3 @@
 pub mod Committed
 pub mod WrittenPart
 pub mod FileAfter
-pub mod Lines

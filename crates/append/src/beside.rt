@@ -23,7 +23,7 @@ pub(crate) fn open_index(path: &[u8], index: &mut [u8]) -> i32 {
     let fd = os::open_update(path);
     if fd < 0 {
         if os::errno() == libc::ENOENT {
-            clear_count(index);
+            entries::put_count(index, 0);
             return -1;
         }
         fail_file(path);
@@ -39,13 +39,6 @@ pub(crate) fn open_index(path: &[u8], index: &mut [u8]) -> i32 {
         return -2;
     }
     fd
-}
-
-// No entries.
-fn clear_count(index: &mut [u8]) {
-    if 2 <= index.len() {
-        entries::put_count(index, 0);
-    }
 }
 
 // The descriptor of the index's file, which is made where it is missing: with the index of an empty volume, as it was read, so that it is the

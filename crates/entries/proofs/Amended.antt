@@ -1,7 +1,7 @@
 -- An index amended in its buffer. The entries stand in front of a name's place and behind it; where the name has no entry the later ones are moved up,
 -- the entry is written at the place and the count at the front: that is the index amended, every byte beyond it as it was. Assumes nothing.
 use mathlib.Core.Path.{_≡_, refl, sym, ap, ap₂, subst, _∙_}
-use Prim.Native.Nat.{ℕ, suc, _+_, _-_, _*_, _≤_, _<_}
+use Prim.Native.Nat.{ℕ, suc, _+_, _-_, _≤_, _<_}
 use mathlib.Core.List.{List, [], _∷_, _++_, append-assoc, map}
 use mathlib.Core.Bool.{true, false}
 use native.Mathlib.Omega.{arith}
@@ -10,13 +10,15 @@ use lib.ListN.{length, take, drop, length-append, length-drop, take-append-drop}
 use lib.Seq.{take-at, drop-at, drop-drop, take-append-le, take-take, length-take-le}
 use lib.Dec.{leb}
 use borrow.Author.Tests.{le-leb, lt-leb, leb-true, leb-false}
+use Rattle.hex.specs.Text.{Put}
+use Rattle.hex.proofs.Putting.{put-whole}
 use Rattle.journal_spec.specs.Bytes.{AreBytes, bytesOf, numberAt, joined}
 use Rattle.journal_spec.specs.Index.{IndexEntry, entryBytes, indexBytes, Order, lower, equal, higher, orderOf, amend}
 use Rattle.journal_spec.specs.Append.{written}
 use Rattle.journal_spec.proofs.Reading.{by-test}
 use Rattle.journal_spec.proofs.NameOrder.{order-equal}
 use Rattle.journal_spec.proofs.Numbers.{length-bytes}
-use Rattle.journal_spec.proofs.IndexLoop.{entriesSize, index-size}
+use Rattle.journal_spec.proofs.IndexLoop.{entriesSize, entry-size, entries-size, index-size, size-append, entries-least, entries-append}
 use Rattle.entries.specs.Entries.{entriesIn}
 use Rattle.entries.specs.Places.{endOf, foundBy, findIn}
 use Rattle.entries.specs.Amending.{nextBytes, amendedIn, Opened}
@@ -24,6 +26,7 @@ use Rattle.entries.specs.declared.finding.Found.{Found}
 use Rattle.entries.specs.declared.walking.End.{End}
 use Rattle.entries.proofs.Indexed.{Entries}
 use Rattle.entries.proofs.Parsed.{entries-here}
+use Rattle.entries.proofs.Putting.{put-written}
 
 -- ---- the entries about a name's place
 
@@ -82,36 +85,6 @@ parts-of new at (e ∷ es) = go (parts-of new (at + length (e .name) + 6) es) (o
 
 abbrev bytesIn : List IndexEntry → List ℕ
 bytesIn es = joined (map entryBytes es)
-
--- as many as the sizes say
-bytes-size : (es : List IndexEntry) → length (bytesIn es) ≡ entriesSize es
-bytes-size es =
-    let e : length (indexBytes es) ≡ 2 + length (bytesIn es) =
-    unfold indexBytes in (length-append (bytesOf 2 (length es)) (bytesIn es) ∙ ap (λ (k : ℕ). k + length (bytesIn es)) (length-bytes 2 (length es))) in
-    omega (arith, e, index-size es)
-
-bytes-append : (xs ys : List IndexEntry) → bytesIn (xs ++ ys) ≡ bytesIn xs ++ bytesIn ys
-unfolding joined
-bytes-append [] ys = refl
-bytes-append (x ∷ xs) ys =
-    ap (λ (l : List ℕ). entryBytes x ++ l) (bytes-append xs ys) ∙ sym (append-assoc (entryBytes x) (bytesIn xs) (bytesIn ys))
-
-size-append : (xs ys : List IndexEntry) → entriesSize (xs ++ ys) ≡ entriesSize xs + entriesSize ys
-unfolding entriesSize
-size-append [] ys = omega arith
-size-append (x ∷ xs) ys = rw (size-append xs ys) (omega arith)
-
-entry-size : (e : IndexEntry) → length (entryBytes e) ≡ length (e .name) + 6
-entry-size e =
-    let k : entriesSize (e ∷ []) ≡ 6 + length (e .name) + 0 = unfold entriesSize in refl in
-    let j : length (bytesIn (e ∷ [])) ≡ length (entryBytes e) + 0 = unfold joined in length-append (entryBytes e) [] in
-    omega (arith, k, j, bytes-size (e ∷ []))
-
--- six bytes at least for each
-six : (es : List IndexEntry) → 6 * length es ≤ entriesSize es
-unfolding entriesSize
-six [] = omega arith
-six (e ∷ es) = omega (arith, six es)
 
 -- ---- bytes in front of a place and behind it
 
@@ -253,8 +226,8 @@ module _ (b : List ℕ) (new : IndexEntry) (f : Found) (end : End) (found : f �
     opening =
         let s : length b - 2 ≡ entriesSize (entriesIn b) + length (entries .rest) =
         sym (length-drop 2 b) ∙ ap length (entries .bytes) ∙ length-append (joined (map entryBytes (entriesIn b))) (entries .rest)
-        ∙ ap (λ (n : ℕ). n + length (entries .rest)) (bytes-size (entriesIn b)) in
-        (omega (arith, s, two, end-place), omega (arith, s, two, end-count, six (entriesIn b)))
+        ∙ ap (λ (n : ℕ). n + length (entries .rest)) (entries-size (entriesIn b)) in
+        (omega (arith, s, two, end-place), omega (arith, s, two, end-count, entries-least (entriesIn b)))
 
     pub opening-room : f .there ≡ false → end .place + (length (new .name) + 6) ≤ length b
     opening-room t = omega (arith, size-lacked t, room)
@@ -272,7 +245,7 @@ module _ (b : List ℕ) (new : IndexEntry) (f : Found) (end : End) (found : f �
     head-long = length-take-le 2 b two
 
     place-is : f .place ≡ length head + length (bytesIn (parts .front))
-    place-is = omega (arith, parts .place, head-long, bytes-size (parts .front))
+    place-is = omega (arith, parts .place, head-long, entries-size (parts .front))
 
     halves : (x : List ℕ) → bytesIn (entriesIn b) ≡ bytesIn (parts .front) ++ x → b ≡ head ++ (bytesIn (parts .front) ++ (x ++ entries .rest))
     halves x e =
@@ -287,17 +260,17 @@ module _ (b : List ℕ) (new : IndexEntry) (f : Found) (end : End) (found : f �
           let x = parts .had t in
           let old : IndexEntry = record { name = new .name; start = x .0 } in
           let e : b ≡ head ++ (bytesIn (parts .front) ++ (entryBytes old ++ (bytesIn (parts .back) ++ entries .rest))) =
-          halves (entryBytes old ++ bytesIn (parts .back)) (ap bytesIn (x .1) ∙ bytes-append (parts .front) (old ∷ parts .back))
+          halves (entryBytes old ++ bytesIn (parts .back)) (ap bytesIn (x .1) ∙ entries-append (parts .front) (old ∷ parts .back))
           ∙ ap (λ (l : List ℕ). head ++ (bytesIn (parts .front) ++ l)) (append-assoc (entryBytes old) (bytesIn (parts .back)) (entries .rest)) in
           subst (Ready b head (bytesIn (parts .front)) (bytesIn (parts .back)) (f .place) size) (sym (o .kept t .0))
           (ready-there b head (bytesIn (parts .front)) (entryBytes old) (bytesIn (parts .back)) (entries .rest) (f .place) size e place-is
-          (entry-size old ∙ sym sized))
+          (omega (arith, entry-size old, sized)))
 
       lacked : f .there ≡ false → Ready b head (bytesIn (parts .front)) (bytesIn (parts .back)) (f .place) size after
       lacked t =
-          let e = halves (bytesIn (parts .back)) (ap bytesIn (parts .lacked t) ∙ bytes-append (parts .front) (parts .back)) in
+          let e = halves (bytesIn (parts .back)) (ap bytesIn (parts .lacked t) ∙ entries-append (parts .front) (parts .back)) in
           let n : length (bytesIn (parts .back)) ≡ end .place - f .place =
-          omega (arith, bytes-size (parts .back), parts .place, size-lacked t, next-size) in
+          omega (arith, entries-size (parts .back), parts .place, size-lacked t, next-size) in
           ready-moved b head (bytesIn (parts .front)) (bytesIn (parts .back)) (entries .rest) after (f .place) size (end .place - f .place) e place-is n
           (omega (arith, entry-room, sized)) (o .moved t .0)
 
@@ -324,17 +297,24 @@ module _ (b : List ℕ) (new : IndexEntry) (f : Found) (end : End) (found : f �
       unfolding nextBytes indexBytes joined
       next-is =
           ap₂ (λ (n : ℕ) (l : List ℕ). bytesOf 2 n ++ l) (sym counted)
-          (ap bytesIn (parts .is) ∙ bytes-append (parts .front) (new ∷ parts .back))
+          (ap bytesIn (parts .is) ∙ entries-append (parts .front) (new ∷ parts .back))
 
-      pub amend-written : (l m : List ℕ) → l ≡ written after (f .place) (entryBytes new) → m ≡ written l 0 (bytesOf 2 count) → m ≡ amendedIn new b
+      -- the entry put at the place, and then the count
+      pub amend-written : (l m : List ℕ) (p q : ℕ) → length after ≡ length b → Put after (f .place) (entryBytes new) l p → Put l 0 (bytesOf 2 count) m q
+          → m ≡ amendedIn new b
       unfolding amendedIn
-      amend-written l m x y =
+      amend-written l m p q long e c =
           let r = ready in
+          let fits : f .place + length (entryBytes new) ≤ length after = omega (arith, entry-room, entry-size new, long) in
+          let x : l ≡ written after (f .place) (entryBytes new) = put-written after (f .place) (entryBytes new) l p e fits in
+          let y : m ≡ written l 0 (bytesOf 2 count) =
+          put-written l 0 (bytesOf 2 count) m q c
+          (omega (arith, length-bytes 2 count, two, long, put-whole after (f .place) (entryBytes new) l p e fits .size)) in
           let n : f .place + size + length (bytesIn (parts .back)) ≡ length (nextBytes new b) =
-          omega (arith, parts .place, sized, bytes-size (parts .back), next-size) in
+          omega (arith, parts .place, sized, entries-size (parts .back), next-size) in
           y ∙ ap (λ (z : List ℕ). written z 0 (bytesOf 2 count)) x
           ∙ laid after head (bytesIn (parts .front)) (entryBytes new) (bytesIn (parts .back)) (drop (f .place + size + length (bytesIn (parts .back))) b)
-          (bytesOf 2 count) (f .place) size head-long (length-bytes 2 count) (entry-size new ∙ sym sized) (r .front) (r .back)
+          (bytesOf 2 count) (f .place) size head-long (length-bytes 2 count) (omega (arith, entry-size new, sized)) (r .front) (r .back)
           ∙ ap₂ (λ (z : List ℕ) (k : ℕ). z ++ drop k b) (sym next-is) n
           ∙ rw (le-leb (length (nextBytes new b)) (length b) room) (unfold written in in-front)
         where

@@ -1,29 +1,22 @@
 -- The index of good records in a journal that is not too long: its entries fit their bytes, and its names are not empty. So that, where it stands
 -- at a buffer's front, it is read there. Assumes nothing.
-use mathlib.Core.Path.{_≡_, refl, ap, ap₂}
-use Prim.Native.Nat.{ℕ, suc, _+_, _*_, _%_, _^_, _≤_, _<_}
+use mathlib.Core.Path.{_≡_, refl, ap}
+use Prim.Native.Nat.{ℕ, _+_, _*_, _^_, _≤_, _<_}
 use mathlib.Core.List.{List, [], _∷_}
 use mathlib.Core.Bool.{true}
 use native.Mathlib.Omega.{arith}
 use lib.ListN.{length, length-append}
-use Rattle.journal_spec.specs.Bytes.{bytesOf, joined}
-use Rattle.journal_spec.specs.Section.{numberBytes}
-use Rattle.journal_spec.specs.Record.{Record, minByte, maxByte, recordBytes, recordsBytes}
-use Rattle.journal_spec.specs.Ranges.{Each}
+use Rattle.journal_spec.specs.Bytes.{joined}
+use Rattle.journal_spec.specs.Record.{Record, recordBytes, recordsBytes}
 use Rattle.journal_spec.specs.Scan.{maxLength}
 use Rattle.journal_spec.specs.Index.{IndexEntry, Order, lower, equal, higher, orderOf, indexBytes, inFront, indexOf, enroll, freshFrom, freshIndex}
 use Rattle.journal_spec.proofs.Ranged.{encoding-length}
 use Rattle.journal_spec.proofs.Places.{placedFrom}
 use Rattle.journal_spec.proofs.Cursor.{AllGood, Cursor}
 use Rattle.journal_spec.proofs.Indexes.{Before, Rising, enroll-before, same-index, amended-is}
+use Rattle.journal_spec.proofs.IndexAfter.{enroll-count}
+use Rattle.journal_spec.proofs.Pieces.{name-bytes}
 use Rattle.entries.proofs.Indexed.{Fits, AllFit, IndexHere, index-here}
-
-one-byte : (xs : List ℕ) → Each minByte maxByte xs → numberBytes 1 xs ≡ xs
-unfolding numberBytes bytesOf
-one-byte [] h = refl
-one-byte (x ∷ xs) h =
-    let e : x % 256 ≡ x = omega (arith, h 0 (omega arith) .1) in
-    ap₂ (λ (y : ℕ) (ys : List ℕ). y ∷ ys) e (one-byte xs (λ i k. h (suc i) (omega arith)))
 
 module _ (new : IndexEntry) where
   enroll-fit : (es : List IndexEntry) → Fits new → AllFit es → AllFit (enroll new es)
@@ -35,17 +28,6 @@ module _ (new : IndexEntry) where
       go ih lower k = unfold enroll in rw (k, enroll) (f, a)
       go ih equal k = unfold enroll in rw (k, enroll) a
       go ih higher k = unfold enroll in rw (k, enroll) (a .0, ih)
-
-  enroll-few : (es : List IndexEntry) → length (enroll new es) ≤ suc (length es)
-  unfolding enroll
-  enroll-few [] = omega arith
-  enroll-few (e ∷ es) = go (enroll-few es) (orderOf (new .name) (e .name)) refl
-    where
-      go : length (enroll new es) ≤ suc (length es) → (o : Order) → orderOf (new .name) (e .name) ≡ o
-          → length (enroll new (e ∷ es)) ≤ suc (suc (length es))
-      go ih lower k = unfold enroll in rw (k, enroll) (omega arith)
-      go ih equal k = unfold enroll in rw (k, enroll) (omega arith)
-      go ih higher k = unfold enroll in rw (k, enroll) (omega arith)
 
 -- what is known of an index by its records
 pub record IndexFit (es : List IndexEntry) : Type 0 where
@@ -61,7 +43,7 @@ fresh-fits at (r ∷ rs) g h =
     let name = g .0 .good .name in
     let n = length-append (recordBytes r) (recordsBytes rs) in
     enroll-fit (record { name = r .name; start = at }) (freshFrom (at + length (recordBytes r)) rs)
-    (record { count = omega (arith, name .most); bytes = one-byte (r .name) (name .bytes); start = omega (arith, h) })
+    (record { count = omega (arith, name .most); bytes = name-bytes (r .name) (name .bytes); start = omega (arith, h) })
     (fresh-fits (at + length (recordBytes r)) rs (g .1) (omega (arith, h, n)))
 
 fresh-few : (at : ℕ) (rs : List Record) → AllGood rs → 33 * length (freshFrom at rs) ≤ length (recordsBytes rs)
@@ -70,7 +52,7 @@ fresh-few at [] g = omega arith
 fresh-few at (r ∷ rs) g =
     omega (
       arith,
-      enroll-few (record { name = r .name; start = at }) (freshFrom (at + length (recordBytes r)) rs),
+      enroll-count (record { name = r .name; start = at }) (freshFrom (at + length (recordBytes r)) rs),
       fresh-few (at + length (recordBytes r)) rs (g .1),
       encoding-length (g .0 .last) r (g .0 .good) .0,
       length-append (recordBytes r) (recordsBytes rs),

@@ -1,32 +1,28 @@
-// Writing an index: its count at the buffer's front, and an entry at a place.
-// The caller has seen to it that there is room.
+// Writing an index: its count at the buffer's front, and an entry at a place. Both answer the place behind what is put.
+// As with hex's `put`, what has no room is left out, so that any buffer and any place are fine.
 ghost use mathlib.Core.Path.{_≡_};
-ghost use Prim.Native.Nat.{_+_, _≤_};
-ghost use lib.ListN.{length};
+ghost use Rattle.hex.specs.Text.{Put};
 ghost use Rattle.journal_spec.specs.Bytes.{bytesOf};
 ghost use Rattle.journal_spec.specs.Index.{entryBytes};
-ghost use Rattle.journal_spec.specs.Append.{written};
 use hex::put;
 
 // The count of the entries.
-pub fn put_count(out: &mut [u8], count: usize)
-    requires { ⌜ 2 ≤ length (now out) ⌝ }
-    ensures { λ _. ⌜ now (out .exit) ≡ written (now (out .entry)) 0 (bytesOf 2 count) ⌝ }
+pub fn put_count(out: &mut [u8], count: usize) -> usize
+    ensures { λ r. ⌜ Put (now (out .entry)) 0 (bytesOf 2 count) (now (out .exit)) r ⌝ }
 {
     let bytes = two_bytes(count);
-    put(out, 0, &bytes);
+    put(out, 0, &bytes)
 }
 
 // An entry.
-pub fn put_entry(out: &mut [u8], at: usize, name: &[u8], start: usize)
-    requires { ⌜ at + length (now name) + 6 ≤ length (now out) ⌝ }
-    ensures { λ _. ⌜ now (out .exit) ≡ written (now (out .entry)) at (entryBytes (record { name = now (name .entry); start = start })) ⌝ }
+pub fn put_entry(out: &mut [u8], at: usize, name: &[u8], start: usize) -> usize
+    ensures { λ r. ⌜ Put (now (out .entry)) at (entryBytes (record { name = now (name .entry); start = start })) (now (out .exit)) r ⌝ }
 {
     let count = two_bytes(name.len());
     let place = put(out, at, &count);
     let behind = put(out, place, name);
     let bytes = four_bytes(start);
-    put(out, behind, &bytes);
+    put(out, behind, &bytes)
 }
 
 // A number's lowest two bytes.

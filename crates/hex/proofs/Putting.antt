@@ -1,5 +1,5 @@
--- Texts put into a line one behind another: two of them are one text put there, also where the room runs out; and a number's digits.
--- Assumes nothing.
+-- Texts put into a line one behind another: two of them are one text put there, also where the room runs out; one that has room is put whole; and
+-- a number's digits. Assumes nothing.
 use mathlib.Core.Path.{_≡_, refl, sym, ap, _∙_}
 use Prim.Native.Nat.{ℕ, _+_, _-_, _≤_, min}
 use mathlib.Core.List.{List, [], _++_, append-assoc, append-nil}
@@ -81,6 +81,25 @@ put-put d p s d₁ q t d₂ r first second =
 -- the same text under another name
 pub put-as : (d : List ℕ) (p : ℕ) (s t d₁ : List ℕ) (q : ℕ) → s ≡ t → Put d p s d₁ q → Put d p t d₁ q
 put-as d p s t d₁ q e h = rw (← e) h
+
+-- a text that has room is put whole: the line up to the place, the text, and the line behind it
+pub record Whole (d : List ℕ) (p : ℕ) (s d₁ : List ℕ) (q : ℕ) : Type 0 where
+  pub bytes : d₁ ≡ take p d ++ (s ++ drop (p + length s) d)
+  pub end : q ≡ p + length s
+  pub size : length d₁ ≡ length d
+
+pub put-whole : (d : List ℕ) (p : ℕ) (s d₁ : List ℕ) (q : ℕ) → Put d p s d₁ q → p + length s ≤ length d → Whole d p s d₁ q
+unfolding roomFor
+put-whole d p s d₁ q w h =
+    let n : ℕ = length s in
+    let room : min n (length d - p) ≡ n = omega arith in
+    let all : d₁ ≡ paste d p s n = w .bytes ∙ ap (paste d p s) room in
+    let t : take n s ≡ s = take-length s in
+    record {
+      bytes = all ∙ rw t (append-assoc (take p d) s (drop (p + n) d));
+      end = w .end ∙ ap (λ (k : ℕ). p + k) room;
+      size = ap length all ∙ length-paste d p s n h (omega arith);
+    }
 
 -- the digits that stand at the front of a decimal's array
 pub decimal-text : (n : ℕ) (d : Decimal) → d ≡ decimalOf n → take (d .count) (d .digits) ≡ decimalDigits n

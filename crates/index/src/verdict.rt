@@ -1,5 +1,5 @@
 // What became of an index as a line of text, put at the front of a lent buffer.
-// A line with a place, that of a damaged volume, is the listing's.
+// Its words and numbers are put as the listing puts its own.
 ghost use lib.ListN.{length};
 ghost use Rattle.hex.specs.Text.{Put};
 ghost use Rattle.journal_spec.specs.MakeIndex.{checkIndexOf};
@@ -7,10 +7,10 @@ ghost use Rattle.entries.specs.Entries.{entriesIn};
 ghost use Rattle.entries.specs.Places.{endOf};
 ghost use Rattle.indexing.specs.Checked.{checkMeaning};
 ghost use Rattle.indexing.specs.Made.{madeMeaning};
-ghost use Rattle.index.specs.Verdict.{numbered, madeLine, checkedLine};
-use hex::put;
+ghost use Rattle.index.specs.Verdict.{madeLine, checkedLine};
 use indexing::Checked;
 use indexing::IndexMade;
+use listing::put_word;
 use listing::put_words;
 
 // An index that is made, or not.
@@ -45,17 +45,4 @@ fn said_line(answer: Checked, size: usize, out: &mut [u8]) -> usize
         Checked::Other => put_word(out, b"declined", 14),
         Checked::Damaged(f) => put_words(out, b"damaged", f.number as u64, f.place as u64),
     }
-}
-
-// A word and a number, as a line.
-pub(crate) fn put_word(out: &mut [u8], word: &[u8], n: u64) -> usize
-    ensures { λ r. ⌜ Put (now (out .entry)) 0 (numbered (now (word .entry)) n) (now (out .exit)) r ⌝ }
-{
-    let d = hex::decimal_of(n);
-    let digits = d.digits;
-    let count = d.count;
-    let p = put(out, 0, word);
-    let q = put(out, p, b" ");
-    let r = put(out, q, &digits[..count]);
-    put(out, r, b"\n")
 }

@@ -21,6 +21,7 @@ use Rattle.journal.specs.declared.Appended.the-variants as A
 use Rattle.journal.specs.Handed.{offerRefusals}
 use Rattle.journal.specs.Answers.{appendMeaning, lengthAfter, outcomeOf}
 use Rattle.journal.proofs.Checking.{first-front, first-back}
+use Rattle.journal.proofs.Extending.{first-trailing, either-none}
 use Rattle.indexing.specs.Outcome.{indexedOutcome}
 use Rattle.indexing.specs.Standing.{refusalIn}
 
@@ -36,12 +37,6 @@ without budget q = record {
   index = none;
 }
 
-trailing : (ns : List ℕ) → firstOf (ns ++ 0 ∷ 0 ∷ []) ≡ firstOf ns
-unfolding firstOf
-trailing [] = refl
-trailing (zero ∷ ns) = trailing ns
-trailing (suc n ∷ ns) = refl
-
 first-of-front : (ns ms : List ℕ) → firstOf (ns ++ ms) ≡ 0 → firstOf ns ≡ 0
 unfolding firstOf
 first-of-front [] ms h = refl
@@ -51,10 +46,6 @@ first-of-front (suc n ∷ ns) ms h = h
 either : (t : Bool) (x y : List ℕ) → some (cond t x y) ≡ cond t (some x) (some y)
 either true x y = refl
 either false x y = refl
-
-either-none : (t : Bool) → cond {A = Option (List ℕ)} t none none ≡ none
-either-none true = refl
-either-none false = refl
 
 module _ (j : Journal) (ps : List Placed) (committed : ℕ) (q : Request) (b : List ℕ) (handed : q .index ≡ some b) where
   -- the record's bytes
@@ -78,7 +69,7 @@ module _ (j : Journal) (ps : List Placed) (committed : ℕ) (q : Request) (b : L
   module _ (budget : Budget) where
     rows-without : firstOf (appendRefusals (length (j .slice)) ps committed (without budget q)) ≡ firstOf journalRows
     unfolding appendRefusals offerRefusals journalRows ofHanded without offerOf timesOf
-    rows-without = trailing (offerRefusals (q .rule) (lastOf (recordsOf ps)) (offerOf q) ++ judgeRoom (length (j .slice)) committed (length bytes) ∷ [])
+    rows-without = first-trailing (offerRefusals (q .rule) (lastOf (recordsOf ps)) (offerOf q) ++ judgeRoom (length (j .slice)) committed (length bytes) ∷ [])
 
     settles-without : appendTo (standing ps committed) j (without budget q)
         ≡ settle (firstOf journalRows) j none committed (take (allowed budget (length bytes)) bytes) none

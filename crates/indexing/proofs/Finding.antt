@@ -13,6 +13,7 @@ use Rattle.journal_spec.specs.Cursor.{recordsIn}
 use Rattle.journal_spec.specs.Index.{IndexEntry, Order, lower, equal, higher, orderOf, entryOf}
 use Rattle.journal_spec.specs.NextEntry.{isAbove, better, candidate, nextFrom, nextEntry}
 use Rattle.journal_spec.proofs.NameOrder.{lower-not-equal, order-self, order-equal, order-turned, order-lower}
+use Rattle.journal_spec.proofs.IndexLoop.{above-is, is-above, better-lower, better-equal, better-higher}
 use Rattle.journal_spec.proofs.Places.{placedFrom}
 use Rattle.journal_spec.proofs.Cursor.{Cursor, cursor-none, cursor-some, cursor-next, cursor-read}
 use Rattle.journal_spec.proofs.Whole.{WholeBytes}
@@ -67,29 +68,19 @@ module _ (b : List ℕ) where
 
 -- ---- names above
 
-above-lower : (a n : List ℕ) → isAbove (some a) n ≡ true → orderOf a n ≡ lower
-unfolding isAbove
-above-lower a n h = go (orderOf a n) refl
-  where
-    go : (o : Order) → orderOf a n ≡ o → orderOf a n ≡ lower
-    go lower k = k
-    go equal k = let z : false ≡ true = rw (k, isAbove) at h in let y : _≡_ {A = ℕ} 0 1 = cc in absurd (omega arith)
-    go higher k = let z : false ≡ true = rw (k, isAbove) at h in let y : _≡_ {A = ℕ} 0 1 = cc in absurd (omega arith)
-
 above-higher : (a n : List ℕ) → isAbove (some a) n ≡ true → orderOf n a ≡ higher
 above-higher a n h = go (orderOf n a) refl
   where
     go : (o : Order) → orderOf n a ≡ o → orderOf n a ≡ higher
-    go lower k = absurd (lower-not-equal (sym (order-lower n a n k (above-lower a n h)) ∙ order-self n))
+    go lower k = absurd (lower-not-equal (sym (order-lower n a n k (above-is a n h)) ∙ order-self n))
     go equal k =
         let e : n ≡ a = order-equal n a k in
-        let l : orderOf a a ≡ lower = ap (orderOf a) (sym e) ∙ above-lower a n h in
+        let l : orderOf a a ≡ lower = ap (orderOf a) (sym e) ∙ above-is a n h in
         absurd (lower-not-equal (sym l ∙ order-self a))
     go higher k = k
 
 higher-above : (a n : List ℕ) → orderOf n a ≡ higher → isAbove (some a) n ≡ true
-unfolding isAbove
-higher-above a n k = rw (order-turned n a k, isAbove) refl
+higher-above a n k = is-above a n (order-turned n a k)
 
 -- as crate entries tells it
 pub below-above : (a n : List ℕ) → isBelow a n ≡ isAbove (some a) n
@@ -132,10 +123,10 @@ module _ (b low : List ℕ) (at : ℕ) (x : Option IndexEntry) (best : ℕ) (f :
       -- the later one's name is above the candidate's too
       pub stays-above : isAbove (some (recordName (drop best b))) (recordName (drop at b)) ≡ true
           → Found b (candidate (some low) x (entryAt b at)) best
-      unfolding better entryAt
+      unfolding entryAt
       stays-above h =
           let k : orderOf (recordName (drop at b)) (e .name) ≡ higher = above-higher (e .name) (recordName (drop at b)) (rw entry-name at h) in
-          let j : better (some e) (entryAt b at) ≡ some e = rw (k, better) refl in
+          let j : better (some e) (entryAt b at) ≡ some e = better-higher e (entryAt b at) k in
           subst (λ (y : Option IndexEntry). Found b y best)
           (sym (judged ∙ ap (λ (y : Option IndexEntry). better y (entryAt b at)) entry-is ∙ j ∙ sym entry-is)) f
 
@@ -148,8 +139,8 @@ module _ (b low : List ℕ) (at : ℕ) (x : Option IndexEntry) (best : ℕ) (f :
           (found-some b at inside)
         where
           taken : (o : Order) → orderOf (recordName (drop at b)) (e .name) ≡ o → better (some e) (entryAt b at) ≡ some (entryAt b at)
-          taken lower k = unfold better entryAt in rw (k, better) refl
-          taken equal k = unfold better entryAt in rw (k, better) refl
+          taken lower k = unfold entryAt in better-lower e (entryAt b at) k
+          taken equal k = unfold entryAt in better-equal e (entryAt b at) k
           taken higher k =
               let t : isAbove (some (recordName (drop best b))) (recordName (drop at b)) ≡ true =
               rw entry-name (higher-above (e .name) (recordName (drop at b)) k) in

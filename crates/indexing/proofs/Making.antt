@@ -8,6 +8,8 @@ use mathlib.Core.Option.{Option, none, some}
 use native.Mathlib.Omega.{arith}
 use lib.ListN.{length, take, drop, length-append, drop-of-length-le}
 use lib.Seq.{append-snoc, drop-at, length-take-le}
+use Rattle.hex.specs.Text.{Put}
+use Rattle.hex.proofs.Putting.{put-whole}
 use Rattle.journal_spec.specs.Bytes.{bytesOf, joined}
 use Rattle.journal_spec.specs.Record.{Record, recordBytes, recordsBytes}
 use Rattle.journal_spec.specs.Cursor.{recordsIn}
@@ -21,9 +23,11 @@ use Rattle.journal_spec.proofs.Writing.{written-nil, written-two}
 use Rattle.journal_spec.proofs.Places.{placedFrom}
 use Rattle.journal_spec.proofs.Cursor.{AllGood}
 use Rattle.journal_spec.proofs.Whole.{WholeBytes}
-use Rattle.journal_spec.proofs.IndexLoop.{headOf, first-entry, following-entry, entriesSize, index-size, amend-size}
+use Rattle.journal_spec.proofs.IndexLoop.{headOf, first-entry, following-entry, entriesSize, entry-size, entries-size, index-size}
+use Rattle.journal_spec.proofs.IndexLoop.{size-append, entries-append, entries-least, amend-size}
 use Rattle.journal.specs.Numbers.{numberIn}
 use Rattle.records.specs.Front.{recordName}
+use Rattle.entries.proofs.Putting.{put-written}
 use Rattle.indexing.specs.Next.{Found}
 use Rattle.indexing.specs.Standing.{indexIn}
 use Rattle.indexing.proofs.Finding.{found-end, found-entry}
@@ -62,13 +66,7 @@ first-found b w =
 
 size-snoc : (es : List IndexEntry) (e : IndexEntry) → entriesSize (es ++ e ∷ []) ≡ entriesSize es + (6 + length (e .name))
 unfolding entriesSize
-size-snoc [] e = omega arith
-size-snoc (f ∷ es) e = rw (size-snoc es e) (omega arith)
-
-size-front : (es fs : List IndexEntry) → entriesSize es ≤ entriesSize (es ++ fs)
-unfolding entriesSize
-size-front [] fs = omega arith
-size-front (e ∷ es) fs = omega (arith, size-front es fs)
+size-snoc es e = size-append es (e ∷ []) ∙ omega arith
 
 -- an entry is shorter than its record
 amended-size : (at : ℕ) (es : List IndexEntry) (rs : List Record) → entriesSize (amendAll es (placedFrom at rs)) ≤ entriesSize es + length (recordsBytes rs)
@@ -143,7 +141,7 @@ walking-turn b size at walk h = go (walk .back) (walk .parts) (walk .found)
           entry = e;
           name = name;
           start = x .start ∙ ap (λ (y : IndexEntry). y .start) same;
-          room = omega (arith, grows, index-size (indexIn b), ap entriesSize parts, size-front (walk .front ++ e ∷ []) back);
+          room = omega (arith, grows, index-size (indexIn b), ap entriesSize parts, size-append (walk .front ++ e ∷ []) back);
           after = λ next g. record {
             front = walk .front ++ e ∷ [];
             back = back;
@@ -175,18 +173,7 @@ walking-end b size at walk h = go (walk .back) (walk .parts) (found-end b (headO
 
 entries-snoc : (es : List IndexEntry) (e : IndexEntry) → joined (map entryBytes (es ++ e ∷ [])) ≡ joined (map entryBytes es) ++ entryBytes e
 unfolding joined
-entries-snoc [] e = append-nil (entryBytes e)
-entries-snoc (f ∷ es) e =
-    ap (λ (l : List ℕ). entryBytes f ++ l) (entries-snoc es e) ∙ sym (append-assoc (entryBytes f) (joined (map entryBytes es)) (entryBytes e))
-
-entries-length : (es : List IndexEntry) → length (joined (map entryBytes es)) ≡ entriesSize es
-unfolding indexBytes
-entries-length es =
-    omega (arith, index-size es, length-append (bytesOf 2 (length es)) (joined (map entryBytes es)), length-bytes 2 (length es))
-
-entry-size : (e : IndexEntry) → length (entryBytes e) ≡ 6 + length (e .name)
-unfolding joined entriesSize
-entry-size e = omega (arith, entries-length (e ∷ []), ap length (append-nil (entryBytes e)))
+entries-snoc es e = entries-append es (e ∷ []) ∙ ap (λ (l : List ℕ). joined (map entryBytes es) ++ l) (append-nil (entryBytes e))
 
 index-is : (es : List IndexEntry) → indexBytes es ≡ bytesOf 2 (length es) ++ joined (map entryBytes es)
 unfolding indexBytes
@@ -236,51 +223,52 @@ module _ (b before out : List ℕ) (count n at : ℕ) (p : Putting b before out 
     pub putting-fits : n + (6 + length (recordName (drop at b))) ≤ length (indexBytes (indexIn b))
     putting-fits = passed .room
 
-    pub putting-room : n + (6 + length (recordName (drop at b))) ≤ length out
+    putting-room : n + (6 + length (recordName (drop at b))) ≤ length out
     putting-room = omega (arith, passed .room, p .room, p .size)
 
     pub putting-count : count ≤ n
-    putting-count = omega (arith, p .count′, p .walk .size′, count-size (p .walk .front))
-      where
-        count-size : (es : List IndexEntry) → length es ≤ entriesSize es
-        count-size [] = unfold entriesSize in omega arith
-        count-size (e ∷ es) = go (count-size es)
-          where
-            go : length es ≤ entriesSize es → length (e ∷ es) ≤ entriesSize (e ∷ es)
-            go h = unfold entriesSize in omega arith
+    putting-count = omega (arith, p .count′, p .walk .size′, entries-least (p .walk .front))
 
     -- the entry of the record is put
-    pub putting-turn : (after : List ℕ) → after ≡ written out n (entryBytes (record { name = recordName (drop at b); start = at })) → (next : ℕ)
-        → Found b (nextEntry (some (recordName (drop at b))) (placedFrom 0 (recordsIn b))) next
-        → Putting b before after (count + 1) (n + (6 + length (recordName (drop at b)))) next
-    putting-turn after e next f =
-        let x : IndexEntry = passed .entry in
-        let new : List ℕ = entryBytes x in
-        let old : List ℕ = joined (map entryBytes (p .walk .front)) in
-        let is : entryBytes (record { name = recordName (drop at b); start = at }) ≡ new =
-        ap₂ (λ (l : List ℕ) (s : ℕ). entryBytes (record { name = l; start = s })) (passed .name) (passed .start) in
-        let place : n ≡ 2 + length old = p .walk .size′ ∙ ap (λ (k : ℕ). 2 + k) (sym (entries-length (p .walk .front))) in
-        let put : after ≡ written before 2 (old ++ new) =
-        e ∙ ap₂ (λ (d l : List ℕ). written d n l) (p .bytes) is ∙ ap (λ (k : ℕ). written (written before 2 old) k new) place
-        ∙ written-two before 2 old new two in
-        let grown : passed .after next f .front ≡ p .walk .front ++ x ∷ [] = passed .front next f in
-        record {
-          walk = passed .after next f;
-          count′ = rw grown (ap (λ (k : ℕ). k + 1) (p .count′) ∙ sym (length-append (p .walk .front) (x ∷ [])));
-          bytes = put ∙ ap (written before 2) (sym (entries-snoc (p .walk .front) x))
-              ∙ ap (λ (es : List IndexEntry). written before 2 (joined (map entryBytes es))) (sym grown);
-          size = ap length e ∙ written-length out n _ (omega (arith, entry-size x, ap length is, ap length (passed .name), putting-room)) ∙ p .size;
-          room = p .room;
-        }
+    module _ (after : List ℕ) (m : ℕ) (put : Put out n (entryBytes (record { name = recordName (drop at b); start = at })) after m) where
+      abbrev entry : IndexEntry
+      entry = record { name = recordName (drop at b); start = at }
+
+      fits : n + length (entryBytes entry) ≤ length out
+      fits = omega (arith, entry-size entry, putting-room)
+
+      pub putting-place : m ≡ n + (6 + length (recordName (drop at b)))
+      putting-place = omega (arith, put-whole out n (entryBytes entry) after m put fits .end, entry-size entry)
+
+      pub putting-turn : (next : ℕ) → Found b (nextEntry (some (recordName (drop at b))) (placedFrom 0 (recordsIn b))) next
+          → Putting b before after (count + 1) m next
+      putting-turn next f =
+          let x : IndexEntry = passed .entry in
+          let new : List ℕ = entryBytes x in
+          let old : List ℕ = joined (map entryBytes (p .walk .front)) in
+          let is : entryBytes entry ≡ new =
+          ap₂ (λ (l : List ℕ) (s : ℕ). entryBytes (record { name = l; start = s })) (passed .name) (passed .start) in
+          let place : n ≡ 2 + length old = p .walk .size′ ∙ ap (λ (k : ℕ). 2 + k) (sym (entries-size (p .walk .front))) in
+          let all : after ≡ written before 2 (old ++ new) =
+          put-written out n (entryBytes entry) after m put fits ∙ ap₂ (λ (d l : List ℕ). written d n l) (p .bytes) is
+          ∙ ap (λ (k : ℕ). written (written before 2 old) k new) place ∙ written-two before 2 old new two in
+          let grown : passed .after next f .front ≡ p .walk .front ++ x ∷ [] = passed .front next f in
+          rw putting-place (record {
+            walk = passed .after next f;
+            count′ = rw grown (ap (λ (k : ℕ). k + 1) (p .count′) ∙ sym (length-append (p .walk .front) (x ∷ [])));
+            bytes = all ∙ ap (written before 2) (sym (entries-snoc (p .walk .front) x))
+                ∙ ap (λ (es : List IndexEntry). written before 2 (joined (map entryBytes es))) (sym grown);
+            size = put-whole out n (entryBytes entry) after m put fits .size ∙ p .size;
+            room = p .room;
+          })
 
   -- all are put, then their count in front
-  pub putting-two : 2 ≤ length out
-  putting-two = omega (arith, two, p .size)
-
-  pub putting-end : length b ≤ at → (after : List ℕ) → after ≡ written out 0 (bytesOf 2 count)
+  pub putting-end : length b ≤ at → (after : List ℕ) (m : ℕ) → Put out 0 (bytesOf 2 count) after m
       → (after ≡ written before 0 (indexBytes (indexIn b))) × (length after ≡ length before)
-  putting-end h after e =
+  putting-end h after m put =
       let all : indexIn b ≡ p .walk .front = walking-end b n at (p .walk) h .0 in
+      let e : after ≡ written out 0 (bytesOf 2 count) =
+      put-written out 0 (bytesOf 2 count) after m put (omega (arith, length-bytes 2 count, two, p .size)) in
       let is : after ≡ written before 0 (indexBytes (indexIn b)) =
       e ∙ ap₂ (λ (d : List ℕ) (k : ℕ). written d 0 (bytesOf 2 k)) (p .bytes) (p .count′)
       ∙ counted before (bytesOf 2 (length (p .walk .front))) (joined (map entryBytes (p .walk .front))) (length-bytes 2 _) two

@@ -7,8 +7,7 @@ use mathlib.Core.Bool.{Bool, true, false}
 use mathlib.Core.Option.{Option, none, some}
 use native.Mathlib.Omega.{arith}
 use native.Mathlib.Nat.{add-zero, add-assoc}
-use lib.ListN.{length, take, drop, getD, length-drop}
-use lib.Seq.{take-all}
+use lib.ListN.{length, take, drop, getD}
 use lib.Dec.{eqb}
 use Rattle.journal_spec.specs.Record.{Record, recordBytes}
 use Rattle.journal_spec.specs.Cursor.{recordsIn}
@@ -22,7 +21,7 @@ use Rattle.journal_spec.proofs.Indexes.{lookUp, Rising}
 use Rattle.journal.specs.Numbers.{numberIn}
 use Rattle.journal.proofs.NumberStands.{number-stands}
 use Rattle.records.specs.Front.{recordSize, recordName}
-use Rattle.records.proofs.Front.{front-size, front-name}
+use Rattle.records.proofs.Front.{front-size, front-name, from-place}
 use Rattle.entries.specs.Entries.{entriesIn}
 use Rattle.entries.specs.Shape.{isIndex}
 use Rattle.entries.proofs.Indexed.{IndexHere}
@@ -147,7 +146,7 @@ module _ (b index : List ℕ) (n at : ℕ) (o : Owning b index n at) where
   owning-turn name h f = go (o .left) (o .cursor) (o .same)
     where
       all : from b at ≡ drop at b
-      all = take-all (length b - at) (drop at b) (rw length-drop (omega arith))
+      all = from-place b at
 
       go : (left : List Record) → Cursor b at left → owns (entriesIn index) (recordsIn b) ≡ ownsFrom (entriesIn index) n (startsFrom at left)
           → Turn b index n at name (recordSize (from b at))

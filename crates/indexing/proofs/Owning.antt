@@ -12,11 +12,11 @@ use borrow.Author.Tests.{leb-true, le-leb, eqb-true, eq-eqb, ne-eqb}
 use Rattle.limit.proofs.InRange.{both, first-of, second-of}
 use Rattle.journal_spec.specs.Record.{Record, recordBytes}
 use Rattle.journal_spec.specs.Index.{IndexEntry, Order, lower, equal, higher, orderOf, indexOf, enroll, freshFrom, freshIndex}
-use Rattle.journal_spec.proofs.NameOrder.{lower-not-equal, order-self, order-equal, order-turned, order-lower}
+use Rattle.journal_spec.proofs.NameOrder.{lower-not-equal, order-self, order-equal, order-turned}
 use Rattle.journal_spec.proofs.Reading.{by-test}
 use Rattle.journal_spec.proofs.Places.{placedFrom}
 use Rattle.journal_spec.proofs.Records.{length-record}
-use Rattle.journal_spec.proofs.Indexes.{lookUp, Before, Rising, absent, own, other, fresh-is, same-index}
+use Rattle.journal_spec.proofs.Indexes.{lookUp, Before, Rising, before-others, absent, own, other, fresh-is, same-index}
 use Rattle.indexing.specs.Owned.{startsFrom, admits, hit, covers, hits, ownsFrom, owns}
 
 false-not-true : false ≡ true → ⊥
@@ -121,10 +121,6 @@ module _ (es : List IndexEntry) where
 -- ---- two lists that rise
 
 -- names above the first entry's are looked up in the others
-before-all : (name : List ℕ) (f : IndexEntry) (fs : List IndexEntry) → orderOf name (f .name) ≡ lower → Before (f .name) fs → Before name fs
-before-all name f [] h b = tt
-before-all name f (g ∷ fs) h b = order-lower name (f .name) (g .name) h b
-
 module _ (e : IndexEntry) (es : List IndexEntry) where
   past-one : (f : IndexEntry) → orderOf (e .name) (f .name) ≡ lower → lookUp (f .name) (e ∷ es) ≡ lookUp (f .name) es
   past-one f h =
@@ -134,12 +130,12 @@ module _ (e : IndexEntry) (es : List IndexEntry) where
   past-covers : (fs : List IndexEntry) → Before (e .name) fs → Rising fs → covers (e ∷ es) fs ≡ covers es fs
   unfolding covers
   past-covers [] b r = refl
-  past-covers (f ∷ fs) b r = rw (past-one f b, past-covers fs (before-all (e .name) f fs b (r .0)) (r .1)) refl
+  past-covers (f ∷ fs) b r = rw (past-one f b, past-covers fs (before-others (e .name) f fs b (r .0)) (r .1)) refl
 
   past-hits : (fs : List IndexEntry) → Before (e .name) fs → Rising fs → hits (e ∷ es) fs ≡ hits es fs
   unfolding hits
   past-hits [] b r = refl
-  past-hits (f ∷ fs) b r = rw (past-one f b, past-hits fs (before-all (e .name) f fs b (r .0)) (r .1)) refl
+  past-hits (f ∷ fs) b r = rw (past-one f b, past-hits fs (before-others (e .name) f fs b (r .0)) (r .1)) refl
 
 -- no more are hit than there are, and as many only where the lists are one
 record Few (es fs : List IndexEntry) : Type 0 where

@@ -84,8 +84,7 @@ fn put_index(b: &[u8], out: &mut [u8])
     let mut at = next_entry(b, b.len());
     while at < b.len() {
         let name = record_name(&b[at..]);
-        put_entry(out, n, name, at);
-        n += 6 + name.len();
+        n = put_entry(out, n, name, at);
         count += 1;
         at = next_entry(b, at);
     }

@@ -92,13 +92,13 @@ offered-record day name chances times limits e = rw e refl
 
 -- ---- append to what stands
 
-first-trailing : (ns : List ℕ) → firstOf (ns ++ 0 ∷ 0 ∷ []) ≡ firstOf ns
+pub first-trailing : (ns : List ℕ) → firstOf (ns ++ 0 ∷ 0 ∷ []) ≡ firstOf ns
 unfolding firstOf
 first-trailing [] = refl
 first-trailing (zero ∷ ns) = first-trailing ns
 first-trailing (suc n ∷ ns) = refl
 
-either-none : (b : Bool) → cond {A = Option (List ℕ)} b none none ≡ none
+pub either-none : (b : Bool) → cond {A = Option (List ℕ)} b none none ≡ none
 either-none true = refl
 either-none false = refl
 

@@ -93,7 +93,7 @@ made-same m now b e fits =
 
 -- ---- its numbers fit their bytes
 
-enroll-count : (new : IndexEntry) (es : List IndexEntry) → length (enroll new es) ≤ suc (length es)
+pub enroll-count : (new : IndexEntry) (es : List IndexEntry) → length (enroll new es) ≤ suc (length es)
 unfolding enroll
 enroll-count new [] = omega arith
 enroll-count new (e ∷ es) = go (enroll-count new es) (orderOf (new .name) (e .name)) refl

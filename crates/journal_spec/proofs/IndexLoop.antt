@@ -1,8 +1,8 @@
 -- For code that goes over an index entry by entry: each is found by one pass over the records, and after the last there is none.
 -- Assumes nothing.
 use mathlib.Core.Path.{_≡_, refl, sym, ap, _∙_}
-use Prim.Native.Nat.{ℕ, _+_}
-use mathlib.Core.List.{List, [], _∷_, _++_, map}
+use Prim.Native.Nat.{ℕ, _+_, _*_, _≤_}
+use mathlib.Core.List.{List, [], _∷_, _++_, map, append-assoc}
 use mathlib.Core.Logic.{_⊎_, inl, inr, ⊎-elim}
 use mathlib.Core.Bool.{true, false, cond}
 use mathlib.Core.Option.{Option, none, some}
@@ -28,7 +28,7 @@ firstAbove low (e ∷ es) = cond (isAbove low (e .name)) (some e) (firstAbove lo
 
 -- ---- names above
 
-above-is : (low name : List ℕ) → isAbove (some low) name ≡ true → orderOf low name ≡ lower
+pub above-is : (low name : List ℕ) → isAbove (some low) name ≡ true → orderOf low name ≡ lower
 unfolding isAbove
 above-is low name h = go (orderOf low name) refl
   where
@@ -37,7 +37,7 @@ above-is low name h = go (orderOf low name) refl
     go equal k = let z : false ≡ true = rw (k, isAbove) at h in let y : _≡_ {A = ℕ} 0 1 = cc in absurd (omega arith)
     go higher k = let z : false ≡ true = rw (k, isAbove) at h in let y : _≡_ {A = ℕ} 0 1 = cc in absurd (omega arith)
 
-is-above : (low name : List ℕ) → orderOf low name ≡ lower → isAbove (some low) name ≡ true
+pub is-above : (low name : List ℕ) → orderOf low name ≡ lower → isAbove (some low) name ≡ true
 unfolding isAbove
 is-above low name k = rw (k, isAbove) refl
 
@@ -48,15 +48,15 @@ above-later (some low) a b h k = is-above low b (order-lower low a b (above-is l
 
 -- ---- one record more
 
-better-lower : (e new : IndexEntry) → orderOf (new .name) (e .name) ≡ lower → better (some e) new ≡ some new
+pub better-lower : (e new : IndexEntry) → orderOf (new .name) (e .name) ≡ lower → better (some e) new ≡ some new
 unfolding better
 better-lower e new k = rw (k, better) refl
 
-better-equal : (e new : IndexEntry) → orderOf (new .name) (e .name) ≡ equal → better (some e) new ≡ some new
+pub better-equal : (e new : IndexEntry) → orderOf (new .name) (e .name) ≡ equal → better (some e) new ≡ some new
 unfolding better
 better-equal e new k = rw (k, better) refl
 
-better-higher : (e new : IndexEntry) → orderOf (new .name) (e .name) ≡ higher → better (some e) new ≡ some e
+pub better-higher : (e new : IndexEntry) → orderOf (new .name) (e .name) ≡ higher → better (some e) new ≡ some e
 unfolding better
 better-higher e new k = rw (k, better) refl
 
@@ -161,7 +161,7 @@ following-entry rs front e back h =
 
 -- ---- sizes
 
-entry-size : (e : IndexEntry) → length (entryBytes e) ≡ 6 + length (e .name)
+pub entry-size : (e : IndexEntry) → length (entryBytes e) ≡ 6 + length (e .name)
 unfolding entryBytes
 entry-size e = length-append (sectionBytes 1 (e .name)) (bytesOf 4 (e .start)) ∙ rw (length-section, length-bytes) (omega arith)
 
@@ -170,7 +170,7 @@ unfoldable pub entriesSize : List IndexEntry → ℕ
 entriesSize [] = 0
 entriesSize (e ∷ es) = 6 + length (e .name) + entriesSize es
 
-entries-size : (es : List IndexEntry) → length (joined (map entryBytes es)) ≡ entriesSize es
+pub entries-size : (es : List IndexEntry) → length (joined (map entryBytes es)) ≡ entriesSize es
 unfolding joined entriesSize
 entries-size [] = refl
 entries-size (e ∷ es) = length-append (entryBytes e) (joined (map entryBytes es)) ∙ rw (entry-size e, entries-size es) refl
@@ -179,10 +179,24 @@ pub index-size : (es : List IndexEntry) → length (indexBytes es) ≡ 2 + entri
 unfolding indexBytes
 index-size es = length-append (bytesOf 2 (length es)) (joined (map entryBytes es)) ∙ rw (length-bytes, entries-size es) refl
 
-size-append : (es fs : List IndexEntry) → entriesSize (es ++ fs) ≡ entriesSize es + entriesSize fs
+pub size-append : (es fs : List IndexEntry) → entriesSize (es ++ fs) ≡ entriesSize es + entriesSize fs
 unfolding entriesSize
 size-append [] fs = omega arith
 size-append (e ∷ es) fs = rw (size-append es fs) (omega arith)
+
+-- six bytes at least for each
+pub entries-least : (es : List IndexEntry) → 6 * length es ≤ entriesSize es
+unfolding entriesSize
+entries-least [] = omega arith
+entries-least (e ∷ es) = omega (arith, entries-least es)
+
+-- the bytes of some entries, and those of others behind them
+pub entries-append : (es fs : List IndexEntry) → joined (map entryBytes (es ++ fs)) ≡ joined (map entryBytes es) ++ joined (map entryBytes fs)
+unfolding joined
+entries-append [] fs = refl
+entries-append (e ∷ es) fs =
+    ap (λ (l : List ℕ). entryBytes e ++ l) (entries-append es fs)
+    ∙ sym (append-assoc (entryBytes e) (joined (map entryBytes es)) (joined (map entryBytes fs)))
 
 -- amended, an index is as long as before where its name has an entry, else longer by one
 pub amend-size : (new : IndexEntry) (es : List IndexEntry)

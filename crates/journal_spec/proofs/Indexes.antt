@@ -58,15 +58,16 @@ pub record IsIndex (at : ℕ) (rs : List Record) (es : List IndexEntry) : Type 0
 some-not-none : {s : ℕ} → some s ≡ none → ⊥
 some-not-none h = let z : _≡_ {A = ℕ} 0 1 = cc in omega arith
 
+-- a name before the first of entries that rise is before the others
+pub before-others : (name : List ℕ) (e : IndexEntry) (es : List IndexEntry) → orderOf name (e .name) ≡ lower → Before (e .name) es → Before name es
+before-others name e [] h b = tt
+before-others name e (f ∷ es) h b = order-lower name (e .name) (f .name) h b
+
 -- a name before the first entry has none
 pub absent : (name : List ℕ) (es : List IndexEntry) → Before name es → Rising es → lookUp name es ≡ none
 unfolding lookUp whereEqual orElse
 absent name [] b r = refl
-absent name (e ∷ es) b r = rw b (absent name es (later es (r .0)) (r .1))
-  where
-    later : (es : List IndexEntry) → Before (e .name) es → Before name es
-    later [] k = tt
-    later (f ∷ es) k = order-lower name (e .name) (f .name) b k
+absent name (e ∷ es) b r = rw b (absent name es (before-others name e es b (r .0)) (r .1))
 
 -- a first entry is looked up by its name
 pub own : (e : IndexEntry) (es : List IndexEntry) → lookUp (e .name) (e ∷ es) ≡ some (e .start)

@@ -60,7 +60,12 @@ unfolding spaced eachSpaced
 spaced-rest w [] = rw append-nil refl
 spaced-rest w (v ∷ ws) = ap (λ (x : List ℕ). w ++ (space ∷ x)) (spaced-rest v ws)
 
--- a word and two numbers
+-- a word and a number
+pub word-line : (w n : List ℕ) → w ++ (space ∷ n) ++ (newline ∷ []) ≡ lineOf (w ∷ n ∷ [])
+unfolding lineOf spaced
+word-line w n = refl
+
+-- and two
 pub words-line : (w n m : List ℕ) → w ++ (space ∷ n) ++ (space ∷ m) ++ (newline ∷ []) ≡ lineOf (w ∷ n ∷ m ∷ [])
 unfolding lineOf spaced
 words-line w n m = ap (λ (x : List ℕ). x ++ (newline ∷ [])) (append-assoc w (space ∷ n) (space ∷ m))

@@ -18,6 +18,7 @@ pub mod spans;
 mod text;
 mod words;
 
+pub use words::put_word;
 pub use words::put_words;
 
 // The longest line: a name of 32 bytes, a day of 5 digits, the mark, mean and spread of 16 digits each, 8 pairs of a chance of 6 digits and a

@@ -1,4 +1,4 @@
-// The two kinds of lines: a record's, from the places of its sections, and that of the end state.
+// The two kinds of lines: a record's, from the places of its sections, and that of the end state, a word and its numbers.
 // Both are put at the front of a lent buffer and answer how many bytes they take.
 ghost use mathlib.Core.Path.{_≡_};
 ghost use mathlib.Core.Bool.{true};
@@ -95,6 +95,15 @@ pub fn put_words(out: &mut [u8], word: &[u8], n: u64, m: u64) -> usize
     let q = put_number(out, p, n);
     let r = put_number(out, q, m);
     put(out, r, b"\n")
+}
+
+// A word and a number, as a line.
+pub fn put_word(out: &mut [u8], word: &[u8], n: u64) -> usize
+    ensures { λ r. ⌜ Put (now (out .entry)) 0 (lineOf (now (word .entry) ∷ decimalDigits n ∷ [])) (now (out .exit)) r ⌝ }
+{
+    let behind = put(out, 0, word);
+    let end = put_number(out, behind, n);
+    put(out, end, b"\n")
 }
 
 // A space and a number.

@@ -7,7 +7,7 @@ use native.Mathlib.Omega.{arith}
 use lib.ListN.{length, take, getD}
 use lib.Seq.{length-take-le}
 use Rattle.journal_spec.specs.Bytes.{AreBytes}
-use Rattle.journal_spec.specs.Record.{Record, recordsBytes, lastOf}
+use Rattle.journal_spec.specs.Record.{Record, recordsBytes}
 use Rattle.journal_spec.specs.Profile.{plain}
 use Rattle.journal_spec.specs.Scan.{maxLength, whole, scanOf}
 use Rattle.journal_spec.specs.Append.{written}
@@ -15,15 +15,14 @@ use Rattle.journal_spec.specs.Model.{lengthsOf}
 use Rattle.journal_spec.specs.Cursor.{recordsUpto, recordsIn}
 use Rattle.journal_spec.proofs.Numbers.{are-bytes}
 use Rattle.journal_spec.proofs.Cursor.{follow-good, cursor-start}
+use Rattle.journal_spec.proofs.Whole.{WholeBytes}
 use Rattle.journal.specs.Answers.{meaning}
 use Rattle.journal.specs.declared.Status.{Status}
 use Rattle.journal.specs.declared.Status.the-variants as J
 use Rattle.merge_spec.specs.Records.{mergedOf, fallFrom}
 use Rattle.merge_spec.specs.Merge.{faultOf, tornOf, mergeRefusals, firstRefusal, mergeBy, mergeOf}
-use Rattle.merge_spec.proofs.Following.{follow-days}
 use Rattle.merge_spec.proofs.Inputs.{Whole, whole-scanned, whole-alone}
 use Rattle.merge_spec.proofs.Rows.{first-damaged, second-damaged, second-damaged-torn, first-torn, both-torn, second-torn, whole-falls, whole-long, whole-put}
-use Rattle.merging.specs.Records.{WholeBytes}
 use Rattle.merging.specs.Passes.{measuredBy, measuredOf, wholeOutcome}
 use Rattle.merging.specs.Answers.{whoseOf, answerOf, outcomeOf, secondOf, inputsOf}
 use Rattle.merging.specs.declared.Merged.the-variants as MV
@@ -79,14 +78,13 @@ module _ (rs : List Record) (buffer : List ℕ) where
 
 -- a whole journal's bytes, as the passes ask for them
 whole-bytes : (slice : List ℕ) (len : ℕ) → Whole slice len → WholeBytes (take len slice)
-unfolding lastOf
 whole-bytes slice len w =
     let n : length (take len slice) ≡ len = length-take-le len slice (omega (arith, w .fits)) in
     record {
       cursor =
           rw (whole-alone slice len w)
           (cursor-start (take len slice) (recordsUpto slice len) (w .bytes) (follow-good [] (recordsUpto slice len) (w .follow)));
-      days = rw (whole-alone slice len w) (follow-days [] (recordsUpto slice len) (w .follow));
+      follow = rw (whole-alone slice len w) (w .follow);
       short = omega (arith, n, w .fits);
     }
 

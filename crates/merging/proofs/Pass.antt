@@ -1,21 +1,23 @@
 -- What the two passes keep: where they stand, and the length and the last form of what is made, or its bytes at the buffer's front; and
 -- what each step makes of that. Assumes nothing.
 use mathlib.Core.Path.{_≡_, refl, sym, ap, _∙_}
-use Prim.Native.Nat.{ℕ, _+_, _-_, _≤_, _<_, min}
-use mathlib.Core.List.{List, [], _∷_, _++_, append-assoc}
+use Prim.Native.Nat.{ℕ, _+_, _-_, _≤_, _<_}
+use mathlib.Core.List.{List, [], _∷_, _++_}
 use native.Mathlib.Omega.{arith}
 use lib.ListN.{length, take, drop, length-drop}
-use lib.Seq.{append-snoc, paste, length-paste, length-take-le, take-all}
-use Rattle.hex.specs.Text.{roomFor, Put}
+use lib.Seq.{append-snoc, length-take-le}
+use Rattle.hex.specs.Text.{Put}
+use Rattle.hex.proofs.Putting.{put-whole}
 use Rattle.journal_spec.specs.Record.{Record, recordBytes, recordsBytes}
 use Rattle.journal_spec.specs.Append.{written}
 use Rattle.journal_spec.specs.Model.{lengthsOf}
 use Rattle.journal_spec.specs.Cursor.{recordsIn}
 use Rattle.journal_spec.proofs.Placing.{lengths-snoc}
+use Rattle.journal_spec.proofs.Whole.{WholeBytes}
 use Rattle.merge_spec.specs.Records.{mergedOf}
 use Rattle.merge_spec.proofs.MergeLoop.{coming, Measured, measured-start, measured-next, measured-falls, measured-end}
 use Rattle.merge_spec.proofs.MergeLoop.{Copied, copied-start, copied-next}
-use Rattle.merging.specs.Records.{WholeBytes, sourceOf}
+use Rattle.merging.specs.Records.{sourceOf}
 use Rattle.merging.specs.Passes.{Reached, Somewhere, Took, Passed, measuredBy, measuredOf}
 use Rattle.merging.specs.declared.parts.Part.{Part}
 use Rattle.merging.specs.declared.stepping.Places.{Places}
@@ -106,20 +108,6 @@ module _ (a b : List ℕ) (p : Places) (n form : ℕ) (m : Measuring a b p n for
 
 -- ---- the second pass
 
--- a text that has room is written whole
-put-whole : (line : List ℕ) (place : ℕ) (text after : List ℕ) (next : ℕ) → Put line place text after next → place + length text ≤ length line
-    → (after ≡ written line place text) × (next ≡ place + length text) × (length after ≡ length line)
-unfolding roomFor written
-put-whole line place text after next p h =
-    let room : min (length text) (length line - place) ≡ length text = omega arith in
-    let n : ℕ = length text in
-    let all : after ≡ paste line place text n = p .bytes ∙ ap (paste line place text) room in
-    let t : take n text ≡ text = take-all n text (omega arith) in (
-      all ∙ rw t (append-assoc (take place line) text (drop (place + n) line)),
-      p .end ∙ ap (λ (k : ℕ). place + k) room,
-      ap length all ∙ length-paste line place text n h (omega arith),
-    )
-
 pub record Copying (a b buffer after : List ℕ) (p : Places) (n : ℕ) : Type 0 where
   pub there : Somewhere a b p
   pub copied : Copied buffer (there .made) n after
@@ -159,10 +147,11 @@ module _ (a b buffer after : List ℕ) (p : Places) (n : ℕ) (m : Copying a b b
         → Copying a b buffer after′ next n′
     copying-next after′ n′ q =
         let w = put-whole after n (recordBytes (t .taken)) after′ n′ (rw (t .bytes) at q) room-for in
+        let bytes : after′ ≡ written after n (recordBytes (t .taken)) = unfold written in w .bytes in
         record {
           there = took-there a b p (m .there) part next t;
-          copied = rw (w .0, w .1) (copied-next buffer (m .there .made) n after (t .taken) (m .copied));
-          size = w .2 ∙ m .size;
+          copied = rw (bytes, w .end) (copied-next buffer (m .there .made) n after (t .taken) (m .copied));
+          size = w .size ∙ m .size;
           room = m .room;
         }
 

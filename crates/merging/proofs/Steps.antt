@@ -7,19 +7,26 @@ use native.Mathlib.Omega.{arith}
 use lib.ListN.{length, take, drop}
 use lib.Seq.{append-snoc}
 use borrow.Author.Tests.{le-leb, lt-leb, leb-true, leb-false}
-use Rattle.journal_spec.specs.Record.{Record, recordBytes}
+use Rattle.journal_spec.specs.Record.{Record, recordBytes, lastOf}
 use Rattle.journal_spec.specs.Cursor.{dayAt, sizeAt, recordsIn}
 use Rattle.journal_spec.proofs.Reading.{by-order}
 use Rattle.journal_spec.proofs.Cursor.{Cursor, cursor-none, cursor-some, cursor-part, cursor-next, cursor-read}
+use Rattle.journal_spec.proofs.Whole.{WholeBytes}
 use Rattle.journal.specs.Numbers.{numberIn}
 use Rattle.merge_spec.specs.Records.{isAmong, isTwin, from, mergedOf}
 use Rattle.merge_spec.proofs.ByDay.{HeadFrom, DaysFrom}
+use Rattle.merge_spec.proofs.Following.{follow-days}
 use Rattle.merge_spec.proofs.SameDay.{ofDay, from-all, among-day}
 use Rattle.merge_spec.proofs.MergeLoop.{HeadAfter, coming, coming-none, turn-first, turn-dropped, turn-second}
-use Rattle.merging.specs.Records.{WholeBytes, Rest, AtRecord, FromDay, sourceOf}
+use Rattle.merging.specs.Records.{Rest, AtRecord, FromDay, sourceOf}
 use Rattle.merging.specs.Passes.{firstNext, Reached, Somewhere, Took, Passed}
 use Rattle.merging.specs.declared.stepping.Places.{Places}
 use Rattle.merging.proofs.Reading.{at-record, form-read}
+
+-- a whole journal's days do not fall
+whole-days : (b : List ℕ) → WholeBytes b → DaysFrom 0 (recordsIn b)
+unfolding lastOf
+whole-days b w = follow-days [] (recordsIn b) (w .follow)
 
 -- a pass starts with nothing made
 pub start : (a b : List ℕ) → WholeBytes a → WholeBytes b → Reached a b (record { first = 0; second = 0; since = 0 }) []
@@ -32,7 +39,7 @@ start a b w v = record {
   parts = refl;
   day = 0;
   since = rw from-all (w .cursor);
-  days = v .days;
+  days = whole-days b v;
 }
 
 -- ---- whose record is next
@@ -212,7 +219,7 @@ module _ (a b : List ℕ) (p : Places) (made : List Record) (w : WholeBytes a) (
         -- it is compared with the records of its day
         twin : (t : Bool) → isAmong (ofDay d (recordsIn a)) part ≡ t → isTwin (recordsIn a) (next .y) ≡ t
         twin t q =
-            sym (among-day (next .y) (cursor .good .0) (recordsIn a) (w .cursor .good) (w .days)) ∙ rw (← day, ← part-bytes) q
+            sym (among-day (next .y) (cursor .good .0) (recordsIn a) (w .cursor .good) (whole-days a w)) ∙ rw (← day, ← part-bytes) q
 
         pub stepped-dropped : isAmong (ofDay d (recordsIn a)) part ≡ true
             → Passed a b p made (record { first = p .first; second = p .second + size; since = since })

@@ -12,11 +12,12 @@ use Rattle.journal_spec.specs.Scan.{maxLength}
 use Rattle.journal_spec.specs.Model.{lengthsOf}
 use Rattle.journal_spec.specs.Cursor.{dayAt, recordsIn}
 use Rattle.journal_spec.proofs.Cursor.{Cursor}
+use Rattle.journal_spec.proofs.Whole.{WholeBytes}
 use Rattle.journal.specs.Numbers.{numberIn}
 use Rattle.merge_spec.specs.Records.{kept, from, byDay, mergedOf, fallFrom}
 use Rattle.merge_spec.specs.Merge.{MergeOutcome, fallOf, roomOf, firstRefusal, settleMerge}
 use Rattle.merge_spec.proofs.ByDay.{DaysFrom}
-use Rattle.merging.specs.Records.{WholeBytes, sourceOf}
+use Rattle.merging.specs.Records.{sourceOf}
 use Rattle.merging.specs.declared.parts.Part.{Part}
 use Rattle.merging.specs.declared.stepping.Places.{Places}
 use Rattle.merging.specs.declared.stepping.Step.{Step}

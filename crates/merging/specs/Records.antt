@@ -1,4 +1,4 @@
--- Bytes that are a whole journal, and places in them at which records stand.
+-- Places in the bytes of a whole journal at which records stand.
 -- Assumes nothing.
 use Prim.Native.Nat.{ℕ, _≤_}
 use mathlib.Core.List.{List, _∷_}
@@ -9,14 +9,7 @@ use Rattle.journal_spec.specs.Scan.{maxLength}
 use Rattle.journal_spec.specs.Cursor.{recordsIn}
 use Rattle.journal_spec.proofs.Cursor.{Cursor}
 use Rattle.merge_spec.specs.Records.{from}
-use Rattle.merge_spec.proofs.ByDay.{DaysFrom}
 use Rattle.merging.specs.declared.parts.Part.{Part}
-
--- records end to end and nothing else
-pub record WholeBytes (b : List ℕ) : Type 0 where
-  pub cursor : Cursor b 0 (recordsIn b)
-  pub days : DaysFrom 0 (recordsIn b)
-  pub short : length b ≤ maxLength
 
 -- records stand from the place `at` on, to the end of the bytes
 pub record Rest (b : List ℕ) (at : ℕ) : Type 0 where

@@ -2,10 +2,10 @@
 // forms fall in it, the second copies the records. Nothing is assumed of the slices, the lengths or the buffer, and no memory is needed.
 ghost use mathlib.Core.Path.{_≡_};
 ghost use Rattle.journal_spec.specs.Cursor.{recordsIn};
+ghost use Rattle.journal_spec.proofs.Whole.{WholeBytes};
 ghost use Rattle.merge_spec.specs.Records.{mergedOf};
 ghost use Rattle.merge_spec.specs.Merge.{mergeOf};
 ghost use Rattle.merging.specs.Answers.{outcomeOf};
-ghost use Rattle.merging.specs.Records.{WholeBytes};
 ghost use Rattle.merging.specs.Passes.{wholeOutcome};
 use crate::copying::copy;
 use crate::inputs::Inputs;

@@ -2,8 +2,8 @@
 // Nothing is written.
 ghost use mathlib.Core.Path.{_≡_};
 ghost use Rattle.journal_spec.specs.Cursor.{recordsIn};
+ghost use Rattle.journal_spec.proofs.Whole.{WholeBytes};
 ghost use Rattle.merge_spec.specs.Records.{mergedOf};
-ghost use Rattle.merging.specs.Records.{WholeBytes};
 ghost use Rattle.merging.specs.Passes.{measuredOf};
 use crate::parts::form_of;
 use crate::stepping::Places;

@@ -3,9 +3,10 @@
 ghost use mathlib.Core.Path.{_≡_};
 ghost use Rattle.journal_spec.specs.Cursor.{recordsIn};
 ghost use Rattle.journal_spec.proofs.Cursor.{Cursor};
+ghost use Rattle.journal_spec.proofs.Whole.{WholeBytes};
 ghost use Rattle.merge_spec.specs.Records.{isAmong, from};
 ghost use Rattle.merge_spec.proofs.SameDay.{ofDay};
-ghost use Rattle.merging.specs.Records.{WholeBytes, FromDay};
+ghost use Rattle.merging.specs.Records.{FromDay};
 use crate::parts::day_at;
 use crate::parts::size_at;
 use hex::same;

@@ -3,15 +3,15 @@
 use mathlib.Core.Path.{_≡_, refl, sym, ap, _∙_}
 use Prim.Native.Nat.{ℕ, zero, suc, _<_}
 use mathlib.Core.List.{List, [], _∷_}
-use mathlib.Core.Bool.{Bool, true, false, _||_}
+use mathlib.Core.Bool.{Bool, true, false}
 use mathlib.Core.Option.{some}
 use native.Mathlib.Omega.{arith}
 use lib.ListN.{length, getD}
 use Rattle.journal_spec.specs.Tests.{same}
 use Rattle.journal_spec.specs.Index.{IndexEntry, Order, lower, equal, higher, orderOf}
 use Rattle.journal_spec.proofs.Each.{same-lists}
-use Rattle.journal_spec.proofs.NameOrder.{lower-not-equal, higher-not-equal, order-self, order-turned, order-equal, order-lower}
-use Rattle.journal_spec.proofs.Indexes.{orElse, whereEqual, lookUp, Before, Rising}
+use Rattle.journal_spec.proofs.NameOrder.{lower-not-equal, order-self, order-equal}
+use Rattle.journal_spec.proofs.Indexes.{orElse, whereEqual, lookUp, Before, Rising, before-others}
 use Rattle.trial_spec.specs.Links.{Link}
 use Rattle.trial_spec.specs.Trial.{isNamed, isKnown}
 
@@ -27,24 +27,19 @@ lower-differs a b e = go (same a b) refl
     go false h = refl
     go true h = absurd (lower-not-equal (sym e ∙ ap (orderOf a) (sym (same-lists a b h)) ∙ order-self a))
 
--- a name that is before the first of rising entries is before the second
-before-next : (name : List ℕ) (e : IndexEntry) (es : List IndexEntry) → orderOf name (e .name) ≡ lower → Before (e .name) es → Before name es
-before-next name e [] h b = tt
-before-next name e (f ∷ es) h b = order-lower name (e .name) (f .name) h b
-
 -- a link of a name that is before all entries is unknown to them
 pub not-known : (name : List ℕ) (es : List IndexEntry) (l : Link) → Before name es → Rising es → isNamed name l ≡ true → isKnown es l ≡ false
 unfolding isKnown isNamed
 not-known name [] l b r h = refl
 not-known name (e ∷ es) l b r h =
     let differs : same (l .name) (e .name) ≡ false = rw (same-lists (l .name) name h) (lower-differs name (e .name) b) in
-    rw (differs, not-known name es l (before-next name e es b (r .0)) (r .1) h) refl
+    rw (differs, not-known name es l (before-others name e es b (r .0)) (r .1) h) refl
 
 -- the first of rising entries is lower than each later one
 pub first-lowest : (name : List ℕ) (es : List IndexEntry) (i : ℕ) → Before name es → Rising es → i < length es → orderOf name (getD es i noEntry .name) ≡ lower
 first-lowest name [] i b r h = absurd (omega arith)
 first-lowest name (e ∷ es) zero b r h = b
-first-lowest name (e ∷ es) (suc i) b r h = first-lowest name es i (before-next name e es b (r .0)) (r .1) (omega arith)
+first-lowest name (e ∷ es) (suc i) b r h = first-lowest name es i (before-others name e es b (r .0)) (r .1) (omega arith)
 
 -- each entry is looked up by its name
 pub own-start : (es : List IndexEntry) (i : ℕ) → Rising es → i < length es → lookUp (getD es i noEntry .name) es ≡ some (getD es i noEntry .start)

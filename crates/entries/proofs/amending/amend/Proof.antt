@@ -1,7 +1,7 @@
 -- `amend` makes room where the name has no entry, then writes the entry and the count.
 -- Assumes nothing.
 use mathlib.Core.Path.{_≡_, refl, sym, _∙_}
-use Prim.Native.Nat.{ℕ, _+_, _≤_}
+use Prim.Native.Nat.{ℕ, _≤_}
 use mathlib.Core.List.{List}
 use native.Mathlib.Omega.{arith}
 use denote.Ref.{now}
@@ -14,7 +14,7 @@ use Rattle.journal_spec.proofs.Numbers.{are-bytes}
 use Rattle.entries.specs.Entries.{entriesIn}
 use Rattle.entries.specs.Places.{endOf, findIn}
 use Rattle.entries.specs.Amending.{nextBytes}
-use Rattle.entries.proofs.Amended.{amend-none, place-among, opening, opening-room, entry-room, amend-written}
+use Rattle.entries.proofs.Amended.{amend-none, place-among, opening, opening-room, amend-written}
 use Rattle.entries.proofs.amending.amend.Statement.{statement}
 use Rattle.entries.proofs.amending.amend.Tie as tie
 
@@ -41,9 +41,6 @@ found c = c .before .before .find .ensures
 ends : (c : tie.After-end-of) → c .end-of .result ≡ endOf (entriesIn (bufferOf c))
 ends c = c .end-of .ensures
 
-fits : (c : tie.After-end-of) → c .before .before .find .result .place + length (newOf c .name) + 6 ≤ length (bufferOf c)
-fits c = entry-room _ (newOf c) _ _ (found c) (ends c) (bytes c) (room c)
-
 returns : tie.Need-returns
 returns c = amend-none _ _ (sym (c .before .has-room .ensures _) ∙ not-true _ (c .if1 .taken))
 
@@ -53,17 +50,11 @@ open-requires c κs =
     let o = opening _ (newOf e) _ _ (found e) (ends e) (bytes e) (room e) in
     ((place-among _ (newOf e) _ _ (found e) (ends e), o .0, o .1), opening-room _ (newOf e) _ _ (found e) (ends e) (bytes e) (room e))
 
-put-entry-requires : tie.Need-put-entry-requires
-put-entry-requires c κs = omega (arith, fits (c .before .before .before .before .before))
-
-put-count-requires : tie.Need-put-count-requires
-put-count-requires c κs = omega (arith, fits (c .before .before .before .before .before .before .before .before .before))
-
 returns-2 : tie.Need-returns-2
 returns-2 c =
     let e = c .before .before .before .before .before .before .before .before .before .before .before .before in
     amend-written _ (newOf e) _ _ (found e) (ends e) (bytes e) (room e) _ _ _ refl
-    (c .before .before .before .before .before .before .before .before .before .before .open .ensures) _ _
+    (c .before .before .before .before .before .before .before .before .before .before .open .ensures) _ _ _ _ (omega arith)
     (c .before .before .before .before .before .before .put-entry .ensures) (c .before .before .put-count .ensures)
 
 pub amend-spec : {M : Type 1} → statement M
@@ -77,7 +68,7 @@ amend-spec =
     (λ c κs. search needs)
     (λ c. search needs)
     open-requires
-    put-entry-requires
-    put-count-requires
+    (λ c κs. search needs)
+    (λ c κs. search needs)
     (λ c. search needs)
     returns-2)

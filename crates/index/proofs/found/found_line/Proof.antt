@@ -3,13 +3,13 @@
 use native.Mathlib.Omega.{arith}
 use borrow.Author.Needs.{needs}
 use Rattle.listing.proofs.Putting.{put-as}
-use Rattle.index.specs.Verdict.{wordDeclined}
+use Rattle.index.specs.Verdict.{wordDeclined, numbered}
 use Rattle.index.proofs.Looking.{found-none, found-some}
 use Rattle.index.proofs.found.found_line.Statement.{statement}
 use Rattle.index.proofs.found.found_line.Tie as tie
 
 returns : tie.Need-returns
-unfolding wordDeclined
+unfolding numbered wordDeclined
 returns c =
     let called = c .before .before in
     let sized = called .before .before .before .before .named-size in

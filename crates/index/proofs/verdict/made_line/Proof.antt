@@ -3,16 +3,16 @@
 use borrow.Author.Needs.{needs}
 use Rattle.listing.specs.Listing.{wordDamaged, stateLine}
 use Rattle.indexing.specs.Made.{madeMeaning}
-use Rattle.index.specs.Verdict.{wordIndexed, wordDeclined, madeLine}
+use Rattle.index.specs.Verdict.{wordIndexed, wordDeclined, numbered, madeLine}
 use Rattle.index.proofs.verdict.made_line.Statement.{statement}
 use Rattle.index.proofs.verdict.made_line.Tie as tie
 
 returns : tie.Need-returns
-unfolding madeLine madeMeaning wordIndexed
+unfolding madeLine madeMeaning numbered wordIndexed
 returns c = rw (c .before .before .before .before .before .before .answer .given .1) (c .before .before .put-word .ensures)
 
 returns-2 : tie.Need-returns-2
-unfolding madeLine madeMeaning wordDeclined
+unfolding madeLine madeMeaning numbered wordDeclined
 returns-2 c = rw (c .before .before .before .before .before .before .answer2 .given .1) (c .before .before .put-word2 .ensures)
 
 returns-3 : tie.Need-returns-3

@@ -3,16 +3,16 @@
 use borrow.Author.Needs.{needs}
 use Rattle.listing.specs.Listing.{wordDamaged, stateLine}
 use Rattle.indexing.specs.Checked.{checkMeaning}
-use Rattle.index.specs.Verdict.{wordOwn, wordDeclined, checkedLine}
+use Rattle.index.specs.Verdict.{wordOwn, wordDeclined, numbered, checkedLine}
 use Rattle.index.proofs.verdict.said_line.Statement.{statement}
 use Rattle.index.proofs.verdict.said_line.Tie as tie
 
 returns : tie.Need-returns
-unfolding checkedLine checkMeaning wordOwn
+unfolding checkedLine checkMeaning numbered wordOwn
 returns c = rw (c .before .before .before .before .before .enum-told .given .1) (c .before .before .put-word .ensures)
 
 returns-2 : tie.Need-returns-2
-unfolding checkedLine checkMeaning wordDeclined
+unfolding checkedLine checkMeaning numbered wordDeclined
 returns-2 c = rw (c .before .before .before .before .before .enum-told2 .given .1) (c .before .before .put-word2 .ensures)
 
 returns-3 : tie.Need-returns-3
