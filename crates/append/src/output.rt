@@ -62,7 +62,7 @@ pub(crate) fn usage() {
         With --profile the volume is one for safety controllers: every record in it and the new one has form 2,\n\
         the chances 1 10 100 1000 and 32 ticks or more, else it is 19.\n\
         With --index the file INDEX holds the volume's index, else it is 14, and is amended after the volume is\n\
-        written; a missing one is the index of an empty volume. The program index makes a volume's index anew.\n",
+        written; a missing or empty one is that of an empty volume. The program index makes a volume's index anew.\n",
         b"append: it takes FILE DAY NAME CHANCE.., --profile, --index INDEX and --log before them, or --help\n",
         b"append: standard output",
     );
