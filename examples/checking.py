@@ -71,6 +71,23 @@ def ticks(leaf):
     return " ".join(map(str, leaf.times)).encode("ascii")
 
 
+def synced(what, folder, command, data, verdict, calls):
+    """By the system's calls, where strace can show them: a command's writes and syncs come in this order, and the verdict's is the last."""
+    trace = os.path.join(folder, "trace")
+    words = ["strace", "-o", trace, "-e", "trace=fsync,write", *command]
+    try:
+        done = subprocess.run(words, input=data, capture_output=True, timeout=WAIT)
+    except FileNotFoundError:
+        done = None
+    if done is None or not done.stdout.startswith(verdict):
+        count("traces left out: there is no strace, or it may not trace")
+        return
+    lines = [line.split("(") for line in read(trace).decode("ascii").splitlines() if "(" in line]
+    expect(f"{what}: the order of syncs", [line[0] for line in lines], calls)
+    expect(f"{what}: the verdict", lines[-1][1].startswith("1,"), True)
+    count("orders of syncs")
+
+
 # ---- What the book says.
 
 

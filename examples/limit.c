@@ -1,37 +1,24 @@
 /* limit [--form FORM] CHANCE TICKS..: mean, spread, quantile and limit of the times at a chance in a million, each as its 16 hexadecimal
    digits and in decimal, or the refusal's number; under form 2, which every new record has, unless another is said. Shows how a C program calls the library. */
-#include <errno.h>
 #include <inttypes.h>
 #include <stdio.h>
 #include <stdlib.h>
 #include <string.h>
 
 #include "awaqlla.h"
-
-/* A decimal number of 32 bits; anything else ends the program. */
-static uint32_t number(const char *text)
-{
-    char *end;
-    errno = 0;
-    unsigned long value = strtoul(text, &end, 10);
-    if (text[0] < '0' || text[0] > '9' || *end != 0 || errno != 0 || value > UINT32_MAX) {
-        fprintf(stderr, "limit: not a number of 32 bits: %s\n", text);
-        exit(2);
-    }
-    return (uint32_t)value;
-}
+#include "words.h"
 
 int main(int argc, char **argv)
 {
     uint32_t form = 2;
     int at = 1; /* the chance */
     if (argc > 2 && strcmp(argv[1], "--form") == 0) {
-        form = number(argv[2]);
+        form = number("limit", argv[2]);
         at = 3;
     }
     if (argc <= at || strcmp(argv[at], "--help") == 0) {
         fprintf(argc <= at ? stderr : stdout, "usage: limit [--form FORM] CHANCE TICKS..\n");
-        return argc <= at ? 2 : 0;
+        return ended("limit", argc <= at ? 2 : 0);
     }
     size_t n = (size_t)(argc - at) - 1;
     uint32_t *times = malloc((n + 1) * sizeof *times);
@@ -40,13 +27,13 @@ int main(int argc, char **argv)
         return 2;
     }
     for (size_t i = 0; i < n; i++)
-        times[i] = number(argv[(size_t)at + 1 + i]);
+        times[i] = number("limit", argv[(size_t)at + 1 + i]);
     uint64_t out[5];
-    limit_bits(form, times, n, number(argv[at]), out);
+    limit_bits(form, times, n, number("limit", argv[at]), out);
     free(times);
     if (out[0] == LIMIT_REFUSED) {
         printf("refused %" PRIu64 "\n", out[1]);
-        return 1;
+        return ended("limit", 1);
     }
     static const char *const names[] = {"mean", "spread", "quantile", "limit"};
     for (size_t i = 0; i < 4; i++) {
@@ -54,5 +41,5 @@ int main(int argc, char **argv)
         memcpy(&figure, &out[i + 1], sizeof figure);
         printf("%-8s %016" PRIx64 " %.17g\n", names[i], out[i + 1], figure);
     }
-    return 0;
+    return ended("limit", 0);
 }

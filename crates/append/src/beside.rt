@@ -17,8 +17,8 @@ pub(crate) fn index_room() -> [u8; 65_537]
     [255; 65_537]
 }
 
-// Opens the index's file and reads it. A missing one, for which -1 is answered, is the index of an empty volume. Where that fails, what failed
-// is said and -2 is answered.
+// Opens the index's file and reads it. A missing one, for which -1 is answered, and an empty one, which a stop or a full disk leaves where it was
+// made, are the index of an empty volume. Where that fails, what failed is said and -2 is answered.
 pub(crate) fn open_index(path: &[u8], index: &mut [u8]) -> i32 {
     let fd = os::open_update(path);
     if fd < 0 {
@@ -37,6 +37,9 @@ pub(crate) fn open_index(path: &[u8], index: &mut [u8]) -> i32 {
     if read.failed {
         fail_file(path);
         return -2;
+    }
+    if read.size == 0 {
+        clear_count(index);
     }
     fd
 }

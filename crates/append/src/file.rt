@@ -51,7 +51,7 @@ pub(crate) fn append_to_file(
     append_beside(index_at, &path[..size], day, name, chances, ticks, rule);
 }
 
-// Reads the index's file, or takes a missing one as the index of an empty volume.
+// Reads the index's file, or takes a missing one or an empty one as the index of an empty volume.
 fn append_beside(
     index_at: usize,
     path: &[u8],
@@ -65,6 +65,10 @@ fn append_beside(
     let size = os::arg(index_at, &mut beside);
     if size == 0 {
         complain(b"INDEX: an empty name, or one of more than 4096 bytes");
+        return;
+    }
+    if hex::same(path, &beside[..size]) {
+        complain(b"INDEX: the name of FILE, and the index is another file");
         return;
     }
     let mut index = index_room();

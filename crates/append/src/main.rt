@@ -46,7 +46,7 @@ fn append_on(o: Options, day: u16)
     let read = input::chances(from + 3, &mut chances);
     let count = read.count;
     if read.wrong > 0 {
-        output::malformed(b"CHANCE", read.wrong);
+        output::malformed(b"CHANCE", read.wrong, b"1 to 500000");
         return;
     }
     if o.log {

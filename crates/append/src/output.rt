@@ -29,22 +29,21 @@ pub(crate) fn complain(what: &[u8]) {
     arguments::complain(b"append: ", what);
 }
 
-// The argument of a kind, counted from 1, that is no number.
-pub(crate) fn malformed(what: &[u8], which: usize) {
+// The word of a kind, counted from 1, that is no number, and between which numbers one is good.
+pub(crate) fn malformed(what: &[u8], which: usize, range: &[u8]) {
     io::write_all(2, b"append: ");
     io::write_all(2, what);
     io::write_all(2, b" ");
     io::print_decimal(2, which as u64);
-    io::write_all(
-        2,
-        b": not a decimal number from 0 to 4294967295 without leading zeros\n",
-    );
+    io::write_all(2, b": not a decimal number from ");
+    io::write_all(2, range);
+    io::write_all(2, b" without leading zeros\n");
 }
 
 // The tick behind so many that is no number.
 pub(crate) fn malformed_tick(before: usize) {
     if before < 32_768 {
-        malformed(b"standard input: tick", before + 1);
+        malformed(b"standard input: tick", before + 1, b"1 to 1048575");
     }
 }
 
@@ -62,7 +61,7 @@ pub(crate) fn usage() {
         With --profile the volume is one for safety controllers: every record in it and the new one has form 2,\n\
         the chances 1 10 100 1000 and 32 ticks or more, else it is 19.\n\
         With --index the file INDEX holds the volume's index, else it is 14, and is amended after the volume is\n\
-        written; a missing one is the index of an empty volume. The program index makes a volume's index anew.\n",
+        written; a missing or empty one is that of an empty volume. The program index makes a volume's index anew.\n",
         b"append: it takes FILE DAY NAME CHANCE.., --profile, --index INDEX and --log before them, or --help\n",
         b"append: standard output",
     );

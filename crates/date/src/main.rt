@@ -32,7 +32,7 @@ fn print_from(first: u32)
         return;
     }
     match input::day(2) {
-        Number::Value(last) => output::print_days(first, last),
+        Number::Value(last) => output::print_rising(first, last),
         Number::Nothing => output::usage(),
     }
 }

@@ -3,7 +3,18 @@
 ghost use Prim.Native.Nat.{_<_, _^_};
 use calendar::put_date;
 
-// The dates from a day to a last one.
+// The dates from a day to a last one, which is not before it.
+pub(crate) fn print_rising(first: u32, last: u32)
+    requires { ⌜ last < 2 ^ 16 ⌝ }
+{
+    if last < first {
+        arguments::complain(b"date: ", b"LAST: a day before DAY");
+        return;
+    }
+    print_days(first, last);
+}
+
+// The dates from a day to a last one, none where that is before it.
 pub(crate) fn print_days(first: u32, last: u32)
     requires { ⌜ last < 2 ^ 16 ⌝ }
 {

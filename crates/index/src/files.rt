@@ -1,5 +1,5 @@
 // The files: volume and index are read to their ends, or one record of the volume at its place; the index is written whole, new or over the old
-// one. A file that holds records, as a volume does, is not written over.
+// one. A file that holds records, as a volume does, or that does not begin as an index does, is not written over.
 ghost use mathlib.Core.Path.{_≡_};
 ghost use mathlib.Core.Bool.{true};
 ghost use Rattle.io.specs.Counts.{Counts};
@@ -156,7 +156,27 @@ fn admitted(path: &[u8], fd: i32) -> i32 {
         );
         return -1;
     }
+    if !may_be_index(&room[..size]) {
+        refuse(path, b": it is no index, and is not written over\n");
+        return -1;
+    }
     fd
+}
+
+// Whether bytes may be an index, also one that is half written: it has no entries, or the count of the first name's bytes is that of a name, if so
+// much stands.
+fn may_be_index(b: &[u8]) -> bool {
+    if b.len() < 4 {
+        return true;
+    }
+    if journal::number_in(b, 0, 2) == 0 {
+        return true;
+    }
+    let count = journal::number_in(b, 2, 2);
+    if count == 0 {
+        return false;
+    }
+    count <= 32
 }
 
 // Whether a position can be set, as in a regular file. The position is the start afterwards.

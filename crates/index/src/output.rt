@@ -36,7 +36,7 @@ pub(crate) fn usage() {
     arguments::usage(
         b"usage: index --make VOLUME INDEX | index --check VOLUME INDEX | index VOLUME INDEX NAME\n\
         An index holds each name of a volume's records, in order, and where its last record starts. With --make the file INDEX is made or\n\
-        written over, and the line is indexed with its length; a file that holds records is not written over. With --check the line is own\n\
+        written over, and the line is indexed with its length; what holds records, or is no index, is not written over. With --check the line is own\n\
         with the index's length, or declined 14 where INDEX does not begin with the volume's index. Both say damaged with the fault's number\n\
         and place. Else NAME is looked up: INDEX and one record are read, and the line is the record's in the listing; refused 10 where INDEX\n\
         does not have the name; declined 14 where no record of the name stands at its start; or damaged. The record is judged alone: that\n\

@@ -8,8 +8,8 @@ use Rattle.date.proofs.print_from.Tie as tie
 print-days-requires : tie.Need-print-days-requires
 print-days-requires c κs = omega (arith, c .before .before .pre)
 
-print-days-requires-2 : tie.Need-print-days-requires-2
-print-days-requires-2 c κs = let below = c .before .before .before .day .ensures _ (c .before .last .given .1) in omega (arith, below)
+print-rising-requires : tie.Need-print-rising-requires
+print-rising-requires c κs = let below = c .before .before .before .day .ensures _ (c .before .last .given .1) in omega (arith, below)
 
 pub print-from-spec : {M : Type 1} → statement M
 print-from-spec =
@@ -20,7 +20,7 @@ print-from-spec =
     (λ c. search needs)
     (λ c κs. search needs)
     (λ c. search needs)
-    print-days-requires-2
+    print-rising-requires
     (λ c. search needs)
     (λ c κs. search needs)
     (λ c. search needs)
