@@ -3,5 +3,6 @@
 pub mod AppendOutcome
 pub mod IndexOutcome
 pub mod LineAt
+pub mod Listed
 pub mod MergeOutcome
 pub mod TrialWords

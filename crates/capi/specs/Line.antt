@@ -1,7 +1,7 @@
 -- Line i of a listing (document 01, Marks and listing), counted from 0.
 -- Lines follow as crate listing defines them.
 use Prim.Native.Nat.{ℕ, zero, suc}
-use mathlib.Core.List.{List}
+use mathlib.Core.List.{List, [], _++_}
 use Rattle.journal_spec.specs.Profile.{plain}
 use Rattle.listing.specs.Lines.{Position, startOf, step}
 
@@ -13,3 +13,8 @@ positionAfter (suc i) p b = positionAfter i (step p b .position) b
 -- line i of the listing of some bytes; empty behind the line of the end state
 unfoldable pub lineAt : ℕ → List ℕ → List ℕ
 lineAt i b = step (positionAfter i (startOf plain b) b) b .text
+
+-- the first n lines, one behind another: where n is above the number of the records listed, the listing (law `lines-listed`)
+unfoldable pub linesUpto : ℕ → List ℕ → List ℕ
+linesUpto zero b = []
+linesUpto (suc n) b = linesUpto n b ++ lineAt n b
