@@ -1,5 +1,5 @@
 // Output gathered in a lent room, so that one write takes many texts: a text waits behind the others until the next has no place.
-// What is written, piece by piece, and what still waits are the texts in their order (`gathered-whole`).
+// Pieces so made and what still waits are the texts in their order (`gathered-whole`); that each piece is written, once, no contract sees.
 ghost use mathlib.Core.Path.{_≡_};
 ghost use Prim.Native.Nat.{min};
 ghost use lib.ListN.{length};

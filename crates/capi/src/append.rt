@@ -22,11 +22,27 @@ pub extern "C" fn journal_append(
 )
     ensures { λ r. ⌜ now (v .exit)
         ≡ appendOf (record { slice = now (v .entry); len = len })
-        (record { day = day; name = now (name .entry); chances = now (chances .entry); source = Request.times (now (times .entry)); budget = all; rule = plain; index = none })
+        (record {
+          day = day;
+          name = now (name .entry);
+          chances = now (chances .entry);
+          source = Request.times (now (times .entry));
+          budget = all;
+          rule = plain;
+          index = none;
+        })
         .journal .slice ⌝ }
     ensures { λ r. ⌜ now (out .exit) ≡ appendWords
         (appendOf (record { slice = now (v .entry); len = len })
-        (record { day = day; name = now (name .entry); chances = now (chances .entry); source = Request.times (now (times .entry)); budget = all; rule = plain; index = none })
+        (record {
+          day = day;
+          name = now (name .entry);
+          chances = now (chances .entry);
+          source = Request.times (now (times .entry));
+          budget = all;
+          rule = plain;
+          index = none;
+        })
         .answer) ⌝ }
 {
     let a = journal::append(v, len, day, name, chances, times);
@@ -46,11 +62,27 @@ pub extern "C" fn journal_append_upto(
 )
     ensures { λ r. ⌜ now (v .exit)
         ≡ appendOf (record { slice = now (v .entry); len = len })
-        (record { day = day; name = now (name .entry); chances = now (chances .entry); source = Request.times (now (times .entry)); budget = upTo budget; rule = plain; index = none })
+        (record {
+          day = day;
+          name = now (name .entry);
+          chances = now (chances .entry);
+          source = Request.times (now (times .entry));
+          budget = upTo budget;
+          rule = plain;
+          index = none;
+        })
         .journal .slice ⌝ }
     ensures { λ r. ⌜ now (out .exit) ≡ appendWords
         (appendOf (record { slice = now (v .entry); len = len })
-        (record { day = day; name = now (name .entry); chances = now (chances .entry); source = Request.times (now (times .entry)); budget = upTo budget; rule = plain; index = none })
+        (record {
+          day = day;
+          name = now (name .entry);
+          chances = now (chances .entry);
+          source = Request.times (now (times .entry));
+          budget = upTo budget;
+          rule = plain;
+          index = none;
+        })
         .answer) ⌝ }
 {
     let a = journal::append_upto(v, len, day, name, chances, times, budget);

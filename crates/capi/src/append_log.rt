@@ -21,11 +21,27 @@ pub extern "C" fn journal_append_log(
 )
     ensures { λ r. ⌜ now (v .exit)
         ≡ appendOf (record { slice = now (v .entry); len = len })
-        (record { day = day; name = now (name .entry); chances = now (chances .entry); source = Request.log (now (log .entry)); budget = all; rule = plain; index = none })
+        (record {
+          day = day;
+          name = now (name .entry);
+          chances = now (chances .entry);
+          source = Request.log (now (log .entry));
+          budget = all;
+          rule = plain;
+          index = none;
+        })
         .journal .slice ⌝ }
     ensures { λ r. ⌜ now (out .exit) ≡ appendWords
         (appendOf (record { slice = now (v .entry); len = len })
-        (record { day = day; name = now (name .entry); chances = now (chances .entry); source = Request.log (now (log .entry)); budget = all; rule = plain; index = none })
+        (record {
+          day = day;
+          name = now (name .entry);
+          chances = now (chances .entry);
+          source = Request.log (now (log .entry));
+          budget = all;
+          rule = plain;
+          index = none;
+        })
         .answer) ⌝ }
 {
     let a = journal::append_log(v, len, day, name, chances, log);
@@ -45,11 +61,27 @@ pub extern "C" fn journal_append_log_upto(
 )
     ensures { λ r. ⌜ now (v .exit)
         ≡ appendOf (record { slice = now (v .entry); len = len })
-        (record { day = day; name = now (name .entry); chances = now (chances .entry); source = Request.log (now (log .entry)); budget = upTo budget; rule = plain; index = none })
+        (record {
+          day = day;
+          name = now (name .entry);
+          chances = now (chances .entry);
+          source = Request.log (now (log .entry));
+          budget = upTo budget;
+          rule = plain;
+          index = none;
+        })
         .journal .slice ⌝ }
     ensures { λ r. ⌜ now (out .exit) ≡ appendWords
         (appendOf (record { slice = now (v .entry); len = len })
-        (record { day = day; name = now (name .entry); chances = now (chances .entry); source = Request.log (now (log .entry)); budget = upTo budget; rule = plain; index = none })
+        (record {
+          day = day;
+          name = now (name .entry);
+          chances = now (chances .entry);
+          source = Request.log (now (log .entry));
+          budget = upTo budget;
+          rule = plain;
+          index = none;
+        })
         .answer) ⌝ }
 {
     let a = journal::append_log_upto(v, len, day, name, chances, log, budget);
