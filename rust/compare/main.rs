@@ -15,6 +15,7 @@ mod tally;
 
 use options::{Options, USAGE};
 use std::process::ExitCode;
+use std::thread;
 use tally::Totals;
 
 fn main() -> ExitCode {
@@ -31,23 +32,24 @@ fn main() -> ExitCode {
         }
     };
     println!("compare: scale {}, seed {}", options.scale, options.seed);
-    let mut totals = Totals::default();
-    if options.runs("numbers") {
-        functions::compare(&options, &mut totals);
-        product::compare(&options, &mut totals);
-        logarithms::compare(&mut totals);
-        root::compare(&options, &mut totals);
-        quantile::compare(&options, &mut totals);
-        limit::compare(&options, &mut totals);
-    }
-    if options.runs("inverse") {
-        if let Err(message) = inverse::compare(&options, &mut totals) {
+    // The numbers beside the rest: the two have no input in common, and the lines of their groups come as each group ends.
+    let (numbers, rest) = thread::scope(|scope| {
+        let numbers = scope.spawn(|| numbers(&options));
+        let rest = inverse_and_journal(&options);
+        (numbers.join(), rest)
+    });
+    let (numbers, rest) = match (numbers, rest) {
+        (Ok(numbers), Ok(rest)) => (numbers, rest),
+        (_, Err(message)) => {
             eprintln!("compare: {message}");
             return ExitCode::from(2);
         }
-        band::compare(&options, &mut totals);
-    }
-    journal::compare(&options, &mut totals);
+        (Err(_), _) => return ExitCode::from(2),
+    };
+    let totals = Totals {
+        results: numbers.results + rest.results,
+        differ: numbers.differ + rest.differ,
+    };
     println!(
         "compare: {} results compared, {} differ",
         totals.results, totals.differ
@@ -57,4 +59,27 @@ fn main() -> ExitCode {
     } else {
         ExitCode::SUCCESS
     }
+}
+
+fn numbers(options: &Options) -> Totals {
+    let mut totals = Totals::default();
+    if options.runs("numbers") {
+        functions::compare(options, &mut totals);
+        product::compare(options, &mut totals);
+        logarithms::compare(&mut totals);
+        root::compare(options, &mut totals);
+        quantile::compare(options, &mut totals);
+        limit::compare(options, &mut totals);
+    }
+    totals
+}
+
+fn inverse_and_journal(options: &Options) -> Result<Totals, String> {
+    let mut totals = Totals::default();
+    if options.runs("inverse") {
+        inverse::compare(options, &mut totals)?;
+        band::compare(options, &mut totals);
+    }
+    journal::compare(options, &mut totals);
+    Ok(totals)
 }
