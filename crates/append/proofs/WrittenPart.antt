@@ -14,7 +14,7 @@ use Rattle.journal_spec.specs.Refusals.{firstOf}
 use Rattle.journal_spec.specs.Record.{recordBytes}
 use Rattle.journal_spec.specs.Profile.{Rule}
 use Rattle.journal_spec.specs.Scan.{maxLength, Placed, Contents, standing, faulty, contentsOf, ScanResult, statusOf, scanOf}
-use Rattle.journal_spec.specs.Request.{Journal, Offer, gatherBy, timesOf, timesIn, offerOf, allowed, AppendResult, extended, declined, declinedAt}
+use Rattle.journal_spec.specs.Request.{Journal, Offer, gatherBy, timesOf, gatheredTimes, offerOf, allowed, AppendResult, extended, declined, declinedAt}
 use Rattle.journal_spec.specs.Request.{damaged, Outcome}
 use Rattle.journal_spec.specs.Append.{limitsOf, offered, judgeRoom, appendRefusals, written, unchanged, extend, settle, appendTo, appendWith, appendOf}
 use Rattle.journal_spec.proofs.Judging.{none-at, unless-none}
@@ -47,7 +47,7 @@ pub record Extended (slice : List ℕ) (len : ℕ) (rule : Rule) (o : Offer) (n 
 -- an offer that nothing refuses has room
 room-found : (room : ℕ) (ps : List Placed) (c : ℕ) (rule : Rule) (o : Offer) (i : Option (List ℕ)) → firstOf (appendRefusals room ps c (allOf rule o i)) ≡ 0
     → c + length (recordBytes (offered o)) ≤ min room maxLength
-unfolding appendRefusals judgeRoom offerOf timesOf gatherBy timesIn
+unfolding appendRefusals judgeRoom offerOf timesOf gatherBy gatheredTimes
 room-found room ps c rule o i h =
     leb-true _ _ (unless-none (leb (c + length (recordBytes (offered o))) (min room maxLength)) 8 (none-at _ h 6))
 
@@ -65,7 +65,7 @@ taken (suc refusal) j i next c new n e = let z : _≡_ {A = ℕ} 0 1 = cc in abs
 
 pub append-extended : (slice : List ℕ) (len : ℕ) (rule : Rule) (o : Offer) (i : Option (List ℕ)) (n : ℕ) → appendAll slice len rule o i .answer ≡ extended n
     → Extended slice len rule o n (appendAll slice len rule o i .journal .slice)
-unfolding appendOf appendWith timesOf gatherBy timesIn offerOf appendTo allowed unchanged scanOf
+unfolding appendOf appendWith timesOf gatherBy gatheredTimes offerOf appendTo allowed unchanged scanOf
 append-extended slice len rule o i n = go (contentsOf rule slice len) refl
   where
     bytes : List ℕ
@@ -101,7 +101,7 @@ settled-unwritten (suc refusal) j i next c new u = refl
 
 pub append-unwritten : (slice : List ℕ) (len : ℕ) (rule : Rule) (o : Offer) (i : Option (List ℕ)) → Unwritten (appendAll slice len rule o i .answer)
     → appendAll slice len rule o i .journal .slice ≡ slice
-unfolding appendOf appendWith timesOf gatherBy timesIn offerOf appendTo unchanged
+unfolding appendOf appendWith timesOf gatherBy gatheredTimes offerOf appendTo unchanged
 append-unwritten slice len rule o i = go (contentsOf rule slice len)
   where
     go : (x : Contents) → Unwritten (appendTo x (record { slice = slice; len = len }) (allOf rule o i) .answer)

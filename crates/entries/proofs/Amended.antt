@@ -18,7 +18,8 @@ use Rattle.journal_spec.specs.Append.{written}
 use Rattle.journal_spec.proofs.Reading.{by-test}
 use Rattle.journal_spec.proofs.NameOrder.{order-equal}
 use Rattle.journal_spec.proofs.Numbers.{length-bytes}
-use Rattle.journal_spec.proofs.IndexLoop.{entriesSize, entry-size, entries-size, index-size, size-append, entries-least, entries-append}
+use Rattle.journal_spec.specs.Index.{entriesSize}
+use Rattle.journal_spec.proofs.IndexLoop.{entry-size, entries-size, index-size, size-append, entries-least, entries-append}
 use Rattle.entries.specs.Entries.{entriesIn}
 use Rattle.entries.specs.Places.{endOf, foundBy, findIn}
 use Rattle.entries.specs.Amending.{nextBytes, amendedIn, Opened}

@@ -12,7 +12,7 @@ use lib.Seq.{length-take-le}
 use borrow.Author.Tests.{le-leb, lt-leb, leb-true, leb-false}
 use Rattle.journal_spec.specs.Bytes.{numberAt}
 use Rattle.journal_spec.specs.Index.{IndexEntry}
-use Rattle.journal_spec.proofs.IndexLoop.{entriesSize}
+use Rattle.journal_spec.specs.Index.{entriesSize}
 use Rattle.journal_spec.proofs.Reading.{by-test}
 use Rattle.journal.specs.Numbers.{numberIn}
 use Rattle.journal.proofs.NumberStands.{number-stands}

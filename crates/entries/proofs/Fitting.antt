@@ -13,7 +13,8 @@ use Rattle.journal_spec.specs.Index.{IndexEntry, Order, lower, equal, higher, o
 use Rattle.journal_spec.proofs.Ranged.{encoding-length}
 use Rattle.journal_spec.proofs.Places.{placedFrom}
 use Rattle.journal_spec.proofs.Cursor.{AllGood, Cursor}
-use Rattle.journal_spec.proofs.Indexes.{Before, Rising, enroll-before, same-index, amended-is}
+use Rattle.journal_spec.specs.Indexed.{Before, Rising}
+use Rattle.journal_spec.proofs.Indexes.{enroll-before, same-index, amended-is}
 use Rattle.journal_spec.proofs.IndexAfter.{enroll-count}
 use Rattle.journal_spec.proofs.Pieces.{name-bytes}
 use Rattle.entries.proofs.Indexed.{Fits, AllFit, IndexHere, index-here}

@@ -14,7 +14,8 @@ use Rattle.journal_spec.specs.Bytes.{numberAt}
 use Rattle.journal_spec.specs.Index.{IndexEntry, equal, orderOf}
 use Rattle.journal_spec.proofs.NameOrder.{order-equal}
 use Rattle.journal_spec.proofs.Reading.{by-test}
-use Rattle.journal_spec.proofs.Indexes.{lookUp, own, other}
+use Rattle.journal_spec.specs.Indexed.{lookUp}
+use Rattle.journal_spec.proofs.Indexes.{own, other}
 use Rattle.journal.specs.Numbers.{numberIn}
 use Rattle.entries.specs.Entries.{nameAt, startAt, sizeAt, startIn, entriesFrom, entriesIn}
 use Rattle.entries.proofs.ByCounts.{Here, size-here, start-stands, entries-end, entries-none, entries-more, count-read}

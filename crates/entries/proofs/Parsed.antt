@@ -17,7 +17,7 @@ use Rattle.journal_spec.specs.Index.{IndexEntry, Order, lower, equal, higher, o
 use Rattle.journal_spec.proofs.Numbers.{bytes-take, bytes-drop, value-small, bytes-value}
 use Rattle.journal_spec.proofs.Each.{same-self}
 use Rattle.journal_spec.proofs.Reading.{by-test}
-use Rattle.journal_spec.proofs.Indexes.{Before, Rising}
+use Rattle.journal_spec.specs.Indexed.{Before, Rising}
 use Rattle.entries.specs.Entries.{nameAt, startAt, behindEntry, entriesFrom, entriesIn}
 use Rattle.entries.specs.Shape.{isLower, isBelow, standFrom, isIndex}
 use Rattle.entries.proofs.Indexed.{Fits, Entries, entry-read, IndexHere}

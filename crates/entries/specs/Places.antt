@@ -5,7 +5,7 @@ use mathlib.Core.List.{List, [], _∷_}
 use mathlib.Core.Bool.{true, false}
 use lib.ListN.{length}
 use Rattle.journal_spec.specs.Index.{IndexEntry, Order, lower, equal, higher, orderOf}
-use Rattle.journal_spec.proofs.IndexLoop.{entriesSize}
+use Rattle.journal_spec.specs.Index.{entriesSize}
 use Rattle.entries.specs.declared.walking.End.{End}
 use Rattle.entries.specs.declared.finding.Found.{Found}
 

@@ -4,7 +4,7 @@ ghost use mathlib.Core.Path.{_≡_};
 ghost use Prim.Native.Nat.{_<_};
 ghost use Rattle.hex.specs.Same.{sameBytes};
 ghost use Rattle.journal_spec.specs.Index.{orderOf};
-ghost use Rattle.journal_spec.proofs.Indexes.{lookUp};
+ghost use Rattle.journal_spec.specs.Indexed.{lookUp};
 ghost use Rattle.entries.specs.Entries.{nameAt, sizeAt, entriesIn};
 ghost use Rattle.entries.specs.Places.{findIn};
 ghost use Rattle.entries.specs.Answers.{orderMeaning, startMeaning};

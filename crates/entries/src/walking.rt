@@ -3,7 +3,7 @@
 ghost use mathlib.Core.Path.{_≡_};
 ghost use Prim.Native.Nat.{_+_};
 ghost use lib.ListN.{take};
-ghost use Rattle.journal_spec.proofs.IndexLoop.{entriesSize};
+ghost use Rattle.journal_spec.specs.Index.{entriesSize};
 ghost use Rattle.entries.specs.Entries.{sizeAt, startIn, entriesFrom, entriesIn};
 ghost use Rattle.entries.specs.Places.{endOf};
 use journal::number_in;

@@ -23,7 +23,8 @@ use Rattle.journal_spec.proofs.Writing.{written-nil, written-two}
 use Rattle.journal_spec.proofs.Places.{placedFrom}
 use Rattle.journal_spec.proofs.Cursor.{AllGood}
 use Rattle.journal_spec.proofs.Whole.{WholeBytes}
-use Rattle.journal_spec.proofs.IndexLoop.{headOf, first-entry, following-entry, entriesSize, entry-size, entries-size, index-size}
+use Rattle.journal_spec.specs.Index.{entriesSize}
+use Rattle.journal_spec.proofs.IndexLoop.{headOf, first-entry, following-entry, entry-size, entries-size, index-size}
 use Rattle.journal_spec.proofs.IndexLoop.{size-append, entries-append, entries-least, amend-size}
 use Rattle.journal.specs.Numbers.{numberIn}
 use Rattle.records.specs.Front.{recordName}

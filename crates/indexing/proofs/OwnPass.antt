@@ -17,7 +17,7 @@ use Rattle.journal_spec.proofs.Reading.{by-test}
 use Rattle.journal_spec.proofs.Ranged.{encoding-length}
 use Rattle.journal_spec.proofs.Cursor.{Cursor, cursor-none, cursor-some, cursor-next}
 use Rattle.journal_spec.proofs.Whole.{WholeBytes}
-use Rattle.journal_spec.proofs.Indexes.{lookUp, Rising}
+use Rattle.journal_spec.specs.Indexed.{lookUp, Rising}
 use Rattle.journal.specs.Numbers.{numberIn}
 use Rattle.journal.proofs.NumberStands.{number-stands}
 use Rattle.records.specs.Front.{recordSize, recordName}

@@ -16,7 +16,8 @@ use Rattle.journal_spec.proofs.NameOrder.{lower-not-equal, order-self, order-eq
 use Rattle.journal_spec.proofs.Reading.{by-test}
 use Rattle.journal_spec.proofs.Places.{placedFrom}
 use Rattle.journal_spec.proofs.Records.{length-record}
-use Rattle.journal_spec.proofs.Indexes.{lookUp, Before, Rising, before-others, absent, own, other, fresh-is, same-index}
+use Rattle.journal_spec.specs.Indexed.{lookUp, Before, Rising}
+use Rattle.journal_spec.proofs.Indexes.{before-others, absent, own, other, fresh-is, same-index}
 use Rattle.indexing.specs.Owned.{startsFrom, admits, hit, covers, hits, ownsFrom, owns}
 
 false-not-true : false ≡ true → ⊥

@@ -17,7 +17,7 @@ use Rattle.journal_spec.specs.Profile.{Rule}
 use Rattle.journal_spec.specs.Scan.{recordsOf, standing, contentsOf}
 use Rattle.journal_spec.specs.Index.{indexBytes}
 use Rattle.journal_spec.specs.Log.{gathered}
-use Rattle.journal_spec.specs.Request.{Budget, Request, gatherBy, timesOf, timesIn, offerOf, allowed, Outcome}
+use Rattle.journal_spec.specs.Request.{Budget, Request, gatherBy, timesOf, gatheredTimes, offerOf, allowed, Outcome}
 use Rattle.journal_spec.specs.Append.{limitsOf, offered, nextIndex, appendRefusals, written, unchanged, appendTo, appendOf}
 use Rattle.journal_spec.proofs.Numbers.{are-bytes}
 use Rattle.journal_spec.proofs.Records.{length-record}
@@ -142,12 +142,12 @@ module _ (v : List ℕ) (committed len : ℕ) (day : ℕ) (name chances ts : Lis
     few = offer-few rule _ (offerOf q) (offer-none (record { slice = v; len = len }) (placedIn (take committed v)) committed q b refl z)
 
     pub counts : (length name ≤ maxName) × (length chances ≤ maxChances) × (length ts ≤ maxCount)
-    unfolding offerOf timesIn timesOf gatherBy
+    unfolding offerOf gatheredTimes timesOf gatherBy
     counts = (few .name, few .chances, few .times)
 
     -- the record's size by its counts
     sized : 12 + length name + 12 * length chances + 4 * length ts ≡ length leaf
-    unfolding offered limitsOf offerOf timesIn timesOf gatherBy
+    unfolding offered limitsOf offerOf gatheredTimes timesOf gatherBy
     sized = sym (length-record (offered (offerOf q)) ∙ rw length-map (omega arith))
 
     -- the index's buffer after the call, by whether the record is finished

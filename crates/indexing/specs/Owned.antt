@@ -8,7 +8,7 @@ use lib.ListN.{length}
 use lib.Dec.{leb, eqb}
 use Rattle.journal_spec.specs.Record.{Record, recordBytes}
 use Rattle.journal_spec.specs.Index.{IndexEntry}
-use Rattle.journal_spec.proofs.Indexes.{lookUp}
+use Rattle.journal_spec.specs.Indexed.{lookUp}
 
 -- the records from a place on, each with its start
 unfoldable pub startsFrom : ℕ → List Record → List IndexEntry

@@ -24,7 +24,7 @@ use Rattle.journal_spec.specs.Tests.{each, same, nameGood}
 use Rattle.journal_spec.specs.Index.{IndexEntry, entryBytes, indexBytes, inFront, orderOf, amend, entryOf, amendAll}
 use Rattle.journal_spec.specs.Log.{begin, linesOf, nameIn, digitsIn, digitsGood, decimalFrom, ticksIn, lineGood, Gathered, gathered, misread}
 use Rattle.journal_spec.specs.Log.{takeLine, gatherFrom, gatherOf}
-use Rattle.journal_spec.specs.Request.{all, times, log, Request, gatherBy, timesOf, timesIn, offerOf, declined, declinedAt}
+use Rattle.journal_spec.specs.Request.{all, times, log, Request, gatherBy, timesOf, gatheredTimes, offerOf, declined, declinedAt}
 use Rattle.journal_spec.specs.Request as R
 use Rattle.journal_spec.specs.Append.{judgeEven, appendRefusals, unchanged, settle, appendTo, appendWith, appendOf}
 use Rattle.journal_spec.specs.Model.{breakFrom, workedOut}
@@ -209,7 +209,7 @@ pub record Declined : Type 0 where
   pub badLine : appendOf (record { slice = theBytes; len = 34 }) (through (0x0a ∷ [])) .answer ≡ declinedAt 11 0
 
 pub declines : Declined
-unfolding theBytes appendOf appendWith timesOf gatherBy timesIn gatherOf gatherFrom takeLine linesOf begin lineGood nameGood digitsGood each
+unfolding theBytes appendOf appendWith timesOf gatherBy gatheredTimes gatherOf gatherFrom takeLine linesOf begin lineGood nameGood digitsGood each
     nameIn digitsIn ticksIn decimalFrom same appendTo settle unchanged appendRefusals judgeEven firstOf sectionRefusal offerOf
     itemsRefusal contentsOf contentsFrom recordAt judged keeps recordsOf lastOf recordReader run then section items valueOf judgeForm formKnown judgeDay
     nameSection chanceSection judgeChance chanceInRange lastChance timeSection limitSection outside unless inRange

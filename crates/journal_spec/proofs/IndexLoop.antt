@@ -13,10 +13,12 @@ use Rattle.journal_spec.specs.Section.{sectionBytes}
 use Rattle.journal_spec.specs.Record.{Record}
 use Rattle.journal_spec.specs.Scan.{Placed}
 use Rattle.journal_spec.specs.Index.{IndexEntry, entryBytes, indexBytes, Order, lower, equal, higher, orderOf, amend, entryOf, amendAll, indexOf}
+use Rattle.journal_spec.specs.Index.{entriesSize}
 use Rattle.journal_spec.specs.NextEntry.{isAbove, better, candidate, nextFrom, nextEntry}
 use Rattle.journal_spec.proofs.NameOrder.{order-self, order-equal, order-turned, order-lower}
 use Rattle.journal_spec.proofs.Reading.{by-test}
-use Rattle.journal_spec.proofs.Indexes.{Before, Rising, amend-parts, amended-is}
+use Rattle.journal_spec.specs.Indexed.{Before, Rising}
+use Rattle.journal_spec.proofs.Indexes.{amend-parts, amended-is}
 use Rattle.journal_spec.proofs.Numbers.{length-bytes}
 use Rattle.journal_spec.proofs.Sections.{length-section}
 use Rattle.journal_spec.proofs.Places.{placedFrom}
@@ -164,11 +166,6 @@ following-entry rs front e back h =
 pub entry-size : (e : IndexEntry) → length (entryBytes e) ≡ 6 + length (e .name)
 unfolding entryBytes
 entry-size e = length-append (sectionBytes 1 (e .name)) (bytesOf 4 (e .start)) ∙ rw (length-section, length-bytes) (omega arith)
-
--- the bytes of entries end to end
-unfoldable pub entriesSize : List IndexEntry → ℕ
-entriesSize [] = 0
-entriesSize (e ∷ es) = 6 + length (e .name) + entriesSize es
 
 pub entries-size : (es : List IndexEntry) → length (joined (map entryBytes es)) ≡ entriesSize es
 unfolding joined entriesSize

@@ -19,7 +19,7 @@ use Rattle.journal_spec.specs.Tests.{same, nameGood}
 use Rattle.journal_spec.specs.Scan.{Contents, standing, faulty, contentsOf}
 use Rattle.journal_spec.specs.Log.{newline, Lines, rest, line, linesOf, nameIn, digitsIn, decimalFrom, ticksIn, lineGood}
 use Rattle.journal_spec.specs.Log.{Gathered, gathered, misread, takeLine, gatherFrom, gatherOf}
-use Rattle.journal_spec.specs.Request.{Journal, times, Request, gatherBy, timesOf, timesIn, offerOf, declinedAt}
+use Rattle.journal_spec.specs.Request.{Journal, times, Request, gatherBy, timesOf, gatheredTimes, offerOf, declinedAt}
 use Rattle.journal_spec.specs.Append.{unchanged, appendRefusals, appendTo, appendWith, appendOf}
 use Rattle.journal_spec.proofs.Each.{same-lists}
 use Rattle.journal_spec.proofs.Lines.{LogLine, lineBytes, logBytes, GoodLine, GoodLines, bytesIn, lines-bytes, partsOf, good-parts}
@@ -42,7 +42,7 @@ unfoldable pub handedIn : List ℕ → Request → Request
 handedIn ts q = record { day = q .day; name = q .name; chances = q .chances; source = times ts; budget = q .budget; rule = q .rule; index = q .index }
 
 same-offer : (q : Request) (ts : List ℕ) → timesOf q ≡ gathered ts → offerOf q ≡ offerOf (handedIn ts q)
-unfolding handedIn offerOf timesIn timesOf gatherBy
+unfolding handedIn offerOf gatheredTimes timesOf gatherBy
 same-offer q ts e = rw e refl
 
 same-append : (x : Contents) (j : Journal) (q : Request) (ts : List ℕ) → timesOf q ≡ gathered ts → appendTo x j q ≡ appendTo x j (handedIn ts q)

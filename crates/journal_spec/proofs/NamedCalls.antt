@@ -13,7 +13,7 @@ use Rattle.journal_spec.specs.Refusals.{roomRefusal, unless, firstOf}
 use Rattle.journal_spec.specs.Record.{Record, IsDay, lastOf, recordBytes}
 use Rattle.journal_spec.specs.Profile.{plain}
 use Rattle.journal_spec.specs.Scan.{maxLength}
-use Rattle.journal_spec.specs.Request.{Budget, all, upTo, times, Request, Offer, gatherBy, timesOf, timesIn, offerOf, allowed, extended, declined}
+use Rattle.journal_spec.specs.Request.{Budget, all, upTo, times, Request, Offer, gatherBy, timesOf, gatheredTimes, offerOf, allowed, extended, declined}
 use Rattle.journal_spec.specs.Calls.{Call}
 use Rattle.journal_spec.specs.Model.{Model, emptyModel, lengthsOf, committedOf, recordFor, breakOf, taken, byNumber, byLog, byBreak, firstTurned}
 use Rattle.journal_spec.specs.Model.{verdictOf}
@@ -86,7 +86,7 @@ appends ns = map appendNamed ns
 -- a model takes such an offer where its last day is not later than 1 and there is room
 accepts : (room : ℕ) (m : Model) (n : ℕ) (budget : Budget) → lastOf (m .records) .day ≤ 1 → 1 ≤ n → n ≤ 32
     → committedOf m + (32 + n) ≤ room → committedOf m + (32 + n) ≤ maxLength → Accepted room m (request n budget)
-unfolding request named offerOf timesOf gatherBy timesIn
+unfolding request named offerOf timesOf gatherBy gatheredTimes
 accepts room m n budget day least most fits fits′ = record {
   offer = record {
     day = day;
@@ -142,7 +142,7 @@ plainly m r k = rw (plain-keeps 0 (m .records)) (unfold byBreak firstTurned ente
 entered : (room : ℕ) (m : Model) (n : ℕ) (budget : Budget) → lastOf (m .records) .day ≤ 1 → 1 ≤ n → n ≤ 32
     → committedOf m + (32 + n) ≤ room → committedOf m + (32 + n) ≤ maxLength
     → enter room m (callNamed n budget) ≡ enterRecord m (recordFor (named n)) (allowed budget (length (recordBytes (recordFor (named n))))) none
-unfolding enter enterBy refreshed verdictOf firstTurned byLog byNumber callNamed request named offerOf timesOf gatherBy timesIn
+unfolding enter enterBy refreshed verdictOf firstTurned byLog byNumber callNamed request named offerOf timesOf gatherBy gatheredTimes
 entered room m n budget day least most fits fits′ =
     rw (accepted-exactly room m (request n budget) .1 (accepts room m n budget day least most fits fits′))
     (plainly m (recordFor (named n)) (allowed budget (length (recordBytes (recordFor (named n))))))
@@ -184,7 +184,7 @@ cut-short room n k least most less fits =
 -- no room is the refusal where nothing else is refused
 pub full : (room : ℕ) (m : Model) (n : ℕ) → lastOf (m .records) .day ≤ 1 → 1 ≤ n → n ≤ 32 → committedOf m + (32 + n) ≤ maxLength
     → room < committedOf m + (32 + n) → modelRefusal room m (request n all) ≡ roomRefusal
-unfolding modelRefusal modelRefusals unless firstOf noRoom indexWrong indexFull request named offerOf timesOf gatherBy timesIn
+unfolding modelRefusal modelRefusals unless firstOf noRoom indexWrong indexFull request named offerOf timesOf gatherBy gatheredTimes
 full room m n day least most fits less =
     let big : ℕ = committedOf m + (32 + n) in
     let p = passed big m (request n all) (accepted-exactly big m (request n all) .1 (accepts big m n all day least most (omega arith) fits)) in
@@ -193,5 +193,5 @@ full room m n day least most fits less =
 -- what the model answers then
 pub turned-away : (room : ℕ) (m : Model) (n : ℕ) → modelRefusal room m (request n all) ≡ roomRefusal
     → enter room m (appendNamed n) .answer ≡ declined roomRefusal
-unfolding enter enterBy refreshed verdictOf firstTurned byLog byNumber callNamed request named offerOf timesOf gatherBy timesIn breakOf
+unfolding enter enterBy refreshed verdictOf firstTurned byLog byNumber callNamed request named offerOf timesOf gatherBy gatheredTimes breakOf
 turned-away room m n e = rw e (rw (plain-keeps 0 (m .records)) (unfold byBreak firstTurned enterBy in refl))

@@ -15,6 +15,7 @@ pub mod Profile
 pub mod Scan
 pub mod Cursor
 pub mod Index
+pub mod Indexed
 pub mod Read
 pub mod Request
 pub mod Append

@@ -31,6 +31,7 @@ unfoldable pub makeFrom : Contents → List ℕ → Made
 makeFrom (faulty n p) b = record { answer = damaged n p; buffer = b }
 makeFrom (standing ps committed) b = makeUnless (judgeIndexRoom (indexOf ps) b) (indexOf ps) b
 
+-- the index made of a journal into a buffer
 unfoldable pub makeIndexOf : Journal → List ℕ → Made
 makeIndexOf j b = makeFrom (contentsOf plain (j .slice) (j .len)) b
 
@@ -47,5 +48,6 @@ unfoldable pub checkFrom : Contents → List ℕ → IndexCheck
 checkFrom (faulty n p) b = faulted n p
 checkFrom (standing ps committed) b = cond (inFront (indexBytes (indexOf ps)) b) own notOwn
 
+-- whether a buffer begins with a journal's index
 unfoldable pub checkIndexOf : Journal → List ℕ → IndexCheck
 checkIndexOf j b = checkFrom (contentsOf plain (j .slice) (j .len)) b

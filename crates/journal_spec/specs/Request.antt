@@ -47,13 +47,13 @@ unfoldable pub timesOf : Request → Gathered
 timesOf q = gatherBy (q .name) (q .source)
 
 -- the times where none is refused
-unfoldable pub timesIn : Gathered → List ℕ
-timesIn (gathered ts) = ts
-timesIn (misread n p) = []
+unfoldable pub gatheredTimes : Gathered → List ℕ
+gatheredTimes (gathered ts) = ts
+gatheredTimes (misread n p) = []
 
 -- what a request offers
 unfoldable pub offerOf : Request → Offer
-offerOf q = record { day = q .day; name = q .name; chances = q .chances; times = timesIn (timesOf q) }
+offerOf q = record { day = q .day; name = q .name; chances = q .chances; times = gatheredTimes (timesOf q) }
 
 -- the bytes that may be written of a record of n bytes
 unfoldable pub allowed : Budget → ℕ → ℕ

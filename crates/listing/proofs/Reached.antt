@@ -15,7 +15,7 @@ use Rattle.journal_spec.specs.Stages.{dayStage, nameStage, chanceStage, timeSta
 use Rattle.journal_spec.proofs.Reading.{by-order, after}
 use Rattle.journal_spec.proofs.FieldAt.{at-short, at-good}
 use Rattle.journal_spec.proofs.Records.{by-stages}
-use Rattle.listing.specs.Plain.{plain, plainRecordAt}
+use Rattle.listing.specs.Plain.{unjudged, plainRecordAt}
 use Rattle.listing.specs.Spans.{noSpan, headAt, spanAt, spanAfter, spansAt, numbersOf, recordIn}
 use Rattle.listing.specs.declared.spans.Span.{Span}
 use Rattle.listing.proofs.Plainly.{plain-then, section-stands, section-short}
@@ -44,7 +44,7 @@ head-beyond at b h = rw (lt-leb (at + 4) (length b) h) refl
 
 -- What the plain reader finds at a place, by a section: where it stands, all up to its end is read, and k reads what follows.
 record Reached (at : ℕ) (b : List ℕ) (s : Span) (k : Reader Record) : Type 0 where
-  goes : s .stands ≡ true → plainRecordAt at b ≡ run (plain k) (s .next) (drop (s .next) b)
+  goes : s .stands ≡ true → plainRecordAt at b ≡ run (unjudged k) (s .next) (drop (s .next) b)
   inside : s .stands ≡ true → s .next ≤ length b
   none : s .stands ≡ false → plainRecordAt at b ≡ short
 
@@ -52,34 +52,34 @@ pub differ : true ≡ false → ⊥
 differ h = let z : _≡_ {A = ℕ} 0 1 = cc in omega arith
 
 reached-head : (at : ℕ) (b : List ℕ) → Reached at b (headAt at b) (nameStage (numberAt 2 at b) (numberAt 2 (at + 2) b))
-unfolding plainRecordAt noSpan plain dayStage
+unfolding plainRecordAt noSpan unjudged dayStage
 reached-head at b =
     by-order (at + 4) (length b)
-    (λ h. let start : plainRecordAt at b ≡ run (plain (field 2 (judgeForm (lastOf [])) (dayStage (lastOf [])))) at (drop at b) =
-    ap (λ (r : Reader Record). run (plain r) at (drop at b)) (by-stages (lastOf [])) in
-    let goes = at-good 2 (λ v. 0) (λ v. plain (dayStage (lastOf []) v)) at b (omega arith) refl in
-    let further = at-good 2 (λ v. 0) (λ v. plain (nameStage (numberAt 2 at b) v)) (at + 2) b (omega arith) refl in
+    (λ h. let start : plainRecordAt at b ≡ run (unjudged (field 2 (judgeForm (lastOf [])) (dayStage (lastOf [])))) at (drop at b) =
+    ap (λ (r : Reader Record). run (unjudged r) at (drop at b)) (by-stages (lastOf [])) in
+    let goes = at-good 2 (λ v. 0) (λ v. unjudged (dayStage (lastOf []) v)) at b (omega arith) refl in
+    let further = at-good 2 (λ v. 0) (λ v. unjudged (nameStage (numberAt 2 at b) v)) (at + 2) b (omega arith) refl in
     let four : at + 2 + 2 ≡ at + 4 = omega arith in
     rw (head-stands at b h) (record {
       goes = λ t. start ∙ goes ∙ rw four at further;
       inside = λ t. h;
       none = λ t. absurd (differ t);
     }))
-    (λ h. let start : plainRecordAt at b ≡ run (plain (field 2 (judgeForm (lastOf [])) (dayStage (lastOf [])))) at (drop at b) =
-    ap (λ (r : Reader Record). run (plain r) at (drop at b)) (by-stages (lastOf [])) in
+    (λ h. let start : plainRecordAt at b ≡ run (unjudged (field 2 (judgeForm (lastOf [])) (dayStage (lastOf [])))) at (drop at b) =
+    ap (λ (r : Reader Record). run (unjudged r) at (drop at b)) (by-stages (lastOf [])) in
     rw (head-beyond at b h) (record {
       goes = λ t. absurd (differ (sym t));
       inside = λ t. absurd (differ (sym t));
       none = λ t. by-order 2 (length b - at)
           (λ enough.
-          start ∙ at-good 2 (λ v. 0) (λ v. plain (dayStage (lastOf []) v)) at b enough refl
-          ∙ at-short 2 (λ v. 0) (λ v. plain (nameStage (numberAt 2 at b) v)) (at + 2) b (omega arith))
-          (λ few. start ∙ at-short 2 (λ v. 0) (λ v. plain (dayStage (lastOf []) v)) at b few);
+          start ∙ at-good 2 (λ v. 0) (λ v. unjudged (dayStage (lastOf []) v)) at b enough refl
+          ∙ at-short 2 (λ v. 0) (λ v. unjudged (nameStage (numberAt 2 at b) v)) (at + 2) b (omega arith))
+          (λ few. start ∙ at-short 2 (λ v. 0) (λ v. unjudged (dayStage (lastOf []) v)) at b few);
     }))
 
 -- one section further
 module _ (at : ℕ) (b : List ℕ) (s : Section) (k : List ℕ → Reader Record) where
-  on-at : (p : ℕ) → p ≤ length b → plainRecordAt at b ≡ run (plain (then (section s) k)) p (drop p b)
+  on-at : (p : ℕ) → p ≤ length b → plainRecordAt at b ≡ run (unjudged (then (section s) k)) p (drop p b)
       → Reached at b (spanAt (s .width) p b) (k (numbersOf (s .width) (spanAt (s .width) p b) b))
   unfolding noSpan numbersOf after
   on-at p inside goes =
@@ -134,7 +134,7 @@ reached-all at b =
 -- the record stands where its last section does
 pub record-stands : (at : ℕ) (b : List ℕ) → spansAt at b .limits .stands ≡ true
     → plainRecordAt at b ≡ found (recordIn at (spansAt at b) b) (spansAt at b .limits .next) (drop (spansAt at b .limits .next) b)
-unfolding run plain
+unfolding run unjudged
 record-stands at b h = reached-all at b .goes h
 
 pub record-short : (at : ℕ) (b : List ℕ) → spansAt at b .limits .stands ≡ false → plainRecordAt at b ≡ short

@@ -19,15 +19,15 @@ use Rattle.journal_spec.proofs.Places.{recordsOf-placed, length-placed}
 use Rattle.journal_spec.proofs.Explained.{holding}
 use Rattle.journal_spec.proofs.Profiles.{rule-then-plain}
 use Rattle.listing.specs.Listing.{recordLine, recordLines, stateLine, listingOf}
-use Rattle.listing.specs.Plain.{plain, plainRecordAt}
+use Rattle.listing.specs.Plain.{unjudged, plainRecordAt}
 use Rattle.listing.specs.Lines.{Position, listedOf, before, startOf, recordStep, stepBy, step}
 use Rattle.listing.proofs.Plainly.{plain-finds}
 
 -- ---- a record in its place
 
 -- the plain reader is the same after every record
-plain-same : (last other : Last) → plain (recordReader last) ≡ plain (recordReader other)
-unfolding recordReader plain then
+plain-same : (last other : Last) → unjudged (recordReader last) ≡ unjudged (recordReader other)
+unfolding recordReader unjudged then
 plain-same last other = refl
 
 -- a record that nothing refuses is found again behind any bytes

@@ -7,10 +7,10 @@ use Rattle.journal_spec.specs.Reader.{Reader, done, field, Found, run}
 use Rattle.journal_spec.specs.Record.{Record, lastOf, recordReader}
 
 -- a reader with every refusal taken out
-unfoldable pub plain : {A : Type 0} → Reader A → Reader A
-plain (done a) = done a
-plain (field w refusal next) = field w (λ v. 0) (λ v. plain (next v))
+unfoldable pub unjudged : {A : Type 0} → Reader A → Reader A
+unjudged (done a) = done a
+unjudged (field w refusal next) = field w (λ v. 0) (λ v. unjudged (next v))
 
 -- the record that stands at a place, whatever its values: nothing is judged, so that the record before it does not matter
 unfoldable pub plainRecordAt : ℕ → List ℕ → Found Record
-plainRecordAt at b = run (plain (recordReader (lastOf []))) at (drop at b)
+plainRecordAt at b = run (unjudged (recordReader (lastOf []))) at (drop at b)

@@ -8,7 +8,7 @@ use lib.ListN.{length, getD}
 use Rattle.hex.specs.Same.{sameBytes}
 use Rattle.hex.proofs.Comparing.{equal-same, same-equal}
 use Rattle.journal_spec.specs.Record.{Record, recordBytes}
-use Rattle.merge_spec.specs.Records.{isAmong, isTwin, dropped, kept}
+use Rattle.merge_spec.specs.Records.{isAmong, isTwin, dropped, undropped}
 use Rattle.merge_spec.proofs.Tally.{tally, tally-all, tally-select}
 
 -- stands in for a record where there is none
@@ -37,11 +37,11 @@ twin-among (s ∷ rs) bytes zero h e = rw (e, equal-same bytes) refl
 twin-among (s ∷ rs) bytes (suc i) h e = rw (twin-among rs bytes i (omega arith) e) (or-true (sameBytes (recordBytes s) bytes))
 
 -- the counts: by every test, kept and dropped together are the second list
-pub tally-kept : (test : Record → Bool) (first second : List Record)
-    → tally test (kept first second) + tally test (dropped first second) ≡ tally test second
-unfolding kept dropped
-tally-kept test first second = tally-select test (isTwin first) second
+pub tally-undropped : (test : Record → Bool) (first second : List Record)
+    → tally test (undropped first second) + tally test (dropped first second) ≡ tally test second
+unfolding undropped dropped
+tally-undropped test first second = tally-select test (isTwin first) second
 
-pub length-kept : (first second : List Record) → length (kept first second) + length (dropped first second) ≡ length second
-length-kept first second =
-    rw (← tally-all (kept first second), ← tally-all (dropped first second), ← tally-all second) (tally-kept (λ r. true) first second)
+pub length-undropped : (first second : List Record) → length (undropped first second) + length (dropped first second) ≡ length second
+length-undropped first second =
+    rw (← tally-all (undropped first second), ← tally-all (dropped first second), ← tally-all second) (tally-undropped (λ r. true) first second)

@@ -9,7 +9,7 @@ use Rattle.journal_spec.specs.Bytes.{bytesOf, joined}
 use Rattle.journal_spec.specs.Section.{numberBytes, sectionBytes}
 use Rattle.journal_spec.specs.Record.{Record, recordBytes}
 use Rattle.journal_spec.proofs.Examples.{theRecord}
-use Rattle.merge_spec.specs.Records.{isAmong, select, kept, before, from, byDay, mergedOf, fallFrom}
+use Rattle.merge_spec.specs.Records.{isAmong, select, undropped, before, from, byDay, mergedOf, fallFrom}
 
 -- the same leaf as form 2
 unfoldable pub newRecord : Record
@@ -25,20 +25,20 @@ newRecord = record {
 
 -- what both journals hold is merged once
 pub with-itself : mergedOf (theRecord ∷ []) (theRecord ∷ theRecord ∷ []) ≡ theRecord ∷ []
-unfolding mergedOf byDay before from kept select isAmong sameBytes recordBytes joined bytesOf sectionBytes numberBytes theRecord
+unfolding mergedOf byDay before from undropped select isAmong sameBytes recordBytes joined bytesOf sectionBytes numberBytes theRecord
 with-itself = refl
 
 -- what the first holds twice stays twice
 pub twice-in-first : mergedOf (theRecord ∷ theRecord ∷ []) (theRecord ∷ []) ≡ theRecord ∷ theRecord ∷ []
-unfolding mergedOf byDay before from kept select isAmong sameBytes recordBytes joined bytesOf sectionBytes numberBytes theRecord
+unfolding mergedOf byDay before from undropped select isAmong sameBytes recordBytes joined bytesOf sectionBytes numberBytes theRecord
 twice-in-first = refl
 
 -- on equal days the first journal's comes first: form 1 and then form 2
 pub first-first : mergedOf (theRecord ∷ []) (newRecord ∷ []) ≡ theRecord ∷ newRecord ∷ []
-unfolding mergedOf byDay before from kept select isAmong sameBytes recordBytes joined bytesOf sectionBytes numberBytes theRecord newRecord
+unfolding mergedOf byDay before from undropped select isAmong sameBytes recordBytes joined bytesOf sectionBytes numberBytes theRecord newRecord
 first-first = refl
 
 -- with the journals exchanged 13 stands behind 33 bytes
 pub falls-there : fallFrom 0 0 (mergedOf (newRecord ∷ []) (theRecord ∷ [])) ≡ some 33
-unfolding mergedOf byDay before from kept select isAmong fallFrom sameBytes recordBytes joined bytesOf sectionBytes numberBytes theRecord newRecord
+unfolding mergedOf byDay before from undropped select isAmong fallFrom sameBytes recordBytes joined bytesOf sectionBytes numberBytes theRecord newRecord
 falls-there = refl

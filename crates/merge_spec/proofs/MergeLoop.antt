@@ -15,7 +15,7 @@ use Rattle.journal_spec.specs.Model.{lengthsOf}
 use Rattle.journal_spec.proofs.Placing.{lengths-are, lengths-snoc}
 use Rattle.journal_spec.proofs.Scanning.{records-snoc}
 use Rattle.journal_spec.proofs.Writing.{written-two, written-nil}
-use Rattle.merge_spec.specs.Records.{isTwin, select, kept, byDay, fallFrom}
+use Rattle.merge_spec.specs.Records.{isTwin, select, undropped, byDay, fallFrom}
 use Rattle.merge_spec.proofs.ByDay.{HeadFrom, DaysFrom, step-first, step-second}
 use Rattle.merge_spec.proofs.Following.{FormsFrom, select-days}
 use Rattle.merge_spec.proofs.Falls.{lastForm, none-falls}
@@ -29,17 +29,17 @@ HeadAfter d (x ∷ xs) = d < x .day
 
 -- what is to come of the result, where xs are left of the first journal and ys of the second
 abbrev pub coming : List Record → List Record → List Record → List Record
-coming first xs ys = byDay xs (kept first ys)
+coming first xs ys = byDay xs (undropped first ys)
 
 pub coming-none : (first : List Record) → coming first [] [] ≡ []
-unfolding byDay kept select
+unfolding byDay undropped select
 coming-none first = refl
 
 module _ (first : List Record) where
-  kept-head : (d e : ℕ) (ys : List Record) → HeadFrom d ys → DaysFrom e ys → HeadFrom d (kept first ys)
-  kept-head d e [] h f = unfold kept select in tt
-  kept-head d e (y ∷ ys) h f =
-      unfold kept in head-of (select (λ (r : Record). not (isTwin first r)) (y ∷ ys)) (select-days _ (y ∷ ys) d (h, f .1))
+  undropped-head : (d e : ℕ) (ys : List Record) → HeadFrom d ys → DaysFrom e ys → HeadFrom d (undropped first ys)
+  undropped-head d e [] h f = unfold undropped select in tt
+  undropped-head d e (y ∷ ys) h f =
+      unfold undropped in head-of (select (λ (r : Record). not (isTwin first r)) (y ∷ ys)) (select-days _ (y ∷ ys) d (h, f .1))
     where
       head-of : (zs : List Record) → DaysFrom d zs → HeadFrom d zs
       head-of [] g = tt
@@ -48,22 +48,22 @@ module _ (first : List Record) where
   -- the first journal's record is next: the second has none left, or its next is not of an earlier day. Whether that one is dropped need
   -- not be known yet, since days do not fall.
   pub turn-first : (e : ℕ) (x : Record) (xs ys : List Record) → HeadFrom (x .day) ys → DaysFrom e ys → coming first (x ∷ xs) ys ≡ x ∷ coming first xs ys
-  turn-first e x xs ys h f = step-first x xs (kept first ys) (kept-head (x .day) e ys h f)
+  turn-first e x xs ys h f = step-first x xs (undropped first ys) (undropped-head (x .day) e ys h f)
 
   -- the second's is next, and has the same bytes as some record of the first
   pub turn-dropped : (xs : List Record) (y : Record) (ys : List Record) → isTwin first y ≡ true → coming first xs (y ∷ ys) ≡ coming first xs ys
-  unfolding kept select
+  unfolding undropped select
   turn-dropped xs y ys a = rw a refl
 
   -- the second's is next, and is kept
   pub turn-second : (xs : List Record) (y : Record) (ys : List Record) → isTwin first y ≡ false → HeadAfter (y .day) xs
       → coming first xs (y ∷ ys) ≡ y ∷ coming first xs ys
-  unfolding kept select
+  unfolding undropped select
   turn-second xs y ys a h = rw a (second-next xs h)
     where
-      second-next : (xs : List Record) → HeadAfter (y .day) xs → byDay xs (y ∷ kept first ys) ≡ y ∷ byDay xs (kept first ys)
+      second-next : (xs : List Record) → HeadAfter (y .day) xs → byDay xs (y ∷ undropped first ys) ≡ y ∷ byDay xs (undropped first ys)
       second-next [] h = unfold byDay in refl
-      second-next (x ∷ xs) h = step-second x xs y (kept first ys) h
+      second-next (x ∷ xs) h = step-second x xs y (undropped first ys) h
 
 -- ---- the first pass: the length, and where forms fall
 

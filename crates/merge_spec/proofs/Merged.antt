@@ -20,10 +20,10 @@ use Rattle.journal_spec.proofs.Cursor.{AllGood, follow-good}
 use Rattle.journal_spec.specs.Ranges.{AllRanges}
 use Rattle.journal_spec.proofs.Placing.{written-length, written-take, written-drop, lengths-are}
 use Rattle.journal_spec.proofs.Demand.{Holds, agrees, plain-scan, holds-records, demand3-from}
-use Rattle.merge_spec.specs.Records.{dropped, kept, mergedOf}
+use Rattle.merge_spec.specs.Records.{dropped, undropped, mergedOf}
 use Rattle.merge_spec.specs.Merge.{merged, MergeOutcome, mergeOf}
 use Rattle.merge_spec.proofs.Tally.{tally}
-use Rattle.merge_spec.proofs.Dropping.{tally-kept, length-kept}
+use Rattle.merge_spec.proofs.Dropping.{tally-undropped, length-undropped}
 use Rattle.merge_spec.proofs.ByDay.{DaysFrom, Stable, tally-by-day, length-by-day, sorted, stable}
 use Rattle.merge_spec.proofs.Following.{FormsFrom, follow-days, following, select-good, select-days, by-day-good}
 use Rattle.merge_spec.proofs.Falls.{no-fall}
@@ -36,35 +36,35 @@ module _ (first second : List Record) where
   -- by every test, the records of the result and the dropped ones are those of both
   pub merged-tally : (test : Record → Bool) → tally test (mergedOf first second) + tally test (dropped first second) ≡ tally test first + tally test second
   unfolding mergedOf
-  merged-tally test = omega (arith, tally-by-day test first (kept first second), tally-kept test first second)
+  merged-tally test = omega (arith, tally-by-day test first (undropped first second), tally-undropped test first second)
 
   -- in number
   pub merged-count : length (mergedOf first second) + length (dropped first second) ≡ length first + length second
   unfolding mergedOf
-  merged-count = omega (arith, length-by-day first (kept first second), length-kept first second)
+  merged-count = omega (arith, length-by-day first (undropped first second), length-undropped first second)
 
   module _ (f : AllRanges [] first) (g : AllRanges [] second) where
     days : DaysFrom 0 first
     unfolding lastOf
     days = follow-days [] first f
 
-    kept-days : DaysFrom 0 (kept first second)
-    unfolding lastOf kept
-    kept-days = select-days _ second 0 (follow-days [] second g)
+    undropped-days : DaysFrom 0 (undropped first second)
+    unfolding lastOf undropped
+    undropped-days = select-days _ second 0 (follow-days [] second g)
 
     -- days never fall
     pub merged-sorted : DaysFrom 0 (mergedOf first second)
     unfolding mergedOf
-    merged-sorted = sorted first (kept first second) 0 days kept-days
+    merged-sorted = sorted first (undropped first second) 0 days undropped-days
 
     -- the first journal's records and the kept ones of the second, each in its own sequence, the first's first on equal days
-    pub merged-stable : Stable first (kept first second) (mergedOf first second)
+    pub merged-stable : Stable first (undropped first second) (mergedOf first second)
     unfolding mergedOf
-    merged-stable = stable first (kept first second) 0 days
+    merged-stable = stable first (undropped first second) 0 days
 
     merged-good : AllGood (mergedOf first second)
-    unfolding mergedOf kept
-    merged-good = by-day-good first (kept first second) (follow-good [] first f) (select-good _ second (follow-good [] second g))
+    unfolding mergedOf undropped
+    merged-good = by-day-good first (undropped first second) (follow-good [] first f) (select-good _ second (follow-good [] second g))
 
     -- where forms do not fall, they may stand end to end in a journal
     pub merged-follow : FormsFrom 0 (mergedOf first second) → AllRanges [] (mergedOf first second)

@@ -29,9 +29,9 @@ select test (r ∷ rs) = cond (test r) (r ∷ []) [] ++ select test rs
 unfoldable pub dropped : List Record → List Record → List Record
 dropped first second = select (isTwin first) second
 
--- and those that are kept
-unfoldable pub kept : List Record → List Record → List Record
-kept first second = select (λ (r : Record). not (isTwin first r)) second
+-- and those that are not
+unfoldable pub undropped : List Record → List Record → List Record
+undropped first second = select (λ (r : Record). not (isTwin first r)) second
 
 -- ---- by day
 
@@ -52,7 +52,7 @@ byDay (x ∷ xs) ys = before (x .day) ys ++ x ∷ byDay xs (from (x .day) ys)
 
 -- the records of the result
 unfoldable pub mergedOf : List Record → List Record → List Record
-mergedOf first second = byDay first (kept first second)
+mergedOf first second = byDay first (undropped first second)
 
 -- ---- form 1 after form 2
 

@@ -14,7 +14,7 @@ use Rattle.journal_spec.specs.Cursor.{dayAt, recordsIn}
 use Rattle.journal_spec.proofs.Cursor.{Cursor}
 use Rattle.journal_spec.proofs.Whole.{WholeBytes}
 use Rattle.journal.specs.Numbers.{numberIn}
-use Rattle.merge_spec.specs.Records.{kept, from, byDay, mergedOf, fallFrom}
+use Rattle.merge_spec.specs.Records.{undropped, from, byDay, mergedOf, fallFrom}
 use Rattle.merge_spec.specs.Merge.{MergeOutcome, fallOf, roomOf, firstRefusal, settleMerge}
 use Rattle.merge_spec.proofs.ByDay.{DaysFrom}
 use Rattle.merging.specs.Records.{sourceOf}
@@ -37,7 +37,7 @@ pub record Reached (a b : List ℕ) (p : Places) (made : List Record) : Type 0 w
   pub ys : List Record
   pub first : Cursor a (p .first) xs
   pub second : Cursor b (p .second) ys
-  pub parts : mergedOf (recordsIn a) (recordsIn b) ≡ made ++ byDay xs (kept (recordsIn a) ys)
+  pub parts : mergedOf (recordsIn a) (recordsIn b) ≡ made ++ byDay xs (undropped (recordsIn a) ys)
   pub day : ℕ
   pub since : Cursor a (p .since) (from day (recordsIn a))
   pub days : DaysFrom day ys

@@ -15,7 +15,8 @@ use Rattle.journal_spec.specs.Profile as P
 use Rattle.journal_spec.specs.Scan.{Placed, standing, contentsOf}
 use Rattle.journal_spec.specs.Ranges.{AllRanges}
 use Rattle.journal_spec.specs.Index.{Order, lower, equal, higher, orderOf, indexOf}
-use Rattle.journal_spec.proofs.Indexes.{orElse, whereEqual, lookUp, lastStart, amended-is}
+use Rattle.journal_spec.specs.Indexed.{orElse, whereEqual, lookUp, lastStart}
+use Rattle.journal_spec.proofs.Indexes.{amended-is}
 use Rattle.journal_spec.proofs.NameOrder.{order-equal}
 use Rattle.journal_spec.proofs.Explained.{holding}
 use Rattle.listing.specs.Plain.{plainRecordAt}

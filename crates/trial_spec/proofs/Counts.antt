@@ -9,7 +9,7 @@ use lib.Ieee.{Float, binary64, ofBits, lt}
 use Rattle.limit.specs.Formula.{double}
 use Rattle.limit.proofs.InRange as R
 use Rattle.journal_spec.specs.Index.{IndexEntry}
-use Rattle.journal_spec.proofs.Indexes.{Before, Rising}
+use Rattle.journal_spec.specs.Indexed.{Before, Rising}
 use Rattle.trial_spec.specs.Tally.{tally}
 use Rattle.trial_spec.specs.Links.{Link}
 use Rattle.trial_spec.specs.Trial.{isNamed, isOver, linksOf, oversOf, isKnown, unknownOf}

@@ -11,7 +11,8 @@ use Rattle.journal_spec.specs.Tests.{same}
 use Rattle.journal_spec.specs.Index.{IndexEntry, Order, lower, equal, higher, orderOf}
 use Rattle.journal_spec.proofs.Each.{same-lists}
 use Rattle.journal_spec.proofs.NameOrder.{lower-not-equal, order-self, order-equal}
-use Rattle.journal_spec.proofs.Indexes.{orElse, whereEqual, lookUp, Before, Rising, before-others}
+use Rattle.journal_spec.specs.Indexed.{orElse, whereEqual, lookUp, Before, Rising}
+use Rattle.journal_spec.proofs.Indexes.{before-others}
 use Rattle.trial_spec.specs.Links.{Link}
 use Rattle.trial_spec.specs.Trial.{isNamed, isKnown}
 

@@ -15,7 +15,8 @@ use Rattle.journal_spec.specs.Index.{IndexEntry, Order, lower, equal, higher, o
 use Rattle.journal_spec.proofs.Each.{same-lists, same-self}
 use Rattle.journal_spec.proofs.NameOrder.{lower-not-equal, higher-not-equal, order-self, order-equal}
 use Rattle.journal_spec.proofs.Places.{placedFrom}
-use Rattle.journal_spec.proofs.Indexes.{orElse, whereEqual, lastStart, amended-is}
+use Rattle.journal_spec.specs.Indexed.{orElse, whereEqual, lastStart}
+use Rattle.journal_spec.proofs.Indexes.{amended-is}
 use Rattle.trial_spec.specs.Trial.{lastNamed, leafAt}
 use Rattle.trial_spec.proofs.Names.{noEntry, own-start}
 

@@ -14,8 +14,8 @@ use Rattle.journal_spec.specs.Tests.{same}
 use Rattle.journal_spec.specs.Index.{IndexEntry, Order, lower, equal, higher, orderOf}
 use Rattle.journal_spec.proofs.Each.{same-lists, same-self}
 use Rattle.journal_spec.proofs.NameOrder.{higher-not-equal, order-self, order-equal}
-use Rattle.journal_spec.proofs.Indexes.{Rising}
-use Rattle.journal_spec.proofs.IndexLoop.{entriesSize}
+use Rattle.journal_spec.specs.Indexed.{Rising}
+use Rattle.journal_spec.specs.Index.{entriesSize}
 use Rattle.journal.specs.Numbers.{numberIn}
 use Rattle.journal.proofs.NumberStands.{number-stands}
 use Rattle.entries.specs.Entries.{behindEntry, startAt, startIn, entriesIn}

@@ -19,7 +19,8 @@ use Rattle.journal_spec.proofs.Placing.{lengths-are}
 use Rattle.journal_spec.proofs.Places.{placedFrom, recordsOf-placed}
 use Rattle.journal_spec.proofs.Explained.{Holding, holding}
 use Rattle.journal_spec.proofs.Pieces.{RecordHere, record-here}
-use Rattle.journal_spec.proofs.Indexes.{Rising, amended-is}
+use Rattle.journal_spec.specs.Indexed.{Rising}
+use Rattle.journal_spec.proofs.Indexes.{amended-is}
 use Rattle.journal_spec.proofs.Whole.{committed-bytes}
 use Rattle.entries.proofs.Indexed.{IndexHere}
 use Rattle.entries.proofs.Fitting.{own-here}

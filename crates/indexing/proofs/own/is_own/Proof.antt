@@ -11,7 +11,7 @@ use borrow.Author.Tests.{not-true, not-false}
 use lib.ListN.{length, getD}
 use lib.Dec.{eqb}
 use denote.Ref.{now}
-use Rattle.journal_spec.proofs.Indexes.{lookUp}
+use Rattle.journal_spec.specs.Indexed.{lookUp}
 use Rattle.records.specs.Front.{recordSize}
 use Rattle.entries.specs.Entries.{entriesIn}
 use Rattle.entries.specs.Shape.{isIndex}

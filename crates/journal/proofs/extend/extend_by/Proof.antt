@@ -5,7 +5,7 @@ use native.Mathlib.Omega.{arith}
 use borrow.Author.Needs.{needs}
 use lib.ListN.{length-take}
 use denote.Ref.{now}
-use Rattle.journal_spec.specs.Request.{gatherBy, timesOf, timesIn, offerOf}
+use Rattle.journal_spec.specs.Request.{gatherBy, timesOf, gatheredTimes, offerOf}
 use Rattle.journal.specs.Records.{asLast}
 use Rattle.journal.specs.Handed.{asRule, offerFrom, requestFrom}
 use Rattle.journal.proofs.RefusalOrder.{Few, offer-few}
@@ -14,7 +14,7 @@ use Rattle.journal.proofs.extend.extend_by.Statement.{statement}
 use Rattle.journal.proofs.extend.extend_by.Tie as tie
 
 returns : tie.Need-returns
-unfolding requestFrom offerOf timesIn timesOf gatherBy offerFrom
+unfolding requestFrom offerOf gatheredTimes timesOf gatherBy offerFrom
 returns c len ps is =
     let check = c .before .before .offer-refusal in
     offer-declined _ _ _ refl _ ps is (check .result) (omega arith) (check .ensures .refusal)
@@ -45,7 +45,7 @@ extend-within-requires c κs =
     (counts .name, counts .chances, counts .times, rw length-take (omega (arith, counts .chances)))
 
 returns-2 : tie.Need-returns-2
-unfolding requestFrom offerOf timesIn timesOf gatherBy offerFrom
+unfolding requestFrom offerOf gatheredTimes timesOf gatherBy offerFrom
 returns-2 c len ps is =
     let check = c .before .before .before .before .before .before .before .offer-refusal in
     let none : check .result ≡ 0 = omega arith in
