@@ -2,6 +2,7 @@
 -- entry found by a pass over the records, the index made entry by entry, and what making it answers; and an append that is handed one, by appends
 -- that are not; and that the answers leave nothing free. Assumes nothing.
 mod Owning
+mod Nearby
 pub mod OwnPass
 pub mod Checking
 mod Finding

@@ -44,7 +44,7 @@ module _ (index : List ℕ) (bytes : (i : ℕ) → getD index i 0 < 256) (h : is
   unfolding entriesIn
   stands = record { count = told-count index (are-bytes index bytes) h; entries = told-stands index (are-bytes index bytes) h .entries }
 
-  rises : Rising (entriesIn index)
+  pub rises : Rising (entriesIn index)
   unfolding entriesIn
   rises = told-stands index (are-bytes index bytes) h .rising
 

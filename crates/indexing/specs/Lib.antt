@@ -6,4 +6,5 @@ pub mod Made
 -- for private contracts: what stands in bytes, records held against the entries of a buffer, and the place of an entry's record
 pub mod Standing
 pub mod Owned
+pub mod Near
 pub mod Next

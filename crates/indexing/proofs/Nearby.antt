@@ -1,0 +1,63 @@
+-- A name looked up from a place among the entries of an index: since these rise, the entry that has it is the only one; where none from there on has
+-- it, all entries decide. Assumes nothing.
+use mathlib.Core.Path.{_≡_, refl, sym, ap, _∙_}
+use Prim.Native.Nat.{ℕ, _<_}
+use mathlib.Core.List.{List, [], _∷_, _++_, append-assoc}
+use mathlib.Core.Option.{none, some}
+use native.Mathlib.Omega.{arith}
+use Rattle.journal_spec.specs.Index.{IndexEntry, equal, orderOf}
+use Rattle.journal_spec.proofs.NameOrder.{order-equal}
+use Rattle.journal_spec.proofs.Indexes.{lookUp, Rising, absent, other}
+use Rattle.journal.specs.Numbers.{numberIn}
+use Rattle.entries.specs.Entries.{entriesFrom, entriesIn}
+use Rattle.entries.specs.Places.{lookFrom}
+use Rattle.entries.specs.Answers.{startMeaning}
+use Rattle.entries.specs.declared.finding.Looked.{Looked}
+use Rattle.entries.proofs.ByCounts.{count-read}
+use Rattle.entries.proofs.LookedUp.{look-is, look-all, look-some, look-parts}
+use Rattle.indexing.specs.Near.{Among, Near}
+
+-- of entries that rise, a name that a later one has is not that of an earlier one
+found-later : (name : List ℕ) (front es : List IndexEntry) (s : ℕ) → Rising (front ++ es) → lookUp name es ≡ some s → lookUp name (front ++ es) ≡ some s
+found-later name [] es s r h = h
+found-later name (e ∷ front) es s r h =
+    let later = found-later name front es s (r .1) h in
+    other name e (front ++ es) (differs later) ∙ later
+  where
+    differs : lookUp name (front ++ es) ≡ some s → orderOf name (e .name) ≡ equal → ⊥
+    differs later o =
+        let gone : lookUp (e .name) (front ++ es) ≡ none = absent (e .name) (front ++ es) (r .0) (r .1) in
+        let z : none ≡ some s = sym gone ∙ ap (λ (n : List ℕ). lookUp n (front ++ es)) (sym (order-equal name (e .name) o)) ∙ later in
+        let y : _≡_ {A = ℕ} 0 1 = cc in
+        omega arith
+
+-- before any is passed all are left
+pub among-all : (index : List ℕ) (count : ℕ) → count ≡ numberIn 2 0 index → Among index count 2
+among-all index count n = record { front = []; parts = sym (count-read index count n) }
+
+module _ (index name : List ℕ) where
+  among-found : (left place : ℕ) (r : Looked) → Among index left place → r ≡ lookFrom name left place (entriesFrom index left place)
+      → Among index (r .left) (r .place)
+  among-found left place r a e =
+      let x = look-parts name index left place in
+      rw e (record {
+        front = a .front ++ x .passed;
+        parts = a .parts ∙ ap (λ (es : List IndexEntry). a .front ++ es) (x .parts) ∙ sym (append-assoc (a .front) (x .passed) _);
+      })
+
+  -- found from a place on
+  pub near-found : (left place : ℕ) (r : Looked) → Rising (entriesIn index) → Among index left place
+      → r ≡ lookFrom name left place (entriesFrom index left place) → 0 < r .left → Near index name r
+  near-found left place r rising a e h =
+      let es = entriesFrom index left place in
+      let x = look-some name left place es (rw e at h) in
+      let all : lookUp name (entriesIn index) ≡ some (x .0) =
+      ap (lookUp name) (a .parts) ∙ found-later name (a .front) es (x .0) (rw (a .parts) at rising) (x .1) in
+      record {
+        start = ap (λ (l : Looked). startMeaning (l .start)) e ∙ look-is name left place es ∙ x .1 ∙ sym all;
+        among = among-found left place r a e;
+      }
+
+  -- among all
+  pub near-all : (count : ℕ) (r : Looked) → count ≡ numberIn 2 0 index → r ≡ lookFrom name count 2 (entriesFrom index count 2) → Near index name r
+  near-all count r n e = record { start = look-all name index count r n e; among = among-found count 2 r (among-all index count n) e }
