@@ -7,7 +7,8 @@ use mathlib.Core.Option.{none, some}
 use native.Mathlib.Omega.{arith}
 use Rattle.journal_spec.specs.Index.{IndexEntry, equal, orderOf}
 use Rattle.journal_spec.proofs.NameOrder.{order-equal}
-use Rattle.journal_spec.proofs.Indexes.{lookUp, Rising, absent, other}
+use Rattle.journal_spec.specs.Indexed.{lookUp, Rising}
+use Rattle.journal_spec.proofs.Indexes.{absent, other}
 use Rattle.journal.specs.Numbers.{numberIn}
 use Rattle.entries.specs.Entries.{entriesFrom, entriesIn}
 use Rattle.entries.specs.Places.{lookFrom}

@@ -4,7 +4,7 @@ use mathlib.Core.Path.{_≡_}
 use Prim.Native.Nat.{ℕ}
 use mathlib.Core.List.{List, _++_}
 use Rattle.journal_spec.specs.Index.{IndexEntry}
-use Rattle.journal_spec.proofs.Indexes.{lookUp}
+use Rattle.journal_spec.specs.Indexed.{lookUp}
 use Rattle.entries.specs.Entries.{entriesFrom, entriesIn}
 use Rattle.entries.specs.Answers.{startMeaning}
 use Rattle.entries.specs.declared.finding.Looked.{Looked}

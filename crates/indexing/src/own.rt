@@ -4,7 +4,7 @@ ghost use mathlib.Core.Path.{_≡_};
 ghost use Rattle.journal_spec.specs.Index.{indexBytes, inFront};
 ghost use Rattle.journal_spec.specs.MakeIndex.{checkIndexOf};
 ghost use Rattle.journal_spec.proofs.Whole.{WholeBytes};
-ghost use Rattle.journal_spec.proofs.Indexes.{Rising};
+ghost use Rattle.journal_spec.specs.Indexed.{Rising};
 ghost use Rattle.entries.specs.Entries.{entriesIn};
 ghost use Rattle.entries.specs.Answers.{startMeaning};
 ghost use Rattle.indexing.specs.Standing.{indexIn};
