@@ -1,6 +1,7 @@
 // An append in memory, and the part of the slice that it writes: the record, from the committed length to the new length.
 // The file gets that part and no other byte.
 ghost use mathlib.Core.Path.{_≡_};
+ghost use mathlib.Core.Bool.{false};
 ghost use Prim.Native.Nat.{_≤_};
 ghost use lib.ListN.{length};
 ghost use Rattle.journal_spec.specs.Scan.{maxLength};
@@ -20,7 +21,8 @@ pub struct Extension {
 }
 
 // Appends to the journal of a length in a slice, by a rule, and keeps an index in its buffer where one is told. The part's start is worked out
-// from its end, so that the journal is scanned once. The second clause says what lending the part asks.
+// from its end, so that the journal is scanned once. The second clause says what lending the part asks, the third that a buffer stays where no
+// index is told.
 pub fn extend(
     v: &mut [u8],
     len: usize,
@@ -35,6 +37,7 @@ pub fn extend(
     ensures { λ r. ⌜ Extends (now (v .entry)) len (asRule rule) (offerFrom day (now (name .entry)) (now (chances .entry)) (now (times .entry)))
         (handed indexed (now (index .entry))) r (now (v .exit)) (handed indexed (now (index .exit))) ⌝ }
     ensures { λ r. ⌜ (r .start ≤ r .end) × (r .end ≤ length (now (v .exit))) × (r .start ≤ maxLength) ⌝ }
+    ensures { λ r. ⌜ (indexed ≡ false → now (index .exit) ≡ now (index .entry)) ⌝ }
 {
     let answer = append(v, len, day, name, chances, times, rule, indexed, index);
     match answer {
@@ -66,7 +69,7 @@ pub fn extend(
     }
 }
 
-// The append itself, with the index or without one.
+// The append itself, with the index or without one, and then its buffer stays.
 fn append(
     v: &mut [u8],
     len: usize,
@@ -81,6 +84,7 @@ fn append(
     ensures { λ r. ⌜ outcomeWith len r (now (v .exit)) (handed indexed (now (index .exit)))
         ≡ appendAll (now (v .entry)) len (asRule rule) (offerFrom day (now (name .entry)) (now (chances .entry)) (now (times .entry)))
         (handed indexed (now (index .entry))) ⌝ }
+    ensures { λ r. ⌜ (indexed ≡ false → now (index .exit) ≡ now (index .entry)) ⌝ }
 {
     let all = Budget::All;
     if indexed {

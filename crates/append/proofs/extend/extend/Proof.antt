@@ -29,7 +29,7 @@ unfolding offer offerFrom asBudget
 fits c =
     let appended = c .before .before .before .before .before .before .before in
     let a = appended .before .before .before .before .before .before .before .before .args in
-    let x = extended-said (now (a .v)) (a .len) (asRule (a .rule)) (offer appended) _ (appended .append .result) _ _ (appended .append .ensures) _
+    let x = extended-said (now (a .v)) (a .len) (asRule (a .rule)) (offer appended) _ (appended .append .result) _ _ (appended .append .ensures .0) _
     (c .before .answer .given .1) in
     (omega (arith, x .place, offered-length (offer appended)), omega (arith, x .room))
 
@@ -38,32 +38,36 @@ unfolding offer offerFrom asBudget
 returns c =
     let appended = c .before .before .before .before .before .before .before in
     let a = appended .before .before .before .before .before .before .before .before .args in
-    extends-record (now (a .v)) (a .len) (asRule (a .rule)) (offer appended) _ (appended .append .result) _ _ (appended .append .ensures)
-    _ _ (c .before .answer .given .1) refl (omega arith)
+    let x = extends-record (now (a .v)) (a .len) (asRule (a .rule)) (offer appended) _ (appended .append .result) _ _ (appended .append .ensures .0)
+    _ _ (c .before .answer .given .1) refl (omega arith) in
+    (x .0, (x .1, appended .append .ensures .1))
 
 returns-2 : tie.Need-returns-2
 unfolding offer offerFrom asBudget
 returns-2 c =
     let appended = c .before .before .before .before .before .before in
     let a = appended .before .before .before .before .before .before .before .before .args in
-    extends-nothing (now (a .v)) (a .len) (asRule (a .rule)) (offer appended) _ (appended .append .result) _ _ (appended .append .ensures)
-    (declined-unwritten _ _ (c .enum-told .given .1))
+    let x = extends-nothing (now (a .v)) (a .len) (asRule (a .rule)) (offer appended) _ (appended .append .result) _ _ (appended .append .ensures .0)
+    (declined-unwritten _ _ (c .enum-told .given .1)) in
+    (x .0, (x .1, appended .append .ensures .1))
 
 returns-3 : tie.Need-returns-3
 unfolding offer offerFrom asBudget
 returns-3 c =
     let appended = c .before .before .before .before .before .before in
     let a = appended .before .before .before .before .before .before .before .before .args in
-    extends-nothing (now (a .v)) (a .len) (asRule (a .rule)) (offer appended) _ (appended .append .result) _ _ (appended .append .ensures)
-    (line-unwritten _ _ (c .enum-told2 .given .1))
+    let x = extends-nothing (now (a .v)) (a .len) (asRule (a .rule)) (offer appended) _ (appended .append .result) _ _ (appended .append .ensures .0)
+    (line-unwritten _ _ (c .enum-told2 .given .1)) in
+    (x .0, (x .1, appended .append .ensures .1))
 
 returns-4 : tie.Need-returns-4
 unfolding offer offerFrom asBudget
 returns-4 c =
     let appended = c .before .before .before .before .before .before in
     let a = appended .before .before .before .before .before .before .before .before .args in
-    extends-nothing (now (a .v)) (a .len) (asRule (a .rule)) (offer appended) _ (appended .append .result) _ _ (appended .append .ensures)
-    (damaged-unwritten _ _ (c .enum-told3 .given .1))
+    let x = extends-nothing (now (a .v)) (a .len) (asRule (a .rule)) (offer appended) _ (appended .append .result) _ _ (appended .append .ensures .0)
+    (damaged-unwritten _ _ (c .enum-told3 .given .1)) in
+    (x .0, (x .1, appended .append .ensures .1))
 
 pub extend-spec : {M : Type 1} → statement M
 extend-spec =
