@@ -5,14 +5,11 @@ use mathlib.Core.List.{List, [], _∷_}
 use Rattle.hex.specs.Hex.{decimalDigits}
 use Rattle.journal_spec.specs.Scan as Scan
 use Rattle.journal_spec.specs.Request.{AppendResult, extended, declined, declinedAt, damaged}
-use Rattle.listing.specs.Listing.{lineOf, stateLine}
+use Rattle.listing.specs.Listing.{lineOf, wordDeclined, stateLine}
 
--- the words `extended`, `declined` and `log`
+-- the words `extended` and `log`
 unfoldable pub wordExtended : List ℕ
 wordExtended = 0x65 ∷ 0x78 ∷ 0x74 ∷ 0x65 ∷ 0x6e ∷ 0x64 ∷ 0x65 ∷ 0x64 ∷ []
-
-unfoldable pub wordDeclined : List ℕ
-wordDeclined = 0x64 ∷ 0x65 ∷ 0x63 ∷ 0x6c ∷ 0x69 ∷ 0x6e ∷ 0x65 ∷ 0x64 ∷ []
 
 unfoldable pub wordLog : List ℕ
 wordLog = 0x6c ∷ 0x6f ∷ 0x67 ∷ []

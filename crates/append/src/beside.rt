@@ -3,11 +3,10 @@
 ghost use mathlib.Core.Path.{_≡_};
 ghost use Prim.Native.Nat.{_≤_};
 ghost use lib.ListN.{length};
-use crate::file::has_places;
-use crate::file::made;
+use crate::opening::made;
+use crate::opening::open_file;
 use crate::output::complain;
 use crate::output::fail_file;
-use crate::output::refuse_file;
 
 // Room for the longest index. An index ends with a 0, the highest byte of a start or of its count: bytes that are none of the file's are
 // therefore not 0, so that an index that is cut short is told from the volume's.
@@ -20,23 +19,10 @@ pub(crate) fn index_room() -> [u8; 65_537]
 // Opens the index's file and reads it. A missing one, for which -1 is answered, and an empty one, which a stop or a full disk leaves where it was
 // made, are the index of an empty volume. Where that fails, what failed is said and -2 is answered.
 pub(crate) fn open_index(path: &[u8], index: &mut [u8]) -> i32 {
-    let fd = os::open_update(path);
-    if fd < 0 {
-        if os::errno() == libc::ENOENT {
-            entries::put_count(index, 0);
-            return -1;
-        }
-        fail_file(path);
-        return -2;
-    }
-    if !has_places(fd) {
-        refuse_file(path, b"not a regular file");
-        return -2;
-    }
-    let read = arguments::read_input(fd, index);
-    if read.failed {
-        fail_file(path);
-        return -2;
+    let opened = open_file(path, index);
+    let fd = opened.fd;
+    if fd == -1 {
+        entries::put_count(index, 0);
     }
     if read.size == 0 {
         clear_count(index);

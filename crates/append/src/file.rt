@@ -7,10 +7,11 @@ use crate::beside::open_index;
 use crate::beside::ready_index;
 use crate::beside::write_index;
 use crate::extend::extend;
+use crate::opening::made;
+use crate::opening::open_file;
 use crate::output::complain;
 use crate::output::fail_file;
 use crate::output::print_verdict;
-use crate::output::refuse_file;
 use journal::Rule;
 
 // Appends to the file that the argument at a place names; with the index in the file that another names, or none where that place is 0.
@@ -103,44 +104,18 @@ fn append_at(
     index_fd: i32,
     index: &mut [u8],
 ) {
-    let fd = os::open_update(path);
     let mut room = arguments::input_room();
-    if fd < 0 {
-        if os::errno() == libc::ENOENT {
-            append_read(
-                path,
-                fd,
-                &mut room,
-                0,
-                day,
-                name,
-                chances,
-                ticks,
-                rule,
-                indexed,
-                beside,
-                index_fd,
-                index,
-            );
-        } else {
-            fail_file(path);
-        }
-        return;
-    }
-    if !has_places(fd) {
-        refuse_file(path, b"not a regular file");
-        return;
-    }
-    let read = arguments::read_input(fd, &mut room);
-    if read.failed {
-        fail_file(path);
+    let opened = open_file(path, &mut room);
+    let fd = opened.fd;
+    let size = opened.size;
+    if fd < -1 {
         return;
     }
     append_read(
         path,
         fd,
         &mut room,
-        read.size,
+        size,
         day,
         name,
         chances,
@@ -151,15 +126,6 @@ fn append_at(
         index_fd,
         index,
     );
-}
-
-// Whether a position can be set, as in a regular file: a pipe and a terminal refuse it, and such devices as /dev/null stay at their start.
-// The position is the start afterwards.
-pub(crate) fn has_places(fd: i32) -> bool {
-    if libc::lseek(fd, 1, libc::SEEK_SET) != 1 {
-        return false;
-    }
-    libc::lseek(fd, 0, libc::SEEK_SET) == 0
 }
 
 // Appends to the journal of a length that was read, and gives the file what is written; then the index's file what it is then.
@@ -247,25 +213,6 @@ fn write_record(path: &[u8], fd: i32, len: usize, start: usize, record: &[u8]) -
         return false;
     }
     true
-}
-
-// The descriptor, of a new file where there is none. A name that is taken although no file was found is a link to none.
-pub(crate) fn made(path: &[u8], fd: i32) -> i32 {
-    if 0 <= fd {
-        return fd;
-    }
-    let file = os::create(path);
-    if file < 0 {
-        if os::errno() == libc::EEXIST {
-            refuse_file(
-                path,
-                b"a link to a missing file, or made by another program meanwhile",
-            );
-        } else {
-            fail_file(path);
-        }
-    }
-    file
 }
 
 // Cuts off what stands behind the start, writes the record there, and syncs the file.

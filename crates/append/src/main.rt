@@ -8,6 +8,7 @@ mod extend;
 mod file;
 mod input;
 mod logs;
+mod opening;
 mod output;
 mod verdict;
 

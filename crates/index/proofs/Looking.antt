@@ -1,27 +1,27 @@
 -- What a look-up finds, in the order of the code's tests.
 -- Assumes nothing.
 use mathlib.Core.Path.{_≡_, refl, sym, ap, _∙_}
-use Prim.Native.Nat.{ℕ, _+_, _%_, _^_, _≤_, _<_}
+use Prim.Native.Nat.{ℕ, _≤_, _<_}
 use mathlib.Core.Bool.{Bool, true, false, cond}
-use mathlib.Core.List.{List, [], _∷_}
+use mathlib.Core.List.{List}
 use native.Mathlib.Omega.{arith}
 use borrow.Author.Tests.{le-leb, lt-leb, eq-eqb, ne-eqb}
 use lib.Dec.{leb}
 use lib.ListN.{length, take}
 use lib.Seq.{length-take-le}
 use Rattle.io.specs.Counts.{Counts}
-use Rattle.hex.specs.Hex.{decimalDigits}
 use Rattle.hex.specs.Same.{sameBytes}
 use Rattle.journal_spec.specs.Profile.{plain}
-use Rattle.journal_spec.specs.Scan.{damaged, scanOf}
+use Rattle.journal_spec.specs.Scan.{maxLength, scanOf}
+use Rattle.journal.specs.declared.Fault.{Fault}
 use Rattle.journal.specs.declared.Status.{Status}
+use Rattle.journal.specs.declared.Status.the-variants as S
 use Rattle.journal.specs.Answers.{meaning}
-use Rattle.listing.specs.Listing.{lineOf, wordDamaged, stateLine}
 use Rattle.listing.specs.Lines.{Position, positionOf, startOf, step}
 use Rattle.listing.specs.declared.Cursor.{Cursor}
+use Rattle.listing.proofs.Faults.{scan-place}
 use Rattle.records.specs.Front.{recordSize, recordName}
-use Rattle.index.specs.Verdict.{wordDeclined, numbered}
-use Rattle.index.specs.Found.{firstLine, faultLine, aloneBy, aloneLine, namedSize, foundBy, foundLine}
+use Rattle.index.specs.Found.{firstLine, aloneBy, aloneLine, namedSize, otherLine, foundBy, foundLine}
 
 -- ---- the size of the name's record
 
@@ -50,22 +50,27 @@ named-whole name b size e h t n y = (rw (le-leb (recordSize b) (length b) (omega
 
 -- ---- the line
 
-pub found-none : (name b : List ℕ) (start size : ℕ) → size ≡ namedSize name b → size ≡ 0 → numbered wordDeclined 14 ≡ foundLine name start b
-unfolding foundLine foundBy
-found-none name b start size e z = rw (← e, eq-eqb size 0 z) refl
+pub found-far : (name b : List ℕ) (start : ℕ) → maxLength < start → otherLine ≡ foundLine name start b
+unfolding foundLine
+found-far name b start h = rw (lt-leb start maxLength h) refl
 
-pub found-some : (name b : List ℕ) (start size : ℕ) → size ≡ namedSize name b → 0 < size → aloneLine start (take size b) ≡ foundLine name start b
+pub found-none : (name b : List ℕ) (start size : ℕ) → start ≤ maxLength → size ≡ namedSize name b → size ≡ 0 → otherLine ≡ foundLine name start b
 unfolding foundLine foundBy
-found-some name b start size e z = rw (← e, ne-eqb size 0 (λ (y : size ≡ 0). omega (arith, y, z))) refl
+found-none name b start size h e z = rw (le-leb start maxLength h, ← e, eq-eqb size 0 z) refl
+
+pub found-some : (name b : List ℕ) (start size : ℕ) → start ≤ maxLength → size ≡ namedSize name b → 0 < size
+    → aloneLine start (take size b) ≡ foundLine name start b
+unfolding foundLine foundBy
+found-some name b start size h e z = rw (le-leb start maxLength h, ← e, ne-eqb size 0 (λ (y : size ≡ 0). omega (arith, y, z))) refl
 
 pub first-text : (b : List ℕ) (c : Cursor) → positionOf c ≡ startOf plain b → step (positionOf c) b .text ≡ firstLine b
 unfolding firstLine
 first-text b c e = ap (λ (p : Position). step p b .text) e
 
-pub fault-text : (start n p there : ℕ) → there ≡ (start + p) % 2 ^ 64
-    → lineOf (wordDamaged ∷ decimalDigits n ∷ decimalDigits there ∷ []) ≡ faultLine start n p
-unfolding faultLine stateLine
-fault-text start n p there e = ap (λ (x : ℕ). lineOf (wordDamaged ∷ decimalDigits n ∷ decimalDigits x ∷ [])) e
+-- a fault's place is inside the longest volume
+pub fault-inside : (one : List ℕ) (s : Status) (f : Fault) → meaning s ≡ scanOf plain one (length one) → s ≡ S.Damaged f → f .place ≤ maxLength
+unfolding meaning
+fault-inside one s f e d = scan-place plain one (f .number) (f .place) (sym e ∙ rw d refl)
 
 pub alone-text : (start : ℕ) (one : List ℕ) (s : Status) → meaning s ≡ scanOf plain one (length one) → aloneBy start one (meaning s) ≡ aloneLine start one
 unfolding aloneLine

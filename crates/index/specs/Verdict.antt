@@ -3,31 +3,30 @@
 use Prim.Native.Nat.{ℕ}
 use mathlib.Core.List.{List, [], _∷_}
 use Rattle.hex.specs.Hex.{decimalDigits}
+use Rattle.journal_spec.specs.Refusals.{indexRefusal}
 use Rattle.journal_spec.specs.Scan as Scan
 use Rattle.journal_spec.specs.MakeIndex.{IndexResult, made, declined, damaged, IndexCheck, own, notOwn, faulted}
-use Rattle.listing.specs.Listing.{lineOf, stateLine}
+use Rattle.listing.specs.Listing.{lineOf, wordDeclined, stateLine}
 
--- the words `indexed`, `own`, `declined`
+-- the words `indexed` and `own`
 unfoldable pub wordIndexed : List ℕ
 wordIndexed = 0x69 ∷ 0x6e ∷ 0x64 ∷ 0x65 ∷ 0x78 ∷ 0x65 ∷ 0x64 ∷ []
 
 unfoldable pub wordOwn : List ℕ
 wordOwn = 0x6f ∷ 0x77 ∷ 0x6e ∷ []
 
-unfoldable pub wordDeclined : List ℕ
-wordDeclined = 0x64 ∷ 0x65 ∷ 0x63 ∷ 0x6c ∷ 0x69 ∷ 0x6e ∷ 0x65 ∷ 0x64 ∷ []
-
 -- a word and a number
 unfoldable pub numbered : List ℕ → ℕ → List ℕ
 numbered word n = lineOf (word ∷ decimalDigits n ∷ [])
 
+-- what became of an index that was to be made
 unfoldable pub madeLine : IndexResult → List ℕ
 madeLine (made n) = numbered wordIndexed n
 madeLine (declined n) = numbered wordDeclined n
 madeLine (damaged n p) = stateLine (Scan.damaged n p)
 
--- by the length that the entries of the buffer come to
+-- whether an index is the volume's, by the length that the entries of the buffer come to
 unfoldable pub checkedLine : ℕ → IndexCheck → List ℕ
 checkedLine size own = numbered wordOwn size
-checkedLine size notOwn = numbered wordDeclined 14
+checkedLine size notOwn = numbered wordDeclined indexRefusal
 checkedLine size (faulted n p) = stateLine (Scan.damaged n p)

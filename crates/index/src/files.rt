@@ -3,6 +3,7 @@
 ghost use mathlib.Core.Path.{_≡_};
 ghost use mathlib.Core.Bool.{true};
 ghost use Rattle.io.specs.Counts.{Counts};
+use crate::found::MAX_LENGTH;
 use crate::made::holds_records;
 use arguments::Input;
 
@@ -85,8 +86,8 @@ fn read_from(fd: i32, start: usize, out: &mut [u8]) -> Input
 
 // A place in the file. What is beyond the longest volume is its end.
 fn place_of(start: usize) -> i64 {
-    if 65_536 < start {
-        return 65_536;
+    if MAX_LENGTH < start {
+        return MAX_LENGTH as i64;
     }
     start as i64
 }

@@ -1,10 +1,13 @@
 // What a look-up finds at an entry's start, as a line of text: the record is judged as a volume of its own, and no other byte of the volume is.
 // Its line is the listing's.
 ghost use mathlib.Core.Path.{_≡_};
+ghost use Prim.Native.Nat.{_≤_};
 ghost use lib.ListN.{length};
 ghost use Rattle.io.specs.Counts.{Counts};
 ghost use Rattle.hex.specs.Same.{sameBytes};
 ghost use Rattle.hex.specs.Text.{Put};
+ghost use Rattle.journal_spec.specs.Profile.{plain};
+ghost use Rattle.journal_spec.specs.Scan.{maxLength, scanOf};
 ghost use Rattle.journal.specs.Answers.{meaning};
 ghost use Rattle.records.specs.Front.{recordName};
 ghost use Rattle.index.specs.Found.{firstLine, faultLine, aloneBy, aloneLine, namedSize, foundLine};
@@ -17,6 +20,9 @@ use listing::put_words;
 use records::record_name;
 use records::record_size;
 
+// The most bytes of a volume.
+pub(crate) const MAX_LENGTH: usize = 65_536;
+
 // Room for the longest record: 12 bytes, a name of 32, 8 chances with their limits and 128 times.
 pub(crate) fn record_room() -> [u8; 652]
     ensures { λ r. ⌜ 652 ≡ length r ⌝ }
@@ -24,11 +30,14 @@ pub(crate) fn record_room() -> [u8; 652]
     [0; 652]
 }
 
-// Writes the line of the name's record at the front of some bytes, which stand in the volume from a start on. Where there is none the index is
-// not the volume's.
+// Writes the line of the name's record at the front of some bytes, which stand in the volume from a start on. Where there is none, or the start is
+// beyond the longest volume, the index is not the volume's.
 pub fn found_line(b: &[u8], name: &[u8], start: usize, out: &mut [u8]) -> usize
     ensures { λ r. ⌜ Put (now (out .entry)) 0 (foundLine (now (name .entry)) start (now (b .entry))) (now (out .exit)) r ⌝ }
 {
+    if MAX_LENGTH < start {
+        return put_word(out, b"declined", 14);
+    }
     let size = named_size(b, name);
     if size == 0 {
         return put_word(out, b"declined", 14);
@@ -60,6 +69,7 @@ fn is_named(b: &[u8], name: &[u8]) -> bool
 
 // The line of a record that is all of a slice, or of its fault.
 fn alone_line(one: &[u8], start: usize, out: &mut [u8]) -> usize
+    requires { ⌜ start ≤ maxLength ⌝ }
     ensures { λ r. ⌜ Put (now (out .entry)) 0 (aloneLine start (now (one .entry))) (now (out .exit)) r ⌝ }
 {
     let status = journal::scan_by(one, one.len(), Rule::Plain);
@@ -68,6 +78,7 @@ fn alone_line(one: &[u8], start: usize, out: &mut [u8]) -> usize
 
 // By what the scan answers.
 fn alone_by(status: Status, one: &[u8], start: usize, out: &mut [u8]) -> usize
+    requires { ⌜ (meaning status ≡ scanOf plain (now one) (length (now one))) × (start ≤ maxLength) ⌝ }
     ensures { λ r. ⌜ Put (now (out .entry)) 0 (aloneBy start (now (one .entry)) (meaning status)) (now (out .exit)) r ⌝ }
 {
     match status {
@@ -92,12 +103,13 @@ fn first_line(one: &[u8], out: &mut [u8]) -> usize
     line.size
 }
 
-// A fault's line.
+// A fault's line. The place is counted from the volume's first byte.
 fn fault_line(f: Fault, start: usize, out: &mut [u8]) -> usize
+    requires { ⌜ (f .place ≤ maxLength) × (start ≤ maxLength) ⌝ }
     ensures { λ r. ⌜ Put (now (out .entry)) 0 (faultLine start (f .number) (f .place)) (now (out .exit)) r ⌝ }
 {
     let number = f.number;
     let place = f.place;
-    let there = std::num::wrapping_add_usize(start, place);
+    let there = start + place;
     put_words(out, b"damaged", number as u64, there as u64)
 }

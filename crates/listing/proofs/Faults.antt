@@ -14,7 +14,7 @@ use Rattle.journal_spec.specs.Bytes.{valueOf, AreBytes}
 use Rattle.journal_spec.specs.Reader.{Reader, done, field, Found, found, fault, short, run}
 use Rattle.journal_spec.specs.Record.{Record, Last, recordReader, recordsBytes}
 use Rattle.journal_spec.specs.Profile.{Rule, keeps}
-use Rattle.journal_spec.specs.Scan.{maxLength, Placed, Contents, standing, faulty, judged, recordAt, contentsOf, whole, torn, statusOf, scanOf}
+use Rattle.journal_spec.specs.Scan.{maxLength, Placed, Contents, standing, faulty, judged, recordAt, contentsOf, whole, torn, damaged, statusOf, scanOf}
 use Rattle.journal_spec.specs.Tests.{each}
 use Rattle.journal_spec.proofs.Reading.{field-cases}
 use Rattle.journal_spec.proofs.Scanning.{records-count, contents-fits, contents-long}
@@ -52,6 +52,37 @@ place-at rule last at bs n p h = go (run (recordReader last) at bs) refl h
         fault-place (recordReader last) at bs n p (ran ∙ same)
     go short ran h = unfold judged in let z : _≡_ {A = ℕ} 0 1 = cc in absurd (omega arith)
 
+-- that of a journal is inside the longest one
+contents-place : (rule : Rule) (b : List ℕ) (n p : ℕ) → contentsOf rule b (length b) ≡ faulty n p → p ≤ maxLength
+contents-place rule b n p e = go (leb (length b) (min (length b) maxLength)) refl
+  where
+    go : (t : Bool) → leb (length b) (min (length b) maxLength) ≡ t → p ≤ maxLength
+    go false t =
+        let same : faulty 1 0 ≡ faulty n p = sym (contents-long rule b (length b) (leb-false (length b) (min (length b) maxLength) t)) ∙ e in
+        let place : 0 ≡ p = cc in
+        omega arith
+    go true t =
+        let fits = leb-true (length b) (min (length b) maxLength) t in
+        let f = contents-fault rule (length b) [] 0 (take (length b) b) n p (sym (contents-fits rule b (length b) (omega arith) (omega arith)) ∙ e) in
+        let place = place-at rule (f .last) (f .start) (f .rest) n p (f .ran) in
+        let size : length (take (length b) b) ≡ length b = ap length (take-length b) in
+        omega (arith, place, f .inside, size)
+
+-- and so is what a scan answers
+pub scan-place : (rule : Rule) (b : List ℕ) (n p : ℕ) → scanOf rule b (length b) ≡ damaged n p → p ≤ maxLength
+unfolding scanOf statusOf
+scan-place rule b n p = go (contentsOf rule b (length b)) refl
+  where
+    unfaulted : (t : Bool) (m c : ℕ) → cond t (whole m c) (torn m c) ≡ damaged n p → p ≤ maxLength
+    unfaulted true m c h = let z : _≡_ {A = ℕ} 0 1 = cc in absurd (omega arith)
+    unfaulted false m c h = let z : _≡_ {A = ℕ} 0 1 = cc in absurd (omega arith)
+
+    go : (c : Contents) → contentsOf rule b (length b) ≡ c → statusOf (length b) c ≡ damaged n p → p ≤ maxLength
+    go (standing ps committed) e h = unfaulted (eqb committed (length b)) (length ps) committed h
+    go (faulty m q) e h =
+        let place : q ≡ p = cc in
+        omega (arith, place, contents-place rule b m q e)
+
 -- the end state's numbers have few digits
 pub scan-numbered : (rule : Rule) (b : List ℕ) → AreBytes b → Numbered (scanOf rule b (length b))
 unfolding scanOf statusOf
@@ -70,22 +101,10 @@ scan-numbered rule b bytes = go (contentsOf rule b (length b)) refl
     one-of true n c h k = (omega arith, omega arith)
     one-of false n c h k = (omega arith, omega arith)
 
-    inside : (t : Bool) (n p : ℕ) → leb (length b) (min (length b) maxLength) ≡ t → contentsOf rule b (length b) ≡ faulty n p → p ≤ maxLength
-    inside false n p t e =
-        let same : faulty 1 0 ≡ faulty n p = sym (contents-long rule b (length b) (leb-false (length b) (min (length b) maxLength) t)) ∙ e in
-        let place : 0 ≡ p = cc in
-        omega arith
-    inside true n p t e =
-        let fits = leb-true (length b) (min (length b) maxLength) t in
-        let f = contents-fault rule (length b) [] 0 (take (length b) b) n p (sym (contents-fits rule b (length b) (omega arith) (omega arith)) ∙ e) in
-        let place = place-at rule (f .last) (f .start) (f .rest) n p (f .ran) in
-        let size : length (take (length b) b) ≡ length b = ap length (take-length b) in
-        omega (arith, place, f .inside, size)
-
     go : (c : Contents) → contentsOf rule b (length b) ≡ c → Numbered (statusOf (length b) (contentsOf rule b (length b)))
     go (standing ps committed) e = let k = stands ps committed e in rw e (one-of (eqb committed (length b)) (length ps) committed (k .0) (k .1))
     go (faulty n p) e =
         let number = leb-true n maxLength (among-each (λ (m : ℕ). leb m maxLength) (1 ∷ 19 ∷ recordNumbers) n (unfold each in refl)
         (scan-number rule b (length b) n p (rw e refl))) in
-        let place = inside (leb (length b) (min (length b) maxLength)) n p refl e in
+        let place = contents-place rule b n p e in
         rw e (omega (arith, number), omega (arith, place))

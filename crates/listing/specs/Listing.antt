@@ -66,6 +66,10 @@ wordTorn = 0x74 ∷ 0x6f ∷ 0x72 ∷ 0x6e ∷ []
 unfoldable pub wordDamaged : List ℕ
 wordDamaged = 0x64 ∷ 0x61 ∷ 0x6d ∷ 0x61 ∷ 0x67 ∷ 0x65 ∷ 0x64 ∷ []
 
+-- And `declined`, which no listing has: programs that append, merge or make an index say it of what they refuse.
+unfoldable pub wordDeclined : List ℕ
+wordDeclined = 0x64 ∷ 0x65 ∷ 0x63 ∷ 0x6c ∷ 0x69 ∷ 0x6e ∷ 0x65 ∷ 0x64 ∷ []
+
 -- The line of the end state: its word, then the number of records and the committed length, or the fault's number and place.
 unfoldable pub stateLine : ScanResult → List ℕ
 stateLine (whole n committed) = lineOf (wordWhole ∷ decimalDigits n ∷ decimalDigits committed ∷ [])

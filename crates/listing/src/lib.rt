@@ -18,6 +18,7 @@ pub mod spans;
 mod text;
 mod words;
 
+pub use words::put_number;
 pub use words::put_word;
 pub use words::put_words;
 

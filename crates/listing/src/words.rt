@@ -106,8 +106,8 @@ pub fn put_word(out: &mut [u8], word: &[u8], n: u64) -> usize
     put(out, end, b"\n")
 }
 
-// A space and a number.
-fn put_number(out: &mut [u8], at: usize, n: u64) -> usize
+// A space and a number from a place on.
+pub fn put_number(out: &mut [u8], at: usize, n: u64) -> usize
     ensures { λ r. ⌜ Put (now (out .entry)) at (space ∷ decimalDigits n) (now (out .exit)) r ⌝ }
 {
     let p = put(out, at, b" ");

@@ -2,8 +2,8 @@
 -- Assumes nothing.
 use borrow.Author.Needs.{needs}
 use Rattle.journal.specs.Answers.{appendMeaning}
-use Rattle.listing.specs.Listing.{wordDamaged, stateLine}
-use Rattle.append.specs.Verdict.{wordExtended, wordDeclined, wordLog, verdictLine}
+use Rattle.listing.specs.Listing.{wordDamaged, wordDeclined, stateLine}
+use Rattle.append.specs.Verdict.{wordExtended, wordLog, verdictLine}
 use Rattle.append.proofs.verdict.verdict_line.Statement.{statement}
 use Rattle.append.proofs.verdict.verdict_line.Tie as tie
 

@@ -3,8 +3,12 @@
 use borrow.Author.Needs.{needs}
 use Rattle.journal.specs.Answers.{meaning}
 use Rattle.index.specs.Found.{aloneBy}
+use Rattle.index.proofs.Looking.{fault-inside}
 use Rattle.index.proofs.found.alone_by.Statement.{statement}
 use Rattle.index.proofs.found.alone_by.Tie as tie
+
+fault-line-requires : tie.Need-fault-line-requires
+fault-line-requires c κs = let p = c .before .before .before .before .before .before .pre in (fault-inside _ _ _ (p .0) (c .before .before .status .given .1), p .1)
 
 returns : tie.Need-returns
 unfolding aloneBy meaning
@@ -27,7 +31,7 @@ alone-by-spec =
     (λ c. search needs)
     (λ c κs. search needs)
     (λ c. search needs)
-    (λ c κs. search needs)
+    fault-line-requires
     (λ c. search needs)
     returns
     (λ c. search needs)

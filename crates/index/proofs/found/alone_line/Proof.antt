@@ -1,11 +1,16 @@
 -- `alone_line` goes by what the scan answers.
 -- Assumes nothing.
+use native.Mathlib.Omega.{arith}
 use borrow.Author.Needs.{needs}
 use Rattle.journal.specs.Handed.{asRule}
 use Rattle.listing.proofs.Putting.{put-as}
 use Rattle.index.proofs.Looking.{alone-text}
 use Rattle.index.proofs.found.alone_line.Statement.{statement}
 use Rattle.index.proofs.found.alone_line.Tie as tie
+
+alone-by-requires : tie.Need-alone-by-requires
+unfolding asRule
+alone-by-requires c κs = (c .before .scan-by .ensures, omega arith)
 
 returns : tie.Need-returns
 unfolding asRule
@@ -18,6 +23,6 @@ alone-line-spec =
     tie.close
     (tie.spec
     (λ c κs. search needs)
-    (λ c κs. search needs)
+    alone-by-requires
     (λ c. search needs)
     returns)

@@ -1,36 +1,30 @@
 -- `put_torn` puts 16 and whose end is torn.
 -- Assumes nothing.
 use borrow.Author.Needs.{needs}
-use Rattle.listing.proofs.Putting.{put-put}
+use Rattle.listing.specs.Listing.{wordDeclined}
+use Rattle.listing.proofs.Putting.{put-put, put-as}
 use Rattle.merge_spec.specs.Merge.{numberOf}
-use Rattle.merge.specs.Verdict.{wordDeclined, verdictLine}
+use Rattle.merge.specs.Verdict.{verdictLine}
+use Rattle.merge.proofs.Lines.{whose-line}
 use Rattle.merge.proofs.verdict.put_torn.Statement.{statement}
 use Rattle.merge.proofs.verdict.put_torn.Tie as tie
-
-slice-aggregate-put-numbered : tie.Need-slice-aggregate-put-numbered
-slice-aggregate-put-numbered c = search needs
-
-put-numbered-requires : tie.Need-put-numbered-requires
-put-numbered-requires c κs = search needs
-
-put-whose-requires : tie.Need-put-whose-requires
-put-whose-requires c κs = search needs
-
-same-length : tie.Need-same-length
-same-length c = search needs
 
 returns : tie.Need-returns
 unfolding verdictLine numberOf wordDeclined
 returns c =
-    let last = c .before .before in
-    put-put _ _ _ _ _ _ _ _ (last .before .before .before .before .put-numbered .ensures) (last .put-whose .ensures)
+    let third = c .before .before in
+    let second = third .before .before .before .before in
+    let first = second .before .before .before .before in
+    let number = put-put _ _ _ _ _ _ _ _ (first .put .ensures) (second .put-number .ensures) in
+    put-as _ _ _ _ _ _ (whose-line _ _ _) (put-put _ _ _ _ _ _ _ _ number (third .put-whose .ensures))
 
 pub put-torn-spec : {M : Type 1} → statement M
 put-torn-spec =
     tie.close
     (tie.spec
-    slice-aggregate-put-numbered
-    put-numbered-requires
-    put-whose-requires
-    same-length
+    (λ c. search needs)
+    (λ c κs. search needs)
+    (λ c κs. search needs)
+    (λ c κs. search needs)
+    (λ c. search needs)
     returns)

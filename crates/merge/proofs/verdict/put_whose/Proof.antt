@@ -2,7 +2,7 @@
 -- Assumes nothing.
 use borrow.Author.Needs.{needs}
 use Rattle.merging.specs.Answers.{whoseOf}
-use Rattle.merge.specs.Verdict.{whoseEnd}
+use Rattle.merge.specs.Verdict.{whoseWord}
 use Rattle.merge.proofs.verdict.put_whose.Statement.{statement}
 use Rattle.merge.proofs.verdict.put_whose.Tie as tie
 
@@ -31,11 +31,11 @@ same-length-2 : tie.Need-same-length-2
 same-length-2 c = search needs
 
 returns : tie.Need-returns
-unfolding whoseEnd whoseOf
+unfolding whoseWord whoseOf
 returns c = rw (c .before .before .before .before .before .enum-told .given .1) (c .before .before .put .ensures)
 
 returns-2 : tie.Need-returns-2
-unfolding whoseEnd whoseOf
+unfolding whoseWord whoseOf
 returns-2 c = rw (c .before .before .before .before .before .enum-told2 .given .1) (c .before .before .put2 .ensures)
 
 pub put-whose-spec : {M : Type 1} → statement M
