@@ -5,10 +5,12 @@ use Prim.Native.Nat.{ℕ, _+_, _*_, _^_, _≤_, _<_}
 use mathlib.Core.List.{List, [], _∷_}
 use mathlib.Core.Bool.{true}
 use native.Mathlib.Omega.{arith}
-use lib.ListN.{length, length-append}
-use Rattle.journal_spec.specs.Bytes.{joined}
+use lib.ListN.{length, take, length-append}
+use Rattle.journal_spec.specs.Bytes.{AreBytes, joined}
 use Rattle.journal_spec.specs.Record.{Record, recordBytes, recordsBytes}
-use Rattle.journal_spec.specs.Scan.{maxLength}
+use Rattle.journal_spec.specs.Profile.{plain}
+use Rattle.journal_spec.specs.Scan.{Placed, maxLength, standing, contentsOf}
+use Rattle.journal_spec.specs.Cursor.{recordsIn}
 use Rattle.journal_spec.specs.Index.{IndexEntry, Order, lower, equal, higher, orderOf, indexBytes, inFront, indexOf, enroll, freshFrom, freshIndex}
 use Rattle.journal_spec.proofs.Ranged.{encoding-length}
 use Rattle.journal_spec.proofs.Places.{placedFrom}
@@ -17,6 +19,7 @@ use Rattle.journal_spec.specs.Indexed.{Before, Rising}
 use Rattle.journal_spec.proofs.Indexes.{enroll-before, same-index, amended-is}
 use Rattle.journal_spec.proofs.IndexAfter.{enroll-count}
 use Rattle.journal_spec.proofs.Pieces.{name-bytes}
+use Rattle.journal_spec.proofs.Whole.{committed-bytes}
 use Rattle.entries.proofs.Indexed.{Fits, AllFit, IndexHere, index-here}
 
 module _ (new : IndexEntry) where
@@ -87,3 +90,10 @@ index-fits b rs c h =
 pub own-here : (b : List ℕ) (rs : List Record) (index : List ℕ) → Cursor b 0 rs → length b ≤ maxLength
     → inFront (indexBytes (indexOf (placedFrom 0 rs))) index ≡ true → IndexHere index (indexOf (placedFrom 0 rs))
 own-here b rs index c h e = let f = index-fits b rs c h in index-here index (indexOf (placedFrom 0 rs)) e (f .few) (f .fits)
+
+-- the same of a journal of a length in a slice
+pub own-index-here : (v : List ℕ) (len : ℕ) (ps : List Placed) (committed : ℕ) → AreBytes v → contentsOf plain v len ≡ standing ps committed
+    → (index : List ℕ) → inFront (indexBytes (indexOf ps)) index ≡ true → IndexHere index (indexOf ps)
+own-index-here v len ps committed b s index h =
+    let k = committed-bytes plain v len ps committed b s in
+    rw (k .places) (own-here (take committed v) (recordsIn (take committed v)) index (k .whole .cursor) (k .whole .short) (rw (k .places) at h))

@@ -2,4 +2,3 @@
 pub mod Columns
 pub mod Quoting
 pub mod Slots
-pub mod Shown

@@ -20,7 +20,7 @@ pub(crate) fn put_gap(out: &mut [u8], place: usize, tabs: bool) -> usize
 }
 
 // The spaces that a text of some size lacks to a width.
-pub(crate) fn put_fill(out: &mut [u8], place: usize, tabs: bool, width: usize, size: usize) -> usize
+pub fn put_fill(out: &mut [u8], place: usize, tabs: bool, width: usize, size: usize) -> usize
     ensures { λ r. ⌜ Put (now (out .entry)) place (fill tabs width size) (now (out .exit)) r ⌝ }
 {
     if tabs {

@@ -18,6 +18,8 @@ mod figures;
 mod front;
 mod quotes;
 
+pub use cells::put_fill;
+
 // How a line is laid out: the width of the names' column, and whether tabs separate the columns, which then have no width.
 pub struct Layout {
     pub name: usize,

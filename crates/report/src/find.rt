@@ -1,7 +1,12 @@
-// Records found by walking from one to the next, which a scan has judged before: the place of a position, the last of a name, and the last of each
-// name by name. Where no record stands the walk ends.
-use journal::number_in;
-use listing::spans::spans_at;
+// Records found by walking from one to the next, which a scan has judged before: the place of a position, and the position of a place.
+// The last record of a name is found by the volume's index.
+ghost use mathlib.Core.Path.{_≡_};
+ghost use lib.ListN.{length};
+use entries::Start;
+use entries::look_up;
+use indexing::IndexMade;
+use indexing::make_index;
+use records::record_size;
 
 // Where a record stands, and its position; or that there is none.
 pub(crate) struct Place {
@@ -24,12 +29,7 @@ pub(crate) fn at_position(v: &[u8], records: usize, wanted: usize) -> Place {
     let mut at = 0;
     let mut i = 0;
     while i < wanted {
-        let s = spans_at(v, at);
-        let last = s.limits;
-        if !last.stands {
-            return NOWHERE;
-        }
-        at = last.next;
+        at = place_behind(v, at);
         i += 1;
     }
     Place { found: true, at, i }
@@ -37,122 +37,60 @@ pub(crate) fn at_position(v: &[u8], records: usize, wanted: usize) -> Place {
 
 // The last record of a name, of so many.
 pub(crate) fn last_named(v: &[u8], records: usize, name: &[u8]) -> Place {
-    let mut place = NOWHERE;
+    match last_start(v, name) {
+        Start::At(at) => Place {
+            found: true,
+            at,
+            i: position_of(v, records, at),
+        },
+        Start::Absent => NOWHERE,
+    }
+}
+
+// Room for the longest index of a volume: an entry is shorter than its record. The contract has what lending it needs.
+pub(crate) fn index_room() -> [u8; 65_537]
+    ensures { λ r. ⌜ 65_537 ≡ length r ⌝ }
+{
+    [0; 65_537]
+}
+
+// Where it starts, by the volume's index; a damaged volume has none.
+fn last_start(v: &[u8], name: &[u8]) -> Start {
+    let mut index = index_room();
+    if !is_indexed(v, &mut index) {
+        return Start::Absent;
+    }
+    look_up(&index, name)
+}
+
+// Makes the volume's index; whether there is one.
+pub(crate) fn is_indexed(v: &[u8], out: &mut [u8]) -> bool {
+    let made = make_index(v, v.len(), out);
+    match made {
+        IndexMade::Length(_) => true,
+        IndexMade::Declined(_) => false,
+        IndexMade::Damaged(_) => false,
+    }
+}
+
+// The position of the record that starts at a place, of so many.
+fn position_of(v: &[u8], records: usize, place: usize) -> usize {
     let mut at = 0;
     let mut i = 0;
     while i < records {
-        let s = spans_at(v, at);
-        let last = s.limits;
-        if !last.stands {
-            return place;
+        if place <= at {
+            return i;
         }
-        if is_named(v, s.name.first, s.name.count, name) {
-            place = Place { found: true, at, i };
-        }
-        at = last.next;
+        at = place_behind(v, at);
         i += 1;
     }
-    place
+    i
 }
 
-// Whether a section's bytes are a name.
-fn is_named(v: &[u8], first: usize, count: usize, name: &[u8]) -> bool {
-    if v.len() < first {
-        return false;
+// The place behind the record at a place.
+fn place_behind(v: &[u8], at: usize) -> usize {
+    if v.len() < at {
+        return at;
     }
-    if v.len() - first < count {
-        return false;
-    }
-    let end = first + count;
-    hex::same(&v[first..end], name)
-}
-
-// No place.
-pub(crate) fn nowhere() -> Place {
-    NOWHERE
-}
-
-// The last record of the least name above that of the record at a place, of so many; without a place, of the least name.
-pub(crate) fn next_name(v: &[u8], records: usize, before: Place) -> Place {
-    let mut best = NOWHERE;
-    let mut at = 0;
-    let mut i = 0;
-    while i < records {
-        let s = spans_at(v, at);
-        let last = s.limits;
-        if !last.stands {
-            return best;
-        }
-        if is_next(v, at, before, best) {
-            best = Place { found: true, at, i };
-        }
-        at = last.next;
-        i += 1;
-    }
-    best
-}
-
-// Whether the name at a place is above the one before, and not above the best so far.
-fn is_next(v: &[u8], at: usize, before: Place, best: Place) -> bool {
-    if before.found {
-        if !is_below(v, before.at, at) {
-            return false;
-        }
-    }
-    if best.found {
-        if is_below(v, best.at, at) {
-            return false;
-        }
-    }
-    true
-}
-
-// Whether the name of one record is below that of another: by their bytes, and a name that begins another comes first.
-fn is_below(v: &[u8], a: usize, b: usize) -> bool {
-    let x = spans_at(v, a);
-    let y = spans_at(v, b);
-    let n = x.name.count;
-    let m = y.name.count;
-    let mut i = 0;
-    while i < n {
-        if m <= i {
-            return false;
-        }
-        let c = byte_at(v, x.name.first, i);
-        let d = byte_at(v, y.name.first, i);
-        if c < d {
-            return true;
-        }
-        if d < c {
-            return false;
-        }
-        i += 1;
-    }
-    n < m
-}
-
-// A byte of a section.
-fn byte_at(v: &[u8], first: usize, i: usize) -> u64 {
-    number_in(v, std::num::wrapping_add_usize(first, i), 1)
-}
-
-// The length of the longest name.
-pub(crate) fn widest_name(v: &[u8], records: usize) -> usize {
-    let mut widest = 0;
-    let mut at = 0;
-    let mut i = 0;
-    while i < records {
-        let s = spans_at(v, at);
-        let last = s.limits;
-        if !last.stands {
-            return widest;
-        }
-        let count = s.name.count;
-        if widest < count {
-            widest = count;
-        }
-        at = last.next;
-        i += 1;
-    }
-    widest
+    std::num::wrapping_add_usize(at, record_size(&v[at..]))
 }

@@ -44,16 +44,21 @@ pub(crate) fn print_fields(v: &[u8], records: usize, i: usize, at: usize) {
 
 // Mean, spread, and each limit.
 fn print_figures(v: &[u8], at: usize, chances: usize, limits: usize, count: usize) {
-    let worked = moments_in(v, at);
-    if !print_moment(b"mean", mean_bits(worked)) {
+    if !print_moments(v, at) {
         return;
     }
-    if !print_moment(b"spread", spread_bits(worked)) {
-        return;
-    }
-    if print_count(b"chances ", count) {
+    if print_count(b"chances ", count as u64) {
         print_limits(v, chances, limits, count);
     }
+}
+
+// Mean and spread.
+fn print_moments(v: &[u8], at: usize) -> bool {
+    let worked = moments_in(v, at);
+    if !print_moment(b"mean bits ", mean_bits(worked)) {
+        return false;
+    }
+    print_moment(b"spread bits ", spread_bits(worked))
 }
 
 // The times alone, one a line.
@@ -63,13 +68,15 @@ pub(crate) fn print_times(v: &[u8], at: usize) {
     let count = s.times.count;
     let mut i = 0;
     while i < count {
-        let mut out = [0u8; LINE];
-        let p = put_decimal(&mut out, 0, time_at(v, first, i));
-        if !print_line(&mut out, p) {
+        if !print_time(time_at(v, first, i)) {
             return;
         }
         i += 1;
     }
+}
+
+fn print_time(t: u64) -> bool {
+    print_count(b"", t)
 }
 
 // A time or a chance of a section.
@@ -85,11 +92,9 @@ fn limit_at(v: &[u8], first: usize, i: usize) -> u64 {
 // `record 2 of 5`: the position, counted from 0, and how many records stand.
 fn print_position(i: usize, records: usize) -> bool {
     let mut out = [0u8; LINE];
-    let p = put(&mut out, 0, b"record ");
-    let q = put_decimal(&mut out, p, i as u64);
-    let r = put(&mut out, q, b" of ");
-    let end = put_decimal(&mut out, r, records as u64);
-    print_line(&mut out, end)
+    let p = put_number(&mut out, 0, b"record ", i as u64);
+    let q = put_number(&mut out, p, b" of ", records as u64);
+    print_line(&mut out, q, b"\n")
 }
 
 // The name.
@@ -104,23 +109,17 @@ fn print_name(v: &[u8], first: usize, count: usize) -> bool {
     let mut out = [0u8; LINE];
     let p = put(&mut out, 0, b"name ");
     let end = put(&mut out, p, &v[first..last]);
-    print_line(&mut out, end)
+    print_line(&mut out, end, b"\n")
 }
 
 // The form, and what D is divided by.
 fn print_form(form: u64) -> bool {
     let mut out = [0u8; LINE];
-    let p = put(&mut out, 0, b"form ");
-    let q = put_decimal(&mut out, p, form);
-    let end = put_divisor(&mut out, q, form);
-    print_line(&mut out, end)
-}
-
-fn put_divisor(out: &mut [u8], place: usize, form: u64) -> usize {
+    let p = put_number(&mut out, 0, b"form ", form);
     if form == 1 {
-        return put(out, place, b": the spread divides D by n * n");
+        return print_line(&mut out, p, b": the spread divides D by n * n\n");
     }
-    put(out, place, b": the spread divides D by n * (n - 1)")
+    print_line(&mut out, p, b": the spread divides D by n * (n - 1)\n")
 }
 
 // The date and the day.
@@ -128,9 +127,8 @@ fn print_day(day: u16) -> bool {
     let mut out = [0u8; LINE];
     let p = put(&mut out, 0, b"date ");
     let q = put_date(&mut out, p, day);
-    let r = put(&mut out, q, b", day ");
-    let end = put_decimal(&mut out, r, day as u64);
-    print_line(&mut out, end)
+    let end = put_number(&mut out, q, b", day ", day as u64);
+    print_line(&mut out, end, b"\n")
 }
 
 // The mark.
@@ -142,22 +140,20 @@ fn print_mark(v: &[u8], first: usize, count: usize) -> bool {
         return false;
     }
     let last = first + count * 4;
-    let mut out = [0u8; LINE];
-    let end = put_mark(&mut out, mark_of(&v[first..last]));
-    print_line(&mut out, end)
+    print_meaning(mark_of(&v[first..last]))
 }
 
-fn put_mark(out: &mut [u8], mark: Mark) -> usize {
+fn print_meaning(mark: Mark) -> bool {
     match mark {
-        Mark::Few => put(out, 0, b"mark S: fewer than 8 times"),
-        Mark::Flat => put(out, 0, b"mark F: 8 times or more, all equal"),
-        Mark::Normal => put(out, 0, b"mark N: 8 times or more, not all equal"),
+        Mark::Few => print(b"mark S: fewer than 8 times\n"),
+        Mark::Flat => print(b"mark F: 8 times or more, all equal\n"),
+        Mark::Normal => print(b"mark N: 8 times or more, not all equal\n"),
     }
 }
 
 // How many times there are, and each in ticks and milliseconds.
 fn print_ticks(v: &[u8], first: usize, count: usize) -> bool {
-    if !print_count(b"times ", count) {
+    if !print_count(b"times ", count as u64) {
         return false;
     }
     let mut i = 0;
@@ -170,26 +166,29 @@ fn print_ticks(v: &[u8], first: usize, count: usize) -> bool {
     true
 }
 
-// How many there are of something.
-fn print_count(what: &[u8], count: usize) -> bool {
+// A number behind a text.
+fn print_count(what: &[u8], count: u64) -> bool {
     let mut out = [0u8; LINE];
-    let p = put(&mut out, 0, what);
-    let end = put_decimal(&mut out, p, count as u64);
-    print_line(&mut out, end)
+    let end = put_number(&mut out, 0, what, count);
+    print_line(&mut out, end, b"\n")
+}
+
+// A text and a number.
+fn put_number(out: &mut [u8], place: usize, what: &[u8], n: u64) -> usize {
+    let p = put(out, place, what);
+    put_decimal(out, p, n)
 }
 
 fn print_tick(t: u64) -> bool {
     let mut out = [0u8; LINE];
-    let p = put(&mut out, 0, b"time ");
-    let q = put_decimal(&mut out, p, t);
-    let r = put(&mut out, q, b" ticks, ");
+    let p = put_number(&mut out, 0, b"time ", t);
+    let q = put(&mut out, p, b" ticks, ");
     let count = ticks::Count {
         below: false,
         size: t,
     };
-    let s = put_milliseconds(&mut out, r, count);
-    let end = put(&mut out, s, b" ms");
-    print_line(&mut out, end)
+    let end = put_milliseconds(&mut out, q, count);
+    print_line(&mut out, end, b" ms\n")
 }
 
 // Each limit with its chance.
@@ -208,40 +207,40 @@ fn print_limits(v: &[u8], chances: usize, limits: usize, count: usize) {
 // Its bits, its exact decimal, and what it is rounded up to.
 fn print_limit(chance: u64, limit: u64) -> bool {
     let mut out = [0u8; LINE];
-    let p = put(&mut out, 0, b"limit at ");
-    let q = put_decimal(&mut out, p, chance);
-    let r = put(&mut out, q, b" in a million: bits ");
-    let s = put_double(&mut out, r, limit);
-    let t = put(&mut out, s, b" ticks, rounded up ");
-    let u = put_ticks(&mut out, t, ticks_up(limit));
-    let end = put(&mut out, u, b" ms");
-    print_line(&mut out, end)
+    let p = put_number(&mut out, 0, b"limit at ", chance);
+    let q = put_double(&mut out, p, b" in a million: bits ", limit);
+    let r = put(&mut out, q, b" ticks, rounded up ");
+    let end = put_ticks(&mut out, r, ticks_up(limit));
+    print_line(&mut out, end, b" ms\n")
 }
 
 // The mean or the spread: its bits, its exact decimal, and the nearest tick.
 fn print_moment(what: &[u8], bits: u64) -> bool {
     let mut out = [0u8; LINE];
-    let p = put(&mut out, 0, what);
-    let q = put(&mut out, p, b" bits ");
-    let r = put_double(&mut out, q, bits);
-    let s = put(&mut out, r, b" ticks, to the nearest ");
-    let t = put_ticks(&mut out, s, ticks_near(bits));
-    let end = put(&mut out, t, b" ms");
-    print_line(&mut out, end)
+    let p = put_double(&mut out, 0, what, bits);
+    let q = put(&mut out, p, b" ticks, to the nearest ");
+    let end = put_ticks(&mut out, q, ticks_near(bits));
+    print_line(&mut out, end, b" ms\n")
 }
 
-// A double by its bits, and exactly.
-fn put_double(out: &mut [u8], place: usize, bits: u64) -> usize {
+// A text, and a double by its bits and exactly.
+fn put_double(out: &mut [u8], place: usize, what: &[u8], bits: u64) -> usize {
     let digits = hex::hex_of(bits);
-    let p = put(out, place, &digits);
-    let q = put(out, p, b", exactly ");
-    put_exact(out, q, bits)
+    let p = put(out, place, what);
+    let q = put(out, p, &digits);
+    let r = put(out, q, b", exactly ");
+    put_exact(out, r, bits)
 }
 
-// The line in a buffer, with its end, and whether it was written.
-fn print_line(out: &mut [u8], size: usize) -> bool {
-    let end = put(out, size, b"\n");
+// The line in a buffer up to a place, with its last word, and whether it was written.
+fn print_line(out: &mut [u8], place: usize, last: &[u8]) -> bool {
+    let end = put(out, place, last);
     print_text(out, end)
+}
+
+// A line of one text.
+fn print(text: &[u8]) -> bool {
+    arguments::print(text, b"report: standard output")
 }
 
 // The first bytes of a buffer, and whether they were written.
@@ -250,5 +249,5 @@ pub(crate) fn print_text(out: &[u8], size: usize) -> bool {
         return false;
     }
     let first: usize = 0;
-    arguments::print(&out[first..size], b"report: standard output")
+    print(&out[first..size])
 }

@@ -17,17 +17,17 @@ pub(crate) fn print_asked(v: &[u8], asked: Asked) {
     match asked {
         Asked::Name(word) => print_named(v, records, word),
         Asked::At(i) => print_record(v, records, at_position(v, records, i as usize)),
-        Asked::Slots(chances) => print_slots(v, records, false, chances),
-        Asked::Tabs(chances) => print_slots(v, records, true, chances),
+        Asked::Slots(chances) => print_slots(v, false, chances),
+        Asked::Tabs(chances) => print_slots(v, true, chances),
         Asked::Nothing => usage(),
     }
 }
 
 // The slots with the limits at the chances among the arguments from one on, and then the end state.
-fn print_slots(v: &[u8], records: usize, tabs: bool, first: usize) {
+fn print_slots(v: &[u8], tabs: bool, first: usize) {
     let mut asked = [0u32; 8];
     let n = input::chances(first, &mut asked);
-    slots::print_slots(v, records, tabs, &asked[..n]);
+    slots::print_slots(v, tabs, &asked[..n]);
     print_state(v);
 }
 

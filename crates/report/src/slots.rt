@@ -1,77 +1,63 @@
-// The planner's report: a head, and for each name its last record, by name, a line each, which crate planning makes.
+// The planner's report: a head, and for each name of the volume's index the line of its last record, by name; crate slotting makes them.
 // Columns line up under the head; or tabs separate them, and there is no head.
-use crate::find::next_name;
-use crate::find::nowhere;
-use crate::find::widest_name;
+use crate::find::index_room;
+use crate::find::is_indexed;
 use crate::lines::print_text;
-use hex::put;
+use entries::end_of;
 use planning::Layout;
-use planning::slot_line;
+use slotting::entry_line;
+use slotting::head_line;
+use slotting::name_width;
 
-// Room for the longest line.
-const LINE: usize = 512;
-
-// The head, which shows the columns, and the lines of every name.
-pub(crate) fn print_slots(v: &[u8], records: usize, tabs: bool, asked: &[u32]) {
-    let layout = Layout {
-        name: name_width(widest_name(v, records)),
-        tabs,
-    };
-    if !print_head(layout, records) {
-        return;
-    }
-    let mut place = next_name(v, records, nowhere());
-    let mut left = records;
-    while left > 0 {
-        if !place.found {
-            return;
-        }
-        if !print_slot(v, place.at, layout, asked) {
-            return;
-        }
-        place = next_name(v, records, place);
-        left -= 1;
+// The report of a volume, by its index, which is made first; of a damaged one there is none.
+pub(crate) fn print_slots(v: &[u8], tabs: bool, asked: &[u32]) {
+    let mut index = index_room();
+    if is_indexed(v, &mut index) {
+        print_report(v, &index, tabs, asked);
     }
 }
 
-// The width of the names' column: that of the longest name, and no less than its head's.
-fn name_width(widest: usize) -> usize {
-    if widest < 4 { 4 } else { widest }
+// The head, and the line of every entry.
+fn print_report(v: &[u8], index: &[u8], tabs: bool, asked: &[u32]) {
+    let names = names_in(index);
+    let width = name_width(index);
+    if print_head(width, tabs, names) {
+        print_lines(v, index, names, Layout { name: width, tabs }, asked);
+    }
+}
+
+// How many entries an index has.
+fn names_in(index: &[u8]) -> usize {
+    end_of(index).count
+}
+
+// The lines of so many entries.
+fn print_lines(v: &[u8], index: &[u8], names: usize, layout: Layout, asked: &[u32]) {
+    let mut k = 0;
+    while k < names {
+        if !print_line(v, index, k, layout, asked) {
+            return;
+        }
+        k += 1;
+    }
 }
 
 // The head, where there are lines below it and no tabs; whether it was written.
-fn print_head(layout: Layout, records: usize) -> bool {
-    if layout.tabs {
+fn print_head(width: usize, tabs: bool, names: usize) -> bool {
+    if tabs {
         return true;
     }
-    if records == 0 {
+    if names == 0 {
         return true;
     }
-    let mut out = [0u8; LINE];
-    let p = put(&mut out, 0, b"name");
-    let q = put_blanks(&mut out, p, 4, layout.name);
-    let end = put(
-        &mut out,
-        q,
-        b" date       M   n     mean   spread     chance:limit, in ms\n",
-    );
-    print_text(&out, end)
+    let mut out = [0u8; slotting::MAX_LINE];
+    let size = head_line(width, &mut out);
+    print_text(&out, size)
 }
 
-// Spaces from a place on, as many as `size` lacks to `wanted`.
-fn put_blanks(out: &mut [u8], place: usize, size: usize, wanted: usize) -> usize {
-    let mut p = place;
-    let mut i = size;
-    while i < wanted {
-        p = put(out, p, b" ");
-        i += 1;
-    }
-    p
-}
-
-// The line of the record at a place; whether it was written.
-fn print_slot(v: &[u8], at: usize, layout: Layout, asked: &[u32]) -> bool {
-    let mut out = [0u8; LINE];
-    let size = slot_line(v, at, layout, asked, &mut out);
+// The line of an entry; whether it was written.
+fn print_line(v: &[u8], index: &[u8], k: usize, layout: Layout, asked: &[u32]) -> bool {
+    let mut out = [0u8; slotting::MAX_LINE];
+    let size = entry_line(v, index, k, layout, asked, &mut out);
     print_text(&out, size)
 }

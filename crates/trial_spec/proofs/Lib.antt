@@ -8,6 +8,7 @@ pub mod Overrun
 pub mod Standing
 pub mod Rows
 pub mod Trials
+pub mod Leaves
 pub mod Pieces
 -- examples
 pub mod Examples

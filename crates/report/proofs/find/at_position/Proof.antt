@@ -27,7 +27,6 @@ at-position-spec =
     (λ c. search needs)
     (λ c. tt)
     (λ c κs. search needs)
-    (λ c. search needs)
     add-i
     loop-less
     (λ c. tt)

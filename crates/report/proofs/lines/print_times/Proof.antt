@@ -26,10 +26,7 @@ print-times-spec =
     μ-loop
     (λ c κs. search needs)
     (λ c. tt)
-    (λ c. search needs)
     (λ c κs. search needs)
-    (λ c κs. search needs)
-    (λ c. search needs)
     (λ c κs. search needs)
     (λ c. search needs)
     add-i

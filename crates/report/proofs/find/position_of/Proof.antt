@@ -1,16 +1,16 @@
--- `next_name` ends: each turn leaves fewer records.
+-- `position_of` ends: each record passed leaves fewer. Nothing has to hold from record to record.
 -- Assumes nothing.
 use Prim.Native.Nat.{_-_}
 use native.Mathlib.Omega.{arith}
 use borrow.Author.Needs.{needs}
-use Rattle.report.proofs.find.next_name.Statement.{statement}
-use Rattle.report.proofs.find.next_name.Tie as tie
+use Rattle.report.proofs.find.position_of.Statement.{statement}
+use Rattle.report.proofs.find.position_of.Tie as tie
 
 abbrev Inv-loop : tie.InvT-loop
-Inv-loop v records before best₀ at₀ i₀ best at i = Unit {0}
+Inv-loop v records place at₀ i₀ at i = Unit {0}
 
 abbrev μ-loop : tie.MeasureT-loop
-μ-loop v records before best₀ at₀ i₀ best at i = records - i
+μ-loop v records place at₀ i₀ at i = records - i
 
 add-i : tie.Need-add-i Inv-loop μ-loop
 add-i c = omega arith
@@ -18,14 +18,13 @@ add-i c = omega arith
 loop-less : tie.Need-loop-less Inv-loop μ-loop
 loop-less c = omega arith
 
-pub next-name-spec : {M : Type 1} → statement M
-next-name-spec =
+pub position-of-spec : {M : Type 1} → statement M
+position-of-spec =
     tie.close
     (tie.spec
     Inv-loop
     μ-loop
     (λ c. tt)
-    (λ c κs. search needs)
     (λ c. search needs)
     (λ c κs. search needs)
     add-i
