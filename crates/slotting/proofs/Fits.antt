@@ -24,7 +24,8 @@ use Rattle.journal_spec.proofs.Reading.{by-order}
 use Rattle.trial_spec.proofs.Names.{noEntry}
 use Rattle.trial_spec.proofs.Standing.{leaf-beyond}
 use Rattle.trial_spec.proofs.Leaves.{leaf-bytes, leaf-is}
-use Rattle.listing.specs.Listing.{space, meanBits, spreadBits}
+use Rattle.journal_spec.specs.Log.{space}
+use Rattle.listing.specs.Listing.{meanBits, spreadBits}
 use Rattle.planning.specs.Slot.{gap, fill, column, nameColumn, nearText, slotText, Quote, quotesOf, limitFor, limitWidth, quoteColumns, askedColumns}
 use Rattle.planning.specs.Slot.{limitColumns, timesWidth, momentWidth, frontColumns, figureColumns, slotLine}
 use Rattle.slotting.specs.Report.{lineOf, reportLine, maxLine, headName, widest, widthOf, headColumns, headLine}

@@ -8,7 +8,7 @@ use native.Mathlib.Omega.{arith}
 use lib.ListN.{length, take}
 use Rattle.journal_spec.specs.Index.{IndexEntry}
 use Rattle.journal_spec.proofs.Reading.{by-order}
-use Rattle.journal_spec.proofs.IndexLoop.{entriesSize}
+use Rattle.journal_spec.specs.Index.{entriesSize}
 use Rattle.journal.specs.Numbers.{numberIn}
 use Rattle.entries.specs.Entries.{nameAt, startAt, sizeAt, startIn, entriesFrom, entriesIn}
 use Rattle.entries.specs.Answers.{startMeaning}

@@ -17,7 +17,7 @@ use Rattle.journal_spec.specs.Scan.{Placed, recordsOf, standing, contentsOf}
 use Rattle.journal_spec.specs.Index.{IndexEntry, indexBytes, inFront, indexOf}
 use Rattle.journal_spec.proofs.Numbers.{are-bytes}
 use Rattle.journal_spec.proofs.Reading.{by-order}
-use Rattle.journal_spec.proofs.Indexes.{lookUp}
+use Rattle.journal_spec.specs.Indexed.{lookUp}
 use Rattle.entries.specs.Entries.{entriesIn}
 use Rattle.entries.proofs.Parsed.{index-read}
 use Rattle.entries.proofs.Fitting.{own-index-here}

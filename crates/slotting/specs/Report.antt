@@ -14,7 +14,7 @@ use Rattle.journal_spec.specs.Scan.{Placed, recordsOf, Contents, standing, faul
 use Rattle.journal_spec.specs.Index.{IndexEntry, indexBytes, inFront, indexOf}
 use Rattle.entries.specs.Entries.{entriesIn}
 use Rattle.trial_spec.specs.Trial.{lastNamed, leafAt}
-use Rattle.listing.specs.Listing.{space, newline}
+use Rattle.journal_spec.specs.Log.{space, newline}
 use Rattle.listing.specs.Plain.{plainRecordAt}
 use Rattle.planning.specs.Slot.{column, nameColumn, timesWidth, momentWidth, limitWidth, slotLine, slotOf}
 

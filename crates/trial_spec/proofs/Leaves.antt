@@ -15,7 +15,8 @@ use Rattle.journal_spec.specs.Index.{indexOf}
 use Rattle.journal_spec.proofs.Placing.{lengths-are}
 use Rattle.journal_spec.proofs.Places.{recordsOf-placed}
 use Rattle.journal_spec.proofs.Explained.{Holding, holding}
-use Rattle.journal_spec.proofs.Indexes.{lookUp, Rising, amended-is}
+use Rattle.journal_spec.specs.Indexed.{lookUp, Rising}
+use Rattle.journal_spec.proofs.Indexes.{amended-is}
 use Rattle.trial_spec.specs.Trial.{lastNamed, leafAt}
 use Rattle.trial_spec.proofs.Names.{noEntry, own-start}
 use Rattle.trial_spec.proofs.Standing.{StandsAt, last-stands, leaf-at}
