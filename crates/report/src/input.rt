@@ -1,10 +1,10 @@
 // The arguments: which report is asked for, whether the times alone, a name or a position, or chances.
 // An argument that starts with a dash is no name, unless `--` stands before it.
 use arguments::Number;
+use arguments::is_argument;
 ghost use Prim.Native.Nat.{_≤_, _<_};
 ghost use lib.ListN.{length};
 ghost use Rattle.io.specs.Counts.{Counts};
-use hex::same;
 
 // What is asked for: the last record of the name in an argument, the record at a position, counted from 0, or the slots at the chances from an argument
 // on, separated by tabs or not.
@@ -16,16 +16,9 @@ pub(crate) enum Asked {
     Nothing,
 }
 
-// Whether an argument is a word of up to eight bytes.
-fn is_word(i: usize, word: &[u8]) -> bool {
-    let mut text = [0u8; 8];
-    let size = os::arg(i, &mut text);
-    same(&text[..size], word)
-}
-
 // Whether the times alone are asked for.
 pub(crate) fn is_ticks() -> bool {
-    is_word(2, b"--ticks")
+    is_argument(2, b"--ticks")
 }
 
 // The first argument behind that word.
@@ -40,10 +33,10 @@ fn first_word() -> usize
 
 // What the arguments ask for.
 pub(crate) fn question() -> Asked {
-    if is_word(1, b"record") {
+    if is_argument(1, b"record") {
         return record_question();
     }
-    if is_word(1, b"slots") {
+    if is_argument(1, b"slots") {
         return slots_question();
     }
     Asked::Nothing
@@ -51,7 +44,7 @@ pub(crate) fn question() -> Asked {
 
 // The slots: every argument behind `--tsv` is a chance.
 fn slots_question() -> Asked {
-    if is_word(2, b"--tsv") {
+    if is_argument(2, b"--tsv") {
         if are_numbers(3) {
             return Asked::Tabs(3);
         }
@@ -150,10 +143,10 @@ fn name_at(i: usize) -> Asked {
 fn option_at(i: usize) -> Asked
     requires { ⌜ i < 100 ⌝ }
 {
-    if is_word(i, b"--") {
+    if is_argument(i, b"--") {
         return Asked::Name(i + 1);
     }
-    if !is_word(i, b"--at") {
+    if !is_argument(i, b"--at") {
         return Asked::Nothing;
     }
     let mut text = [0u8; 32];
