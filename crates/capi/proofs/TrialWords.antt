@@ -6,17 +6,17 @@ use Rattle.trial_spec.specs.Trial.{unread, damaged, declined, TrialResult, trie
 use Rattle.trying.specs.Counting.{eight}
 use Rattle.trying.specs.Answers.{padded, refusedBy, answeredBy}
 use Rattle.trying.specs.Strangers.{unknownRefused, unknownBy}
-use Rattle.capi.specs.Trial.{refusalWords, trialWords, unknownWords, answerWords, wordsOf, wordsOfUnknown}
+use Rattle.capi.specs.Trial.{trialWords, unknownWords, answerWords, wordsOf, wordsOfUnknown}
 
 pub trial-words : (r : TrialResult) → wordsOf (answeredBy r) ≡ trialWords r
-unfolding wordsOf answerWords answeredBy trialWords refusedBy refusalWords padded eight
+unfolding wordsOf answerWords answeredBy trialWords refusedBy padded eight
 trial-words (tried t) = refl
 trial-words (untried (unread p)) = refl
 trial-words (untried (damaged n p)) = refl
 trial-words (untried (declined n)) = refl
 
 pub unknown-words : (r : UnknownResult) → wordsOfUnknown (unknownBy r) ≡ unknownWords r
-unfolding wordsOfUnknown unknownBy unknownWords unknownRefused refusalWords
+unfolding wordsOfUnknown unknownBy unknownWords unknownRefused
 unknown-words (unknown n) = refl
 unknown-words (uncounted (unread p)) = refl
 unknown-words (uncounted (damaged n p)) = refl

@@ -3,8 +3,8 @@
 use Prim.Native.Nat.{ℕ}
 use mathlib.Core.List.{List, [], _∷_, _++_, replicate}
 use lib.ListN.{length, getD}
-use Rattle.journal_spec.specs.Refusals.{lineRefusal}
-use Rattle.trial_spec.specs.Trial.{Refusal, unread, damaged, declined, TrialResult, tried, untried, UnknownResult, unknown, uncounted}
+use Rattle.trial_spec.specs.Trial.{Refusal, unread, damaged, declined, refusalNumber, refusalPlace, TrialResult, tried, untried}
+use Rattle.trial_spec.specs.Trial.{UnknownResult, unknown, uncounted}
 use Rattle.trying.specs.Counting.{eight}
 use Rattle.trying.specs.Answers.{padded, lowestWord}
 use Rattle.trying.specs.declared.leaf.Answer.{Answer}
@@ -13,11 +13,15 @@ use Rattle.trying.specs.declared.leaf.Trial.{Trial}
 use Rattle.trying.specs.declared.strangers.Unknown.{Unknown}
 use Rattle.trying.specs.declared.strangers.Unknown.the-variants as U
 
--- 1 and the number by which it is declined; 2 and the journal's fault, with number and place; 3, 11 and the place in the log
+-- 1 where it is declined, 2 where the journal is damaged, 3 where a line of the log is refused
+unfoldable pub refusalKind : Refusal → ℕ
+refusalKind (declined n) = 1
+refusalKind (damaged n p) = 2
+refusalKind (unread p) = 3
+
+-- its kind, number and place
 unfoldable pub refusalWords : Refusal → List ℕ
-refusalWords (declined n) = 1 ∷ n ∷ 0 ∷ []
-refusalWords (damaged n p) = 2 ∷ n ∷ p ∷ []
-refusalWords (unread p) = 3 ∷ lineRefusal ∷ p ∷ []
+refusalWords r = refusalKind r ∷ refusalNumber r ∷ refusalPlace r ∷ []
 
 -- 0, the links, how many chances there are, the lowest that was exceeded or 0, and the overs by chance, 0 where there is none
 unfoldable pub trialWords : TrialResult → List ℕ
@@ -33,15 +37,15 @@ unknownWords (uncounted r) = refusalWords r
 
 unfoldable pub answerWords : Answer → List ℕ → List ℕ
 answerWords (A.Tried links chances lowest) overs = 0 ∷ links ∷ chances ∷ lowest ∷ eight (λ j. getD overs j 0)
-answerWords (A.Declined n) overs = 1 ∷ n ∷ 0 ∷ replicate 9 0
-answerWords (A.Damaged f) overs = 2 ∷ f .number ∷ f .place ∷ replicate 9 0
-answerWords (A.Unread p) overs = 3 ∷ lineRefusal ∷ p ∷ replicate 9 0
+answerWords (A.Declined n) overs = refusalWords (declined n) ++ replicate 9 0
+answerWords (A.Damaged f) overs = refusalWords (damaged (f .number) (f .place)) ++ replicate 9 0
+answerWords (A.Unread p) overs = refusalWords (unread p) ++ replicate 9 0
 
 unfoldable pub wordsOf : Trial → List ℕ
 wordsOf t = answerWords (t .answer) (t .overs)
 
 unfoldable pub wordsOfUnknown : Unknown → List ℕ
 wordsOfUnknown (U.Lines n) = 0 ∷ n ∷ 0 ∷ []
-wordsOfUnknown (U.Declined n) = 1 ∷ n ∷ 0 ∷ []
-wordsOfUnknown (U.Damaged f) = 2 ∷ f .number ∷ f .place ∷ []
-wordsOfUnknown (U.Unread p) = 3 ∷ lineRefusal ∷ p ∷ []
+wordsOfUnknown (U.Declined n) = refusalWords (declined n)
+wordsOfUnknown (U.Damaged f) = refusalWords (damaged (f .number) (f .place))
+wordsOfUnknown (U.Unread p) = refusalWords (unread p)

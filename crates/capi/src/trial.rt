@@ -1,14 +1,13 @@
 // The trial of a recorded log (request 2026-12): the call for an entry of the index, with its answer in twelve words, and the call for unknown names,
 // in three. `log` is all of the log, `v` the slice, `len` the journal's length in it, `index` the buffer with the index at its front.
 ghost use mathlib.Core.Path.{_≡_};
+ghost use mathlib.Core.List.{_∷_, replicate};
 ghost use Rattle.trial_spec.specs.Trial.{tryEntry, tryUnknown};
 ghost use Rattle.capi.specs.Trial.{trialWords, wordsOf, unknownWords, wordsOfUnknown};
 use trying::Answer;
+use trying::LINE_REFUSAL;
 use trying::Trial;
 use trying::Unknown;
-
-// The number for a line of the log that is refused.
-const LINE_REFUSAL: u64 = 11;
 
 #[no_mangle]
 pub extern "C" fn journal_trial(
@@ -44,18 +43,19 @@ pub extern "C" fn journal_trial_unknown(
 fn put_trial(t: Trial, out: &mut [u64; 12])
     ensures { λ r. ⌜ now (out .exit) ≡ wordsOf t ⌝ }
 {
-    let o = t.overs;
     let answer = t.answer;
+    let o = t.overs;
     match answer {
         Answer::Tried {
             links,
             chances,
             lowest,
         } => {
+            let count = chances as u64;
             *out = [
                 0,
                 links,
-                chances as u64,
+                count,
                 lowest,
                 o[0],
                 o[1],
@@ -67,29 +67,17 @@ fn put_trial(t: Trial, out: &mut [u64; 12])
                 o[7],
             ];
         }
-        Answer::Declined(n) => {
-            *out = [1, n as u64, 0, 0, 0, 0, 0, 0, 0, 0, 0, 0];
-        }
-        Answer::Damaged(f) => {
-            *out = [
-                2,
-                f.number as u64,
-                f.place as u64,
-                0,
-                0,
-                0,
-                0,
-                0,
-                0,
-                0,
-                0,
-                0,
-            ];
-        }
-        Answer::Unread(place) => {
-            *out = [3, LINE_REFUSAL, place as u64, 0, 0, 0, 0, 0, 0, 0, 0, 0];
-        }
+        Answer::Declined(n) => put_refusal(out, 1, n, 0),
+        Answer::Damaged(f) => put_refusal(out, 2, f.number, f.place),
+        Answer::Unread(place) => put_refusal(out, 3, LINE_REFUSAL, place),
     }
+}
+
+// A refusal: which kind it is, its number and its place.
+fn put_refusal(out: &mut [u64; 12], kind: u64, number: u32, place: usize)
+    ensures { λ r. ⌜ now (out .exit) ≡ kind ∷ number ∷ place ∷ replicate 9 0 ⌝ }
+{
+    *out = [kind, number as u64, place as u64, 0, 0, 0, 0, 0, 0, 0, 0, 0];
 }
 
 // 0 and the lines; else as above.
@@ -107,7 +95,7 @@ fn put_unknown(u: Unknown, out: &mut [u64; 3])
             *out = [2, f.number as u64, f.place as u64];
         }
         Unknown::Unread(place) => {
-            *out = [3, LINE_REFUSAL, place as u64];
+            *out = [3, LINE_REFUSAL as u64, place as u64];
         }
     }
 }

@@ -1,2 +1,4 @@
--- The program's proofs need no laws of their own.
+-- The laws of the pieces that a log is tried in, and of a turn.
 -- Assumes nothing.
+pub mod Whole
+pub mod Turning

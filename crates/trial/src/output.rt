@@ -1,12 +1,13 @@
-// Standard output: a line, the last line, or the help that was asked for.
+// Standard output: lines, gathered so that one write takes many, the last line, or the help that was asked for.
 // What is wrong goes to standard error.
 ghost use Rattle.io.specs.Counts.{Counts};
 use crate::text::put_unknown;
+use arguments::Gathered;
 
-// The first bytes of a buffer, as a line that ends in them; whether it is printed.
-pub(crate) fn print_line(line: &[u8], size: usize) -> bool {
+// The first bytes of a buffer, as a line that ends in them, behind what waits in the room.
+pub(crate) fn gather_line(room: &mut [u8], waiting: usize, line: &[u8], size: usize) -> Gathered {
     let count = clamp(size, line);
-    arguments::print(&line[..count], b"trial: standard output")
+    arguments::gather(room, waiting, &line[..count], b"trial: standard output")
 }
 
 // A number of a buffer's bytes, never more than there are. The contract speaks of the buffer, so that lending the bytes needs no more.
@@ -19,18 +20,22 @@ pub(crate) fn clamp(n: usize, buffer: &[u8]) -> usize
     n
 }
 
-// The lines with unknown names, as the last line.
-pub(crate) fn print_unknown(lines: u64) {
+// The lines with unknown names, as the last line, behind what waits in the room.
+pub(crate) fn print_unknown(room: &mut [u8], waiting: usize, lines: u64) {
     let mut out = [0u8; 64];
     let size = put_unknown(&mut out, lines);
-    print_line(&out, size);
+    let last = gather_line(room, waiting, &out, size);
+    if last.written {
+        arguments::flush(room, last.waiting, b"trial: standard output");
+    }
 }
 
-// A refusal and its place, as the last line.
+// A refusal and its place, as the only line.
 pub(crate) fn print_refusal(word: &[u8], number: u32, place: usize) {
     let mut out = [0u8; listing::MAX_LINE];
     let size = listing::put_words(&mut out, word, number as u64, place as u64);
-    print_line(&out, size);
+    let count = clamp(size, &out);
+    arguments::print(&out[..count], b"trial: standard output");
 }
 
 // The help, if it is what the first argument asks for; any other number of arguments than one or two is wrong.

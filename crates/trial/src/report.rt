@@ -3,7 +3,7 @@
 ghost use mathlib.Core.Path.{_≡_};
 ghost use Prim.Native.Nat.{_≤_};
 ghost use lib.ListN.{length};
-use crate::output::print_line;
+use crate::output::gather_line;
 use crate::output::print_refusal;
 use crate::output::print_unknown;
 use crate::passes::try_pieces;
@@ -11,12 +11,11 @@ use crate::table::count_at;
 use crate::table::table_room;
 use crate::text::put_chance;
 use crate::text::put_head;
+use arguments::Gathered;
 use hex::put;
 use journal::number_in;
+use trying::LINE_REFUSAL;
 use trying::Unknown;
-
-// The number for a line of the log that is refused.
-const LINE_REFUSAL: u32 = 11;
 
 // Room for the longest index: an entry is shorter than its record.
 fn index_room() -> [u8; 65_538]
@@ -51,41 +50,58 @@ pub(crate) fn try_log(fd: i32, v: &[u8]) {
     }
 }
 
-// The lines of all names, then the lines with unknown names.
+// The lines of all names, then the lines with unknown names. They are gathered, so that a write takes many.
 fn print_all(v: &[u8], index: &[u8], table: &[u64], unknown: u64) {
+    let mut space = io::large_buffer();
+    let room: &mut [u8] = &mut space;
     let count = number_in(index, 0, 2) as usize;
+    let mut waiting: usize = 0;
     let mut k: usize = 0;
     while k < count {
-        if !print_name(v, index, table, k) {
+        let printed = print_name(v, index, table, k, room, waiting);
+        if !printed.written {
             return;
         }
+        waiting = printed.waiting;
         k += 1;
     }
-    print_unknown(unknown);
+    print_unknown(room, waiting, unknown);
 }
 
-// The line of the name at a position; whether it is printed.
-fn print_name(v: &[u8], index: &[u8], table: &[u64], k: usize) -> bool {
+// The line of the name at a position, behind what waits in the room.
+fn print_name(
+    v: &[u8],
+    index: &[u8],
+    table: &[u64],
+    k: usize,
+    room: &mut [u8],
+    waiting: usize,
+) -> Gathered {
+    let mut out = line_room();
+    let size = put_name(&mut out, v, index, table, k);
+    gather_line(room, waiting, &out, size)
+}
+
+// Puts the line of the name at a position, and answers its size; none where the index has no such entry.
+fn put_name(out: &mut [u8], v: &[u8], index: &[u8], table: &[u64], k: usize) -> usize {
     let at = entries::entry_place(index, k);
     let size = entries::size_at(index, at);
     if size < 6 {
-        return true;
+        return 0;
     }
     if index.len() < size {
-        return true;
+        return 0;
     }
     if index.len() - size < at {
-        return true;
+        return 0;
     }
     let names = size - 6;
     let start = entries::start_at(index, at);
-    let mut out = line_room();
     let from = at + 2;
     let to = from + names;
-    let head = put_head(&mut out, &index[from..to], count_at(table, k, 0));
-    let end = put_chances(&mut out, head, v, chances_place(start, names), table, k);
-    let last = put(&mut out, end, b"\n");
-    print_line(&out, last)
+    let head = put_head(out, &index[from..to], count_at(table, k, 0));
+    let end = put_chances(out, head, v, chances_place(start, names), table, k);
+    put(out, end, b"\n")
 }
 
 // Where the count of a record's chances stands, behind so many bytes of a name.

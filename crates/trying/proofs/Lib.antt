@@ -12,3 +12,5 @@ pub mod Answered
 pub mod Owned
 pub mod Deciding
 pub mod NotIndexed
+pub mod Tabled
+pub mod InPieces

@@ -7,3 +7,4 @@ pub mod Lowest
 pub mod Answers
 pub mod Owning
 pub mod Strangers
+pub mod Adding

@@ -11,6 +11,9 @@ use crate::lowest::lowest;
 use journal::Fault;
 use journal::number_in;
 
+// Document 02's number for a line of the log that is refused: that of every `Unread`.
+pub const LINE_REFUSAL: u32 = 11;
+
 // The links, how many chances there are, and the lowest that was overrun, 0 for none; or a refusal: 14 or 10; the journal's fault; or 11, the
 // place of the log's line.
 pub enum Answer {

@@ -7,10 +7,10 @@ use Rattle.trial.proofs.report.print_all.Statement.{statement}
 use Rattle.trial.proofs.report.print_all.Tie as tie
 
 abbrev Inv-loop : tie.InvT-loop
-Inv-loop v index table unknown count k₀ k = Unit {0}
+Inv-loop v index table unknown room₀ count waiting₀ k₀ room waiting k = Unit {0}
 
 abbrev μ-loop : tie.MeasureT-loop
-μ-loop v index table unknown count k₀ k = count - k
+μ-loop v index table unknown room₀ count waiting₀ k₀ room waiting k = count - k
 
 pub print-all-spec : {M : Type 1} → statement M
 print-all-spec =
@@ -18,6 +18,8 @@ print-all-spec =
     (tie.spec
     Inv-loop
     μ-loop
+    (λ c κs. search needs)
+    (λ c. search needs)
     (λ c κs. search needs)
     (λ c. tt)
     (λ c κs. search needs)
