@@ -8,7 +8,9 @@ use Rattle.index.proofs.found.alone_by.Statement.{statement}
 use Rattle.index.proofs.found.alone_by.Tie as tie
 
 fault-line-requires : tie.Need-fault-line-requires
-fault-line-requires c κs = let p = c .before .before .before .before .before .before .pre in (fault-inside _ _ _ (p .0) (c .before .before .status .given .1), p .1)
+fault-line-requires c κs =
+    let p = c .before .before .before .before .before .before .pre in
+    (fault-inside _ _ _ (p .0) (c .before .before .status .given .1), p .1)
 
 returns : tie.Need-returns
 unfolding aloneBy meaning
