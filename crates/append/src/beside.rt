@@ -21,11 +21,9 @@ pub(crate) fn index_room() -> [u8; 65_537]
 pub(crate) fn open_index(path: &[u8], index: &mut [u8]) -> i32 {
     let opened = open_file(path, index);
     let fd = opened.fd;
-    if fd == -1 {
+    let size = opened.size;
+    if size == 0 {
         entries::put_count(index, 0);
-    }
-    if read.size == 0 {
-        clear_count(index);
     }
     fd
 }
