@@ -1,22 +1,27 @@
 -- A name looked up from a place among the entries of an index: since these rise, the entry that has it is the only one; where none from there on has
--- it, all entries decide. Assumes nothing.
+-- it, all entries decide. And the places that are kept stay places of entries. Assumes nothing.
 use mathlib.Core.Path.{_≡_, refl, sym, ap, _∙_}
-use Prim.Native.Nat.{ℕ, _<_}
-use mathlib.Core.List.{List, [], _∷_, _++_, append-assoc}
+use Prim.Native.Nat.{ℕ, zero, suc, _<_}
+use mathlib.Core.List.{List, [], _∷_, _++_, append-nil, append-assoc}
 use mathlib.Core.Option.{none, some}
 use native.Mathlib.Omega.{arith}
+use lib.ListN.{length, getD, set, replicate, length-set}
+use lib.Seq.{getD-set-same, getD-set-other}
+use lib.Dec.{eqb}
+use borrow.Author.Tests.{eqb-true, eqb-false}
 use Rattle.journal_spec.specs.Index.{IndexEntry, equal, orderOf}
 use Rattle.journal_spec.proofs.NameOrder.{order-equal}
 use Rattle.journal_spec.specs.Indexed.{lookUp, Rising}
+use Rattle.journal_spec.proofs.Reading.{by-test}
 use Rattle.journal_spec.proofs.Indexes.{absent, other}
 use Rattle.journal.specs.Numbers.{numberIn}
 use Rattle.entries.specs.Entries.{entriesFrom, entriesIn}
 use Rattle.entries.specs.Places.{lookFrom}
 use Rattle.entries.specs.Answers.{startMeaning}
 use Rattle.entries.specs.declared.finding.Looked.{Looked}
-use Rattle.entries.proofs.ByCounts.{count-read}
+use Rattle.entries.proofs.ByCounts.{entries-none, count-read}
 use Rattle.entries.proofs.LookedUp.{look-is, look-all, look-some, look-parts}
-use Rattle.indexing.specs.Near.{Among, Near}
+use Rattle.indexing.specs.Near.{keys, Among, Near, Kept}
 
 -- of entries that rise, a name that a later one has is not that of an earlier one
 found-later : (name : List ℕ) (front es : List IndexEntry) (s : ℕ) → Rising (front ++ es) → lookUp name es ≡ some s → lookUp name (front ++ es) ≡ some s
@@ -33,7 +38,7 @@ found-later name (e ∷ front) es s r h =
         omega arith
 
 -- before any is passed all are left
-pub among-all : (index : List ℕ) (count : ℕ) → count ≡ numberIn 2 0 index → Among index count 2
+among-all : (index : List ℕ) (count : ℕ) → count ≡ numberIn 2 0 index → Among index count 2
 among-all index count n = record { front = []; parts = sym (count-read index count n) }
 
 module _ (index name : List ℕ) where
@@ -62,3 +67,36 @@ module _ (index name : List ℕ) where
   -- among all
   pub near-all : (count : ℕ) (r : Looked) → count ≡ numberIn 2 0 index → r ≡ lookFrom name count 2 (entriesFrom index count 2) → Near index name r
   near-all count r n e = record { start = look-all name index count r n e; among = among-found count 2 r (among-all index count n) e }
+
+-- ---- the places that are kept
+
+-- no entries are left from any place
+among-none : (index : List ℕ) (place : ℕ) → Among index 0 place
+among-none index place = record {
+  front = entriesIn index;
+  parts = sym (ap (λ (es : List IndexEntry). entriesIn index ++ es) (entries-none index 0 place refl) ∙ append-nil (entriesIn index));
+}
+
+zeros : (n i : ℕ) → _≡_ {A = ℕ} (getD (replicate n 0) i 0) 0
+zeros zero i = refl
+zeros (suc n) zero = refl
+zeros (suc n) (suc i) = zeros n i
+
+pub kept-none : (index : List ℕ) → Kept index (replicate keys 0) (replicate keys 0)
+kept-none index = record { first = refl; second = refl; each = λ i. rw (zeros keys i) (among-none index 0) }
+
+module _ (index lefts places : List ℕ) (k : Kept index lefts places) (key left place : ℕ) (h : key < keys) (a : Among index left place) where
+  pub kept-more : Kept index (set lefts key left) (set places key place)
+  kept-more = record {
+    first = length-set lefts key left ∙ k .first;
+    second = length-set places key place ∙ k .second;
+    each = λ i. by-test (eqb key i) (λ t. here i (eqb-true key i t)) (λ t. there i (eqb-false key i t));
+  }
+    where
+      here : (i : ℕ) → key ≡ i → Among index (getD (set lefts key left) i 0) (getD (set places key place) i 0)
+      here i e =
+          rw (← e)
+          (rw (getD-set-same lefts key left 0 (omega (arith, k .first, h)), getD-set-same places key place 0 (omega (arith, k .second, h))) a)
+
+      there : (i : ℕ) → (key ≡ i → ⊥) → Among index (getD (set lefts key left) i 0) (getD (set places key place) i 0)
+      there i d = rw (getD-set-other lefts key i left 0 (λ e. d (sym e)), getD-set-other places key i place 0 (λ e. d (sym e))) (k .each i)

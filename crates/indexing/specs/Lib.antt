@@ -3,7 +3,7 @@
 pub mod Outcome
 pub mod Checked
 pub mod Made
--- for private contracts: what stands in bytes, records held against the entries of a buffer, and the place of an entry's record
+-- for private contracts: what stands in bytes, records held against the entries of a buffer, places among these, and the place of an entry's record
 pub mod Standing
 pub mod Owned
 pub mod Near

@@ -1,8 +1,9 @@
--- Refusal 14's pass looks each name up from the entry found last on: a place among the entries of an index, and what is found of a name from it.
--- Assumes nothing.
+-- Refusal 14's pass looks each name up from a place on that it has kept: a place among the entries of an index, what is found of a name from it,
+-- and the places that are kept. Assumes nothing.
 use mathlib.Core.Path.{_≡_}
 use Prim.Native.Nat.{ℕ}
 use mathlib.Core.List.{List, _++_}
+use lib.ListN.{length, getD}
 use Rattle.journal_spec.specs.Index.{IndexEntry}
 use Rattle.journal_spec.specs.Indexed.{lookUp}
 use Rattle.entries.specs.Entries.{entriesFrom, entriesIn}
@@ -18,3 +19,13 @@ pub record Among (index : List ℕ) (left place : ℕ) : Type 0 where
 pub record Near (index name : List ℕ) (r : Looked) : Type 0 where
   pub start : startMeaning (r .start) ≡ lookUp name (entriesIn index)
   pub among : Among index (r .left) (r .place)
+
+-- how many places are kept
+abbrev pub keys : ℕ
+keys = 256
+
+-- each is one among the entries, with how many are left from it on
+pub record Kept (index lefts places : List ℕ) : Type 0 where
+  pub first : length lefts ≡ keys
+  pub second : length places ≡ keys
+  pub each : (i : ℕ) → Among index (getD lefts i 0) (getD places i 0)

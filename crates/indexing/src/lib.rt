@@ -3,6 +3,7 @@
 mod append;
 mod log;
 mod make;
+mod near;
 mod next;
 mod own;
 

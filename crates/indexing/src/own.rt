@@ -4,17 +4,14 @@ ghost use mathlib.Core.Path.{_≡_};
 ghost use Rattle.journal_spec.specs.Index.{indexBytes, inFront};
 ghost use Rattle.journal_spec.specs.MakeIndex.{checkIndexOf};
 ghost use Rattle.journal_spec.proofs.Whole.{WholeBytes};
-ghost use Rattle.journal_spec.specs.Indexed.{Rising};
-ghost use Rattle.entries.specs.Entries.{entriesIn};
 ghost use Rattle.entries.specs.Answers.{startMeaning};
 ghost use Rattle.indexing.specs.Standing.{indexIn};
 ghost use Rattle.indexing.specs.Owned.{admits, hit};
-ghost use Rattle.indexing.specs.Near.{Among, Near};
 ghost use Rattle.indexing.specs.Checked.{checkMeaning};
-use entries::Looked;
+use crate::near::PLACES;
+use crate::near::look_near;
 use entries::Start;
 use entries::is_index;
-use entries::look_from;
 use journal::Contents;
 use journal::Fault;
 use journal::Rule;
@@ -51,8 +48,7 @@ pub fn check_index(v: &[u8], len: usize, index: &[u8]) -> Checked
     }
 }
 
-// Whether the index of the records in b is in front of a buffer. Records mostly come in the order of their names, or with one name in a row, so
-// each name is looked for from the entry found last on.
+// Whether the index of the records in b is in front of a buffer.
 pub(crate) fn is_own(b: &[u8], index: &[u8]) -> bool
     requires { ⌜ WholeBytes (now b) ⌝ }
     ensures { λ r. ⌜ r ≡ inFront (indexBytes (indexIn (now (b .entry)))) (now (index .entry)) ⌝ }
@@ -63,32 +59,17 @@ pub(crate) fn is_own(b: &[u8], index: &[u8]) -> bool
     let count = number_in(index, 0, 2);
     let mut hits: u64 = 0;
     let mut at: usize = 0;
-    let mut left = count;
-    let mut place: usize = 2;
+    let mut lefts: [u64; PLACES] = [0; PLACES];
+    let mut places: [usize; PLACES] = [0; PLACES];
     while at < b.len() {
-        let near = look_near(index, left, place, record_name(&b[at..]));
-        let start = near.start;
+        let start = look_near(index, record_name(&b[at..]), &mut lefts, &mut places);
         if !is_admitted(start, at) {
             return false;
         }
         hits += hit_of(start, at);
         at += record_size(&b[at..]);
-        left = near.left;
-        place = near.place;
     }
     hits == count
-}
-
-// The name looked up from a place among the entries on, and where it is not there, among all.
-fn look_near(index: &[u8], left: u64, place: usize, name: &[u8]) -> Looked
-    requires { ⌜ Rising (entriesIn (now index)) × Among (now index) left place ⌝ }
-    ensures { λ r. ⌜ Near (now (index .entry)) (now (name .entry)) r ⌝ }
-{
-    let near = look_from(index, left, place, name);
-    if 0 < near.left {
-        return near;
-    }
-    look_from(index, number_in(index, 0, 2), 2, name)
 }
 
 // Whether an entry's start is there and not before a record's.

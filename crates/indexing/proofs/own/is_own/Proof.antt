@@ -16,23 +16,23 @@ use Rattle.records.specs.Front.{recordSize}
 use Rattle.entries.specs.Entries.{entriesIn}
 use Rattle.entries.specs.Shape.{isIndex}
 use Rattle.indexing.specs.Owned.{admits, hit}
-use Rattle.indexing.specs.Near.{Among}
-use Rattle.indexing.proofs.Nearby.{among-all}
+use Rattle.indexing.specs.Near.{Kept}
+use Rattle.indexing.proofs.Nearby.{kept-none}
 use Rattle.indexing.proofs.OwnPass.{rises, count-is, no-index, owns-own, Owning, owning-start, from, Turn, owning-turn, owning-ends}
 use Rattle.indexing.proofs.own.is_own.Statement.{statement}
 use Rattle.indexing.proofs.own.is_own.Tie as tie
 
 abbrev Inv-loop : tie.InvT-loop
-Inv-loop b index count hits₀ at₀ left₀ place₀ hits at left place = Owning b index hits at × Among index left place
+Inv-loop b index count hits₀ at₀ lefts₀ places₀ hits at lefts places = Owning b index hits at × Kept index lefts places
 
 abbrev μ-loop : tie.MeasureT-loop
-μ-loop b index count hits₀ at₀ left₀ place₀ hits at left place = length b - at
+μ-loop b index count hits₀ at₀ lefts₀ places₀ hits at lefts places = length b - at
 
 returns : tie.Need-returns Inv-loop μ-loop
 returns c = sym (no-index _ _ (c .before .before .before .before .pre) (sym (c .before .is-index .ensures) ∙ not-true _ (c .if1 .taken)))
 
 loop-holds : tie.Need-loop-holds Inv-loop μ-loop
-loop-holds c = (owning-start _ _ (c .before .before .before .before .before .pre), among-all _ _ (c .number-in .ensures))
+loop-holds c = (owning-start _ _ (c .before .before .before .before .before .pre), kept-none _)
 
 -- the buffer begins with an index
 told : (c : tie.After-number-in Inv-loop μ-loop) → isIndex (now (c .before .before .before .before .before .args .index)) ≡ true
@@ -59,37 +59,44 @@ turn : (c : tie.After-record-name Inv-loop μ-loop)
     Turn (whole c) index (number c) (place c) (now (c .record-name .result)) (recordSize (from (whole c) (place c)))
 turn c = owning-turn _ _ (number c) (place c) (c .before .before .before .loop .inv .0) _ (omega arith) (c .record-name .ensures)
 
--- the place from which it is looked up is one of entries that rise
+-- the entries rise, and the places that are kept are among them
 look-near-requires : tie.Need-look-near-requires Inv-loop μ-loop
-look-near-requires c κs = let n = c .before .before .before .before in (rises _ (bytes n) (told n), c .before .before .before .loop .inv .1)
+look-near-requires c κs =
+    let loop = c .before .before .before .before .before in
+    let n = loop .before in
+    (rises _ (bytes n) (told n), loop .loop .inv .1)
 
--- what was told of it
-admitted : (c : tie.After-is-admitted Inv-loop μ-loop) → let r = c .before .before in c .is-admitted .result ≡ admits (found r) (place r)
-admitted c = c .is-admitted .ensures ∙ ap (λ (o : Option ℕ). admits o (place (c .before .before))) (c .before .look-near .ensures .start)
+-- what was told of it, once it is looked up
+abbrev named : tie.After-is-admitted Inv-loop μ-loop → tie.After-record-name Inv-loop μ-loop
+named c = c .before .before .before .before
 
-hits-is : (c : tie.After-hit-of Inv-loop μ-loop) → let r = c .before .before .before .before in c .hit-of .result ≡ hit (found r) (place r)
-hits-is c = c .hit-of .ensures ∙ ap (λ (o : Option ℕ). hit o (place (c .before .before .before .before))) (c .before .before .before .look-near .ensures .start)
+admitted : (c : tie.After-is-admitted Inv-loop μ-loop) → let r = named c in c .is-admitted .result ≡ admits (found r) (place r)
+admitted c = c .is-admitted .ensures ∙ ap (λ (o : Option ℕ). admits o (place (named c))) (c .before .look-near .ensures .0)
+
+hits-is : (c : tie.After-hit-of Inv-loop μ-loop) → let r = named (c .before .before) in c .hit-of .result ≡ hit (found r) (place r)
+hits-is c = c .hit-of .ensures ∙ ap (λ (o : Option ℕ). hit o (place (named (c .before .before)))) (c .before .before .before .look-near .ensures .0)
 
 returns-2 : tie.Need-returns-2 Inv-loop μ-loop
 returns-2 c =
-    let n = c .before .before .before .before .before .before .before in
-    sym (turn (c .before .before .before) .refused (sym (admitted (c .before)) ∙ not-true _ (c .if2 .taken)))
+    let r = named (c .before) in
+    let n = r .before .before .before .before in
+    sym (turn r .refused (sym (admitted (c .before)) ∙ not-true _ (c .if2 .taken)))
     ∙ owns-own _ _ (n .before .before .before .before .before .pre) (bytes n) (told n)
 
 -- nothing is too large
-small : (c : tie.After-hit-of Inv-loop μ-loop) → let r = c .before .before .before .before in (c .hit-of .result ≤ 1) × (number r ≤ place r)
-small c = let r = c .before .before .before .before in (rw (hits-is c) (turn r .most), r .before .before .before .loop .inv .0 .few)
+small : (c : tie.After-hit-of Inv-loop μ-loop) → let r = named (c .before .before) in (c .hit-of .result ≤ 1) × (number r ≤ place r)
+small c = let r = named (c .before .before) in (rw (hits-is c) (turn r .most), r .before .before .before .loop .inv .0 .few)
 
 within : (c : tie.After-record-size Inv-loop μ-loop)
-    → let r = c .before .before .before .before .before .before in (place r + c .record-size .result ≤ length (whole r)) × (0 < c .record-size .result)
-within c = let t = turn (c .before .before .before .before .before .before) in rw (c .record-size .ensures) (t .inside, t .positive)
+    → let r = named (c .before .before .before .before) in (place r + c .record-size .result ≤ length (whole r)) × (0 < c .record-size .result)
+within c = let t = turn (named (c .before .before .before .before)) in rw (c .record-size .ensures) (t .inside, t .positive)
 
 loop-again : tie.Need-loop-again Inv-loop μ-loop
 loop-again c =
     let h = c .before .before in
-    let t = turn (h .before .before .before .before) in (
+    let t = turn (named (h .before .before)) in (
       rw (hits-is h, c .record-size .ensures) (t .goes (sym (admitted (h .before .before)) ∙ not-false _ (h .before .if2 .left))),
-      h .before .before .before .look-near .ensures .among,
+      h .before .before .before .look-near .ensures .1,
     )
 
 returns-3 : tie.Need-returns-3 Inv-loop μ-loop

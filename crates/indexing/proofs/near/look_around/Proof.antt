@@ -1,10 +1,10 @@
--- `look_near` looks the name up from the place on, and among all entries where it is not there.
+-- `look_around` looks the name up from the place on, and among all entries where it is not there.
 -- Assumes nothing.
 use native.Mathlib.Omega.{arith}
 use borrow.Author.Needs.{needs}
 use Rattle.indexing.proofs.Nearby.{near-found, near-all}
-use Rattle.indexing.proofs.own.look_near.Statement.{statement}
-use Rattle.indexing.proofs.own.look_near.Tie as tie
+use Rattle.indexing.proofs.near.look_around.Statement.{statement}
+use Rattle.indexing.proofs.near.look_around.Tie as tie
 
 returns : tie.Need-returns
 returns c =
@@ -14,5 +14,5 @@ returns c =
 returns-2 : tie.Need-returns-2
 returns-2 c = near-all _ _ _ _ (c .before .number-in .ensures) (c .look-from2 .ensures)
 
-pub look-near-spec : {M : Type 1} → statement M
-look-near-spec = tie.close (tie.spec (λ c κs. search needs) returns (λ c κs. search needs) (λ c κs. search needs) returns-2)
+pub look-around-spec : {M : Type 1} → statement M
+look-around-spec = tie.close (tie.spec (λ c κs. search needs) returns (λ c κs. search needs) (λ c κs. search needs) returns-2)
