@@ -2,17 +2,24 @@
 // An argument that starts with a dash is no name, unless `--` stands before it.
 use arguments::Number;
 use arguments::is_argument;
+use limit::MAX_CHANCE;
+use limit::MIN_CHANCE;
 ghost use Prim.Native.Nat.{_≤_, _<_};
 ghost use lib.ListN.{length};
 ghost use Rattle.io.specs.Counts.{Counts};
 
+// The most chances of a record, and so of those asked for.
+pub(crate) const MAX_CHANCES: usize = 8;
+
 // What is asked for: the last record of the name in an argument, the record at a position, counted from 0, or the slots at the chances from an argument
-// on, separated by tabs or not.
+// on, separated by tabs or not. Or which chance, counted from 1, is none or one too many; or that the position is none; or that the words ask for nothing.
 pub(crate) enum Asked {
     Name(usize),
     At(u32),
     Slots(usize),
     Tabs(usize),
+    WrongChance(usize),
+    WrongPosition,
     Nothing,
 }
 
@@ -45,40 +52,43 @@ pub(crate) fn question() -> Asked {
 // The slots: every argument behind `--tsv` is a chance.
 fn slots_question() -> Asked {
     if is_argument(2, b"--tsv") {
-        if are_numbers(3) {
-            return Asked::Tabs(3);
-        }
-        return Asked::Nothing;
+        return at_chances(Asked::Tabs(3), wrong_chance(3));
     }
-    if are_numbers(2) {
-        return Asked::Slots(2);
-    }
-    Asked::Nothing
+    at_chances(Asked::Slots(2), wrong_chance(2))
 }
 
-// Whether every argument from one on is a number, and there are no more than eight.
-fn are_numbers(first: usize) -> bool
+// What is asked for at chances of which none is wrong, or the one that is.
+fn at_chances(asked: Asked, wrong: usize) -> Asked {
+    if wrong > 0 {
+        return Asked::WrongChance(wrong);
+    }
+    asked
+}
+
+// Which of the arguments from one on, counted from 1, is no chance or one too many; 0 where none is.
+fn wrong_chance(first: usize) -> usize
     requires { ⌜ first < 100 ⌝ }
 {
     let end = os::arg_count();
-    if first + 8 < end {
-        return false;
-    }
-    let mut i = first;
-    while i < end {
-        if !is_number(i) {
-            return false;
+    let mut n = 0;
+    while n < MAX_CHANCES {
+        if end <= first + n {
+            return 0;
         }
-        i += 1;
+        if !is_chance(first + n) {
+            return n + 1;
+        }
+        n += 1;
     }
-    true
+    if first + n < end {
+        return n + 1;
+    }
+    0
 }
 
-fn is_number(i: usize) -> bool {
-    match number(i) {
-        Number::Value(_) => true,
-        Number::Nothing => false,
-    }
+// Whether an argument is a chance.
+fn is_chance(i: usize) -> bool {
+    MIN_CHANCE <= chance(i) as u64
 }
 
 // The chances among the arguments from one on, as many as there are and have room; their number.
@@ -101,7 +111,7 @@ pub(crate) fn chances(first: usize, out: &mut [u32]) -> usize
     n
 }
 
-// The chance in an argument, or 0.
+// The chance in an argument, or 0, which is none.
 fn chance(i: usize) -> u32 {
     match number(i) {
         Number::Value(n) => n,
@@ -109,11 +119,11 @@ fn chance(i: usize) -> u32 {
     }
 }
 
-// The number in an argument.
+// The number in an argument, of those up to the largest chance.
 fn number(i: usize) -> Number {
     let mut text = [0u8; 32];
     let size = os::arg(i, &mut text);
-    arguments::read_number(&text[..size], 999_999)
+    arguments::read_number(&text[..size], MAX_CHANCE as u32)
 }
 
 // One record.
@@ -153,7 +163,7 @@ fn option_at(i: usize) -> Asked
     let size = os::arg(i + 1, &mut text);
     match arguments::read_number(&text[..size], 65_535) {
         Number::Value(n) => Asked::At(n),
-        Number::Nothing => Asked::Nothing,
+        Number::Nothing => Asked::WrongPosition,
     }
 }
 

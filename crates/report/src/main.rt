@@ -12,6 +12,8 @@ fn main() {
     let asked = input::question();
     match asked {
         Asked::Nothing => output::usage(),
+        Asked::WrongChance(which) => output::refuse_chance(which),
+        Asked::WrongPosition => output::refuse_position(),
         _ => read_volume(asked),
     }
 }

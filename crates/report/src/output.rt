@@ -19,16 +19,17 @@ pub(crate) fn print_asked(v: &[u8], asked: Asked) {
         Asked::At(i) => print_record(v, records, at_position(v, records, i as usize)),
         Asked::Slots(chances) => print_slots(v, false, chances),
         Asked::Tabs(chances) => print_slots(v, true, chances),
-        Asked::Nothing => usage(),
+        _ => usage(),
     }
 }
 
-// The slots with the limits at the chances among the arguments from one on, and then the end state.
+// The slots with the limits at the chances among the arguments from one on, and then the end state. Behind a write that failed there is none.
 fn print_slots(v: &[u8], tabs: bool, first: usize) {
-    let mut asked = [0u32; 8];
+    let mut asked = [0u32; input::MAX_CHANCES];
     let n = input::chances(first, &mut asked);
-    slots::print_slots(v, tabs, &asked[..n]);
-    print_state(v);
+    if slots::print_slots(v, tabs, &asked[..n]) {
+        print_state(v);
+    }
 }
 
 // The last record of the name in an argument.
@@ -94,6 +95,28 @@ fn print_state(v: &[u8]) {
     lines::print_text(&out, size);
 }
 
+// The chance among the arguments, counted from 1, that is none, or one too many.
+pub(crate) fn refuse_chance(which: usize) {
+    io::write_all(libc::STDERR_FILENO, b"report: CHANCE ");
+    io::print_decimal(libc::STDERR_FILENO, which as u64);
+    if input::MAX_CHANCES < which {
+        arguments::complain(b": ", b"there are at most 8");
+        return;
+    }
+    arguments::complain(
+        b": ",
+        b"not a decimal number from 1 to 999999 without leading zeros",
+    );
+}
+
+// The position among the arguments is none.
+pub(crate) fn refuse_position() {
+    arguments::complain(
+        b"report: ",
+        b"I: not a decimal number from 0 to 65535 without leading zeros",
+    );
+}
+
 // The help, if it is what the first argument asks for; anything else is wrong.
 pub(crate) fn usage() {
     arguments::usage(
@@ -101,9 +124,9 @@ pub(crate) fn usage() {
         \x20      report record [--ticks] NAME < VOLUME\n\
         \x20      report record [--ticks] --at I < VOLUME\n\
         slots: under a head, for each name its last record, by name: name, date, mark, number of times, mean and spread to\n\
-        the nearest tick, and chance:limit for each chance, or for the chances asked for, up to eight; a limit is rounded up\n\
-        to a whole tick, - where there is none. Mean, spread and limits are milliseconds. The last line is the volume's end\n\
-        state. With --tsv a tab separates the columns, and there is no head.\n\
+        the nearest tick, and chance:limit for each chance, or for the chances asked for, up to eight, each from 1 to\n\
+        999999; a limit is rounded up to a whole tick, - where there is none. Mean, spread and limits are milliseconds. The\n\
+        last line is the volume's end state. With --tsv a tab separates the columns, and there is no head.\n\
         record: the last record of a name, or the one at position I, counted from 0: every field in words, times in ticks\n\
         and milliseconds, mean, spread and limits as bits, exactly, and rounded. With --ticks the times alone, one a line,\n\
         as append takes them. A NAME that starts with a dash stands behind --. The last line is damaged with the fault's\n\

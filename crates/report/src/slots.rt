@@ -9,21 +9,23 @@ use slotting::entry_line;
 use slotting::head_line;
 use slotting::name_width;
 
-// The report of a volume, by its index, which is made first; of a damaged one there is none.
-pub(crate) fn print_slots(v: &[u8], tabs: bool, asked: &[u32]) {
+// The report of a volume, by its index, which is made first; of a damaged one there is none. Whether no write failed.
+pub(crate) fn print_slots(v: &[u8], tabs: bool, asked: &[u32]) -> bool {
     let mut index = index_room();
-    if is_indexed(v, &mut index) {
-        print_report(v, &index, tabs, asked);
+    if !is_indexed(v, &mut index) {
+        return true;
     }
+    print_report(v, &index, tabs, asked)
 }
 
-// The head, and the line of every entry.
-fn print_report(v: &[u8], index: &[u8], tabs: bool, asked: &[u32]) {
+// The head, and the line of every entry; whether they were written.
+fn print_report(v: &[u8], index: &[u8], tabs: bool, asked: &[u32]) -> bool {
     let names = names_in(index);
     let width = name_width(index);
-    if print_head(width, tabs, names) {
-        print_lines(v, index, names, Layout { name: width, tabs }, asked);
+    if !print_head(width, tabs, names) {
+        return false;
     }
+    print_lines(v, index, names, Layout { name: width, tabs }, asked)
 }
 
 // How many entries an index has.
@@ -31,15 +33,16 @@ fn names_in(index: &[u8]) -> usize {
     end_of(index).count
 }
 
-// The lines of so many entries.
-fn print_lines(v: &[u8], index: &[u8], names: usize, layout: Layout, asked: &[u32]) {
+// The lines of so many entries; whether they were written.
+fn print_lines(v: &[u8], index: &[u8], names: usize, layout: Layout, asked: &[u32]) -> bool {
     let mut k = 0;
     while k < names {
         if !print_line(v, index, k, layout, asked) {
-            return;
+            return false;
         }
         k += 1;
     }
+    true
 }
 
 // The head, where there are lines below it and no tabs; whether it was written.

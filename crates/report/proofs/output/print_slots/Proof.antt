@@ -19,4 +19,5 @@ print-slots-spec =
     slice-aggregate-print-slots
     (λ c κs. search needs)
     (λ c κs. search needs)
+    (λ c. search needs)
     (λ c. search needs))
