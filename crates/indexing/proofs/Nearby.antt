@@ -1,27 +1,27 @@
 -- A name looked up from a place among the entries of an index: since these rise, the entry that has it is the only one; where none from there on has
 -- it, all entries decide. And the places that are kept stay places of entries. Assumes nothing.
 use mathlib.Core.Path.{_≡_, refl, sym, ap, _∙_}
-use Prim.Native.Nat.{ℕ, zero, suc, _<_}
+use Prim.Native.Nat.{ℕ, zero, suc, _≤_, _<_}
 use mathlib.Core.List.{List, [], _∷_, _++_, append-nil, append-assoc}
 use mathlib.Core.Option.{none, some}
 use native.Mathlib.Omega.{arith}
 use lib.ListN.{length, getD, set, replicate, length-set}
 use lib.Seq.{getD-set-same, getD-set-other}
-use lib.Dec.{eqb}
+use lib.Dec.{eqb, leb}
 use borrow.Author.Tests.{eqb-true, eqb-false}
-use Rattle.journal_spec.specs.Index.{IndexEntry, equal, orderOf}
+use Rattle.journal_spec.specs.Index.{IndexEntry, Order, lower, equal, higher, orderOf}
 use Rattle.journal_spec.proofs.NameOrder.{order-equal}
-use Rattle.journal_spec.specs.Indexed.{lookUp, Rising}
+use Rattle.journal_spec.specs.Indexed.{orElse, whereEqual, lookUp, Rising}
 use Rattle.journal_spec.proofs.Reading.{by-test}
 use Rattle.journal_spec.proofs.Indexes.{absent, other}
 use Rattle.journal.specs.Numbers.{numberIn}
-use Rattle.entries.specs.Entries.{entriesFrom, entriesIn}
+use Rattle.entries.specs.Entries.{behindEntry, entriesFrom, entriesIn}
 use Rattle.entries.specs.Places.{lookFrom}
 use Rattle.entries.specs.Answers.{startMeaning}
 use Rattle.entries.specs.declared.finding.Looked.{Looked}
 use Rattle.entries.proofs.ByCounts.{entries-none, count-read}
 use Rattle.entries.proofs.LookedUp.{look-is, look-all, look-some, look-parts}
-use Rattle.indexing.specs.Near.{keys, Among, Near, Kept}
+use Rattle.indexing.specs.Near.{keys, Among, atMostOne, Near, Kept}
 
 -- of entries that rise, a name that a later one has is not that of an earlier one
 found-later : (name : List ℕ) (front es : List IndexEntry) (s : ℕ) → Rising (front ++ es) → lookUp name es ≡ some s → lookUp name (front ++ es) ≡ some s
@@ -37,9 +37,51 @@ found-later name (e ∷ front) es s r h =
         let y : _≡_ {A = ℕ} 0 1 = cc in
         omega arith
 
+-- a name that entries have is looked up among them whatever follows
+found-front : (name : List ℕ) (es back : List IndexEntry) (s : ℕ) → lookUp name es ≡ some s → lookUp name (es ++ back) ≡ some s
+unfolding lookUp orElse whereEqual
+found-front name [] back s h = let y : _≡_ {A = ℕ} 0 1 = cc in absurd (omega arith)
+found-front name (e ∷ es) back s h = go (found-front name es back s) (orderOf name (e .name)) h
+  where
+    go : (lookUp name es ≡ some s → lookUp name (es ++ back) ≡ some s) → (o : Order) → orElse (whereEqual o (e .start)) (lookUp name es) ≡ some s
+        → orElse (whereEqual o (e .start)) (lookUp name (es ++ back)) ≡ some s
+    go later lower k = unfold whereEqual orElse in later k
+    go later equal k = unfold whereEqual orElse in k
+    go later higher k = unfold whereEqual orElse in later k
+
 -- before any is passed all are left
 among-all : (index : List ℕ) (count : ℕ) → count ≡ numberIn 2 0 index → Among index count 2
-among-all index count n = record { front = []; parts = sym (count-read index count n) }
+among-all index count n = record { front = []; back = []; parts = sym (append-nil (entriesFrom index count 2) ∙ count-read index count n) }
+
+-- ---- one of the entries from a place on
+
+pub one-some : (n : ℕ) → 0 < n → 1 ≡ atMostOne n
+unfolding atMostOne
+one-some zero h = absurd (omega arith)
+one-some (suc n) h = refl
+
+pub one-none : (n : ℕ) → n ≤ 0 → 0 ≡ atMostOne n
+unfolding atMostOne
+one-none zero h = refl
+one-none (suc n) h = absurd (omega arith)
+
+-- of entries from a place on the first is one too
+first-parts : (b : List ℕ) (n at : ℕ) → (others : List IndexEntry) × (entriesFrom b (suc n) at ≡ entriesFrom b 1 at ++ others)
+unfolding entriesFrom
+first-parts b n at =
+    by-test (leb (behindEntry b at) (length b)) (λ t. (entriesFrom b n (behindEntry b at), rw t refl)) (λ t. ([], rw t refl))
+
+pub among-first : (index : List ℕ) (left place : ℕ) → Among index left place → Among index (atMostOne left) place
+unfolding atMostOne
+among-first index zero place a = a
+among-first index (suc n) place a =
+    let x = first-parts index n place in
+    record {
+      front = a .front;
+      back = x .0 ++ a .back;
+      parts = a .parts ∙ ap (λ (es : List IndexEntry). a .front ++ (es ++ a .back)) (x .1)
+          ∙ ap (λ (es : List IndexEntry). a .front ++ es) (append-assoc (entriesFrom index 1 place) (x .0) (a .back));
+    }
 
 module _ (index name : List ℕ) where
   among-found : (left place : ℕ) (r : Looked) → Among index left place → r ≡ lookFrom name left place (entriesFrom index left place)
@@ -48,7 +90,10 @@ module _ (index name : List ℕ) where
       let x = look-parts name index left place in
       rw e (record {
         front = a .front ++ x .passed;
-        parts = a .parts ∙ ap (λ (es : List IndexEntry). a .front ++ es) (x .parts) ∙ sym (append-assoc (a .front) (x .passed) _);
+        back = a .back;
+        parts = a .parts ∙ ap (λ (es : List IndexEntry). a .front ++ (es ++ a .back)) (x .parts)
+            ∙ ap (λ (es : List IndexEntry). a .front ++ es) (append-assoc (x .passed) _ (a .back))
+            ∙ sym (append-assoc (a .front) (x .passed) _);
       })
 
   -- found from a place on
@@ -58,7 +103,8 @@ module _ (index name : List ℕ) where
       let es = entriesFrom index left place in
       let x = look-some name left place es (rw e at h) in
       let all : lookUp name (entriesIn index) ≡ some (x .0) =
-      ap (lookUp name) (a .parts) ∙ found-later name (a .front) es (x .0) (rw (a .parts) at rising) (x .1) in
+      ap (lookUp name) (a .parts)
+      ∙ found-later name (a .front) (es ++ a .back) (x .0) (rw (a .parts) at rising) (found-front name es (a .back) (x .0) (x .1)) in
       record {
         start = ap (λ (l : Looked). startMeaning (l .start)) e ∙ look-is name left place es ∙ x .1 ∙ sym all;
         among = among-found left place r a e;
@@ -74,7 +120,8 @@ module _ (index name : List ℕ) where
 among-none : (index : List ℕ) (place : ℕ) → Among index 0 place
 among-none index place = record {
   front = entriesIn index;
-  parts = sym (ap (λ (es : List IndexEntry). entriesIn index ++ es) (entries-none index 0 place refl) ∙ append-nil (entriesIn index));
+  back = [];
+  parts = sym (ap (λ (es : List IndexEntry). entriesIn index ++ (es ++ [])) (entries-none index 0 place refl) ∙ append-nil (entriesIn index));
 }
 
 zeros : (n i : ℕ) → _≡_ {A = ℕ} (getD (replicate n 0) i 0) 0

@@ -1,7 +1,7 @@
 -- Refusal 14's pass looks each name up from a place on that it has kept: a place among the entries of an index, what is found of a name from it,
 -- and the places that are kept. Assumes nothing.
 use mathlib.Core.Path.{_≡_}
-use Prim.Native.Nat.{ℕ}
+use Prim.Native.Nat.{ℕ, zero, suc}
 use mathlib.Core.List.{List, _++_}
 use lib.ListN.{length, getD}
 use Rattle.journal_spec.specs.Index.{IndexEntry}
@@ -10,10 +10,16 @@ use Rattle.entries.specs.Entries.{entriesFrom, entriesIn}
 use Rattle.entries.specs.Answers.{startMeaning}
 use Rattle.entries.specs.declared.finding.Looked.{Looked}
 
--- the last entries of an index are those from a place on, at most so many
+-- those from a place on, at most so many, are entries of the index, one behind another
 pub record Among (index : List ℕ) (left place : ℕ) : Type 0 where
   pub front : List IndexEntry
-  pub parts : entriesIn index ≡ front ++ entriesFrom index left place
+  pub back : List IndexEntry
+  pub parts : entriesIn index ≡ front ++ (entriesFrom index left place ++ back)
+
+-- one of some, where there are any
+unfoldable pub atMostOne : ℕ → ℕ
+atMostOne zero = 0
+atMostOne (suc n) = 1
 
 -- the start that the index has for the name, and a place among its entries
 pub record Near (index name : List ℕ) (r : Looked) : Type 0 where

@@ -1,11 +1,11 @@
-// A name looked up in an index whose entries rise, from the place on where a name with the same key was found last. Records repeat the names of
-// an index again and again, so that most are found at once, in whichever order they come.
+// A name looked up in an index whose entries rise: first where a name with the same key was found last, and then among all. Records repeat the
+// names of an index again and again, so that most are found at once, in whichever order they come.
 ghost use mathlib.Core.Path.{_≡_};
 ghost use Prim.Native.Nat.{_<_};
 ghost use Rattle.journal_spec.specs.Indexed.{lookUp, Rising};
 ghost use Rattle.entries.specs.Entries.{entriesIn};
 ghost use Rattle.entries.specs.Answers.{startMeaning};
-ghost use Rattle.indexing.specs.Near.{keys, Among, Near, Kept};
+ghost use Rattle.indexing.specs.Near.{keys, Among, atMostOne, Near, Kept};
 use entries::Looked;
 use entries::Start;
 use entries::look_from;
@@ -34,16 +34,23 @@ pub(crate) fn look_near(
     near.start
 }
 
-// The name looked up from a place among the entries on, and where it is not there, among all.
+// The name looked up at a place among the entries, and where it is not there, among all.
 fn look_around(index: &[u8], left: u64, place: usize, name: &[u8]) -> Looked
     requires { ⌜ Rising (entriesIn (now index)) × Among (now index) left place ⌝ }
     ensures { λ r. ⌜ Near (now (index .entry)) (now (name .entry)) r ⌝ }
 {
-    let near = look_from(index, left, place, name);
+    let near = look_from(index, at_most_one(left), place, name);
     if 0 < near.left {
         return near;
     }
     look_from(index, number_in(index, 0, 2), 2, name)
+}
+
+// One of some entries, where there are any.
+fn at_most_one(n: u64) -> u64
+    ensures { λ r. ⌜ r ≡ atMostOne n ⌝ }
+{
+    if 0 < n { 1 } else { 0 }
 }
 
 // A key of a name, by all its bytes. Any number below that of the places would do: it decides only where the search begins.
