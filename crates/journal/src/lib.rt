@@ -119,7 +119,15 @@ pub fn append(
 ) -> Appended
     ensures { λ r. ⌜ outcomeOf len r (now (v .exit))
         ≡ appendOf (record { slice = now (v .entry); len = len })
-        (record { day = day; name = now (name .entry); chances = now (chances .entry); source = Request.times (now (times .entry)); budget = all; rule = plain; index = none }) ⌝ }
+        (record {
+          day = day;
+          name = now (name .entry);
+          chances = now (chances .entry);
+          source = Request.times (now (times .entry));
+          budget = all;
+          rule = plain;
+          index = none;
+        }) ⌝ }
 {
     append_with(v, len, day, name, chances, times, Budget::All, Rule::Plain)
 }
@@ -137,7 +145,15 @@ pub fn append_upto(
 ) -> Appended
     ensures { λ r. ⌜ outcomeOf len r (now (v .exit))
         ≡ appendOf (record { slice = now (v .entry); len = len })
-        (record { day = day; name = now (name .entry); chances = now (chances .entry); source = Request.times (now (times .entry)); budget = upTo budget; rule = plain; index = none }) ⌝ }
+        (record {
+          day = day;
+          name = now (name .entry);
+          chances = now (chances .entry);
+          source = Request.times (now (times .entry));
+          budget = upTo budget;
+          rule = plain;
+          index = none;
+        }) ⌝ }
 {
     let cut = Budget::UpTo(budget);
     append_with(v, len, day, name, chances, times, cut, Rule::Plain)
@@ -155,7 +171,15 @@ pub fn append_log(
 ) -> Appended
     ensures { λ r. ⌜ outcomeOf len r (now (v .exit))
         ≡ appendOf (record { slice = now (v .entry); len = len })
-        (record { day = day; name = now (name .entry); chances = now (chances .entry); source = Request.log (now (log .entry)); budget = all; rule = plain; index = none }) ⌝ }
+        (record {
+          day = day;
+          name = now (name .entry);
+          chances = now (chances .entry);
+          source = Request.log (now (log .entry));
+          budget = all;
+          rule = plain;
+          index = none;
+        }) ⌝ }
 {
     append_log_with(v, len, day, name, chances, log, Budget::All, Rule::Plain)
 }
@@ -172,7 +196,15 @@ pub fn append_log_upto(
 ) -> Appended
     ensures { λ r. ⌜ outcomeOf len r (now (v .exit))
         ≡ appendOf (record { slice = now (v .entry); len = len })
-        (record { day = day; name = now (name .entry); chances = now (chances .entry); source = Request.log (now (log .entry)); budget = upTo budget; rule = plain; index = none }) ⌝ }
+        (record {
+          day = day;
+          name = now (name .entry);
+          chances = now (chances .entry);
+          source = Request.log (now (log .entry));
+          budget = upTo budget;
+          rule = plain;
+          index = none;
+        }) ⌝ }
 {
     let cut = Budget::UpTo(budget);
     append_log_with(v, len, day, name, chances, log, cut, Rule::Plain)

@@ -90,13 +90,7 @@ impl Run<'_> {
             [2, number, _] => format!("trial, damaged {number:>2}"),
             [_, number, _] => format!("trial, declined {number:>2} at a line"),
         });
-        let Handed {
-            log,
-            slice,
-            len,
-            index,
-        } = handed;
-        let ours = ours::journal_trial_unknown(log, slice, len, index);
+        let ours = ours::journal_trial_unknown(handed.log, handed.slice, handed.len, handed.index);
         let input = || format!("unknown lines, {handed:02x?}");
         self.tally.take([ours, expected], input);
         ours[1]
@@ -109,13 +103,7 @@ impl Run<'_> {
             let exceeded = if expected[3] == 0 { "no" } else { "a" };
             self.kinds.add(format!("trial, {exceeded} chance exceeded"));
         }
-        let Handed {
-            log,
-            slice,
-            len,
-            index,
-        } = handed;
-        let ours = ours::journal_trial(log, slice, len, index, position);
+        let ours = ours::journal_trial(handed.log, handed.slice, handed.len, handed.index, position);
         let input = || format!("trial at {position}, {handed:02x?}");
         self.tally.take([ours, expected], input);
         if ours[0] == 0 {

@@ -38,7 +38,8 @@ loop-again c =
       l .inv .2,
       omega arith,
       position-added _ (l .k) _ (l .table) _ (l .inv .4)
-          (called .add-numbers .ensures _ _ (entry-numbers _ (l .k) _ _ (called .before .before .before .try-entry .ensures) (called .before .numbers-of .ensures))),
+          (called .add-numbers .ensures _ _
+          (entry-numbers _ (l .k) _ _ (called .before .before .before .try-entry .ensures) (called .before .numbers-of .ensures))),
     )
 
 returns : tie.Need-returns Inv-loop μ-loop
