@@ -1,12 +1,16 @@
--- The ends of the ranges, the order of the refusals, and a band that is known: equal times have no spread, so both ends are their time.
--- Computed.
+-- The ends of the ranges, the order of the refusals, and three bands. Equal times have no spread, so both ends are their time. Of unequal times every
+-- step counts: form 2's divisor, the root, the share's scale, the inverse error function, and of the widest times the order of the products too.
+-- Their bits are those that docs/DEFINITION.md, section 8.1, gives in exact fractions, each operation rounded once. Computed.
 use mathlib.Core.Path.{_≡_, refl}
 use mathlib.Core.List.{[], _∷_}
 use lib.Ieee.{binary64, ofBits, toBits, ofInt, isNan, eq, lt, le, neg, add, sub, mul, div, round}
 use Rattle.sqrt.specs.Sqrt.{isqrt, roundRoot, roundSqrt, sqrtIn}
-use Rattle.pxfm.specs.DoubleDouble.{fromBitPair, splitOf, fromExactMult, fromFullExactAdd, fullAddF64, quickMult, quickMultF64, mulAdd, mulF64Add, toF64}
+use Rattle.pxfm.specs.DoubleDouble.{fromBitPair, splitOf, fromExactMult, fromFullExactAdd, fullAddF64, quickMult, quickMultF64}
+use Rattle.pxfm.specs.DoubleDouble.{mulAdd, mulF64Add, divOf, toF64}
 use Rattle.pxfm.specs.Common.{fFmla}
-use Rattle.pxfm.specs.Inverfc.{taylor, taylor4Of, erfCore}
+use Rattle.pxfm.specs.Polyeval.{fPolyeval5}
+use Rattle.pxfm.specs.Rationals.{paired10, p0p06To0p75, q0p06To0p75, centredOf, inverf0p06To0p75}
+use Rattle.pxfm.specs.Inverfc.{taylor, taylor4Of, horner10, quickRational, roundsAlike, middleOf, erfCore}
 use Rattle.pxfm.specs.Inverf.{withSign, fErfinv}
 use Rattle.limit.specs.Times.{inRange, timeInRange, allInRange, timesInRange, sumOf, squaresOf}
 use Rattle.limit.specs.Formula.{meanOf, spreadBy, divisorOf, spreadOf}
@@ -40,3 +44,18 @@ band-cases =
       share-first = refl;
       equal-times = refl;
     }
+
+-- about 68 % of the links
+pub record UnequalTimes : Type 0 where
+  pub close : bandOf (90 ∷ 110 ∷ []) 682_689
+      ≡ banded (record { low = ofBits binary64 0x4055_76e7_7c4e_4673; high = ofBits binary64 0x405c_8918_83b1_b98d })
+  pub widest : bandOf (1 ∷ 1_048_575 ∷ []) 682_689
+      ≡ banded (record { low = ofBits binary64 0xc10a_8268_4177_4f18; high = ofBits binary64 0x4133_504d_082e_e9e3 })
+
+pub unequal-times : UnequalTimes
+unfolding ofBits toBits ofInt isNan eq lt le neg add sub mul div round isqrt roundRoot roundSqrt sqrtIn
+    fromBitPair splitOf fromExactMult fromFullExactAdd fullAddF64 quickMult quickMultF64 mulAdd mulF64Add divOf toF64 fFmla fPolyeval5
+    paired10 p0p06To0p75 q0p06To0p75 centredOf inverf0p06To0p75 horner10 quickRational roundsAlike middleOf erfCore withSign fErfinv
+    inRange timeInRange allInRange timesInRange sumOf squaresOf meanOf spreadBy divisorOf spreadOf
+    shareInRange inverseOf endsFrom endsOf judge bandOf
+unequal-times = record { close = refl; widest = refl }

@@ -10,6 +10,7 @@ use Rattle.bounds.proofs.Arithmetic.{addB, subB, mulB, divB, negB, poin
 use Rattle.bounds.proofs.Operations.{add-in, sub-in, mul-in, div-in, neg-in, point-in}
 use Rattle.bounds.proofs.Products.{tightLo, tight-in}
 use Rattle.bounds.proofs.Sums.{sumLo, full-lo-in, fast-lo-in}
+use Rattle.bounds.proofs.Residuals.{recipLeft, recip-left-in, overLeft, over-left-in}
 
 -- ---- one double
 
@@ -43,6 +44,16 @@ overE p q = record { bound = divB (p .bound) (q .bound); holds = div-in (p .hold
 unfoldable pub negE : {x : Float} → Est x → Est (neg x)
 unfolding negB
 negE p = record { bound = negB (p .bound); holds = neg-in (p .holds) }
+
+-- what is left by the corrections of a reciprocal and of a quotient
+
+unfoldable pub recipLeftE : {y : Float} → Est y → Est (sub binary64 one (mul binary64 y (div binary64 one y)))
+unfolding recipLeft
+recipLeftE q = record { bound = recipLeft (q .bound); holds = recip-left-in (q .holds) }
+
+unfoldable pub overLeftE : {x y : Float} → Est x → Est y → Est (add binary64 x (mul binary64 y (neg (mul binary64 x (div binary64 one y)))))
+unfolding overLeft
+overLeftE p q = record { bound = overLeft (p .bound) (q .bound); holds = over-left-in (p .holds) (q .holds) }
 
 -- ---- a pair
 
@@ -116,22 +127,22 @@ mulF64AddE p q r =
     pairE (sumE (m .lo) (s .lo)) (s .hi)
 
 unfoldable pub divE : {x y : DoubleDouble} → EstP x → EstP y → EstP (divOf x y)
-unfolding ofBits divOf overE timesE exactMultE sumE negE point
+unfolding ofBits divOf overE timesE exactMultE sumE negE point overLeftE
 divE p q =
     let r = overE (point one) (q .hi) in
     let h = timesE (p .hi) r in
     let m = exactMultE (q .hi) (negE h) in
     let n = exactMultE (q .lo) (negE h) in
-    let e = sumE (sumE (p .hi) (m .hi)) (m .lo) in
+    let e = sumE (overLeftE (p .hi) (q .hi)) (m .lo) in
     let f = sumE (sumE (p .lo) (n .hi)) (n .lo) in
     pairE (timesE r (sumE e f)) h
 
 unfoldable pub recipE : {x : DoubleDouble} → EstP x → EstP (recipOf x)
-unfolding ofBits recipOf overE timesE exactMultE lessE point
+unfolding ofBits recipOf overE timesE exactMultE lessE point recipLeftE
 recipE p =
     let y = overE (point one) (p .hi) in
     let m = exactMultE (p .hi) y in
-    let e = lessE (lessE (point one) (m .hi)) (m .lo) in
+    let e = lessE (recipLeftE (p .hi)) (m .lo) in
     let n = exactMultE (p .lo) y in
     pairE (timesE y (lessE (lessE e (n .hi)) (n .lo))) y
 

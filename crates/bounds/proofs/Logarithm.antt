@@ -1,10 +1,10 @@
--- Both logarithms of an argument from 2 ^ -20 up to 1 / 2, estimated by one interval for every bin and every exponent. Assumes nothing.
+-- Both logarithms of an argument below 1 / 2, estimated by one interval for every bin and every exponent of its depth. Assumes nothing.
 use mathlib.Core.Bool.{true, _||_}
 use Prim.Native.Nat.{ℕ, _-_, _^_, _≤_, _<_}
 use lib.Dec.{T}
-use lib.Ieee.{Float, binary64, ofBits, toBits, neg, le}
+use lib.Ieee.{Float, binary64, ofBits, toBits, neg, add, le}
 use Rattle.pxfm.specs.declared.double_double.DoubleDouble.{DoubleDouble}
-use Rattle.pxfm.specs.DoubleDouble.{one, fromBitPair, log2Dd}
+use Rattle.pxfm.specs.DoubleDouble.{newOf, one, fromBitPair, log2Dd, f64Add}
 use Rattle.pxfm.specs.Common.{ddFmla}
 use Rattle.log_tables.specs.PowTables.{powInverse}
 use Rattle.log_tables.specs.Rows.{entryAt}
@@ -12,7 +12,7 @@ use Rattle.pxfm.specs.PowExec.{half, p1, logPoly1}
 use Rattle.pxfm.specs.FastLogDd.{fastLogDdInv, indexOf, reducedOf, exponentOf, scaledOf, partsOf, fastLogDToDd, logLo, fastLogDd}
 use Rattle.pxfm.proofs.Bins.{significand-indexed}
 use Rattle.bounds.specs.Interval.{In}
-use Rattle.bounds.specs.Ranges.{shareB}
+use Rattle.bounds.specs.Ranges.{Depth, start, shareB}
 use Rattle.bounds.proofs.Arithmetic.{within}
 use Rattle.bounds.proofs.Operations.{widen}
 use Rattle.bounds.proofs.Estimate.{Est, EstP, given, pairE, point, constE, sumE, timesE, overE, negE, exactMultE, exactAddE, f64AddE, mulF64AddE, fmaE}
@@ -35,14 +35,21 @@ logPolyE z =
 
 -- ---- the logarithm of a double
 
--- The significand and the exponent of x: it is normal, from 2 ^ -20 up to 1 / 2.
-pub record Reached (x : Float) : Type 0 where
+-- the sum that it adds up last
+unfoldable pub summedOf : Float → DoubleDouble
+summedOf x =
+    let s = partsOf x in
+    let p = logPoly1 (s .z) in
+    f64Add (s .v .hi) (newOf (add binary64 (s .v .lo) (p .lo)) (p .hi))
+
+-- The significand and the exponent of x, which is below 1 / 2, and not below the depth's start.
+pub record Reached (d : Depth) (x : Float) : Type 0 where
   pub low : 2 ^ 52 ≤ scaledOf (toBits binary64 x) .m
   pub high : scaledOf (toBits binary64 x) .m < 2 ^ 53
-  pub from : 1054 ≤ scaledOf (toBits binary64 x) .e
+  pub from : start d ≤ scaledOf (toBits binary64 x) .e
   pub to : scaledOf (toBits binary64 x) .e ≤ 1072
 
-module _ (x : Float) (r : Reached x) where
+module _ {d : Depth} (x : Float) (r : Reached d x) where
   abbrev pub m : ℕ
   m = scaledOf (toBits binary64 x) .m
 
@@ -50,7 +57,7 @@ module _ (x : Float) (r : Reached x) where
   zE = given (z-in m (r .low) (r .high))
 
   abbrev pub wE : Est (exponentOf m (scaledOf (toBits binary64 x) .e))
-  wE = given (exponent-in m (scaledOf (toBits binary64 x) .e) (r .from) (r .to))
+  wE = given (exponent-in d m (scaledOf (toBits binary64 x) .e) (r .from) (r .to))
 
   abbrev pub lE : EstP (fastLogDdInv (indexOf m))
   lE =
@@ -61,13 +68,16 @@ module _ (x : Float) (r : Reached x) where
   unfolding partsOf mulF64AddE constE f64AddE log2Dd fromBitPair ofBits
   partsE = let d = mulF64AddE (constE log2Dd) wE lE in f64AddE (d .hi) (pairE (d .lo) zE)
 
-  unfoldable pub logDToDdE : EstP (fastLogDToDd x)
-  unfolding fastLogDToDd partsOf partsE logPolyE sumE f64AddE exactAddE
-  logDToDdE =
+  unfoldable pub summedE : EstP (summedOf x)
+  unfolding summedOf partsOf partsE logPolyE sumE f64AddE
+  summedE =
       let v = partsE in
       let p = logPolyE zE in
-      let w = f64AddE (v .hi) (pairE (sumE (v .lo) (p .lo)) (p .hi)) in
-      exactAddE (w .hi) (w .lo)
+      f64AddE (v .hi) (pairE (sumE (v .lo) (p .lo)) (p .hi))
+
+  unfoldable pub logDToDdE : EstP (fastLogDToDd x)
+  unfolding fastLogDToDd summedOf summedE exactAddE
+  logDToDdE = exactAddE (summedE .hi) (summedE .lo)
 
 -- ---- the logarithm of a pair
 
@@ -78,7 +88,7 @@ share-in x p t =
     by-test shareB (le (x .hi) (ofBits binary64 0x7fd0_0000_0000_0000) || (le four (x .lo) || le (x .lo) (neg four)))
     (λ u. widen shareB t (overE (p .lo) (p .hi) .holds)) (λ u. widen shareB tt (point (ofBits binary64 0) .holds))
 
-unfoldable pub logDdE : (x : DoubleDouble) (r : Reached (x .hi)) → In (logLo x) shareB → EstP (fastLogDd x)
+unfoldable pub logDdE : {d : Depth} (x : DoubleDouble) (r : Reached d (x .hi)) → In (logLo x) shareB → EstP (fastLogDd x)
 unfolding fastLogDd partsOf partsE logPolyE sumE f64AddE
 logDdE x r h =
     let v = partsE (x .hi) r in

@@ -3,7 +3,7 @@ use mathlib.Core.Path.{_≡_, refl, sym, ap, _∙_, subst}
 use mathlib.Core.Bool.{Bool, true, false, not, _&&_, cond}
 use Prim.Native.Nat.{ℕ, _+_, _-_, _*_, _/_, _^_, _≤_, _<_, max}
 use native.Mathlib.Nat.{le-refl, le-of-eq, le-trans, lt-of-lt-of-le, mul-pos, mul-one, mul-le-mul, mul-le-mul-left, mul-le-mul-right}
-use native.Mathlib.Nat.{eq-of-mul-eq-mul-right, div-mul-le-self, div-add-mod', mod-lt, le-max-left, le-max-right}
+use native.Mathlib.Nat.{le-of-mul-le-mul-right, eq-of-mul-eq-mul-right, div-mul-le-self, div-add-mod', mod-lt, le-max-left, le-max-right}
 use native.Mathlib.Omega.{arith}
 use borrow.Author.Tests.{le-leb, ne-eqb}
 use lib.Dec.{T, leb, ltb, eqb, lit<, leb→le, ltb→lt, eqb→eq}
@@ -14,7 +14,7 @@ use lib.Ieee.Fits.{down-pos, and-l, and-r}
 use lib.Ieee.Positive.{first-pos}
 use lib.Ieee.Scale.{finite}
 use Rattle.pxfm.proofs.Value.{Gap, Val, add-rounds}
-use Rattle.bounds.specs.Interval.{Interval, P, N, Holds, Inside, In, ranged, between}
+use Rattle.bounds.specs.Interval.{Interval, P, N, Holds, Inside, In, SizeAtMost, ranged, between, about}
 use Rattle.bounds.proofs.Arithmetic.{limit, raised, lowered, span, least, depth, height, most, outward, sumB, addB, negB, subB, over, mulB, share}
 use Rattle.bounds.proofs.Arithmetic.{divB, pointB, within}
 use Rattle.bounds.proofs.Rounding.{Rounded, rounded, at-most, at-least}
@@ -241,7 +241,7 @@ divided x y l m n d e L X Y =
 not-zero : (y l n e : ℕ) → 0 < n → 0 < e → y * l ≡ n * e → 0 < y
 not-zero y l n e N E Y = first-pos y l (lt-of-lt-of-le (mul-pos N E) (le-of-eq (sym Y)))
 
-div-rounded : (x y : Float) (s t : Bool) (m n : ℕ) → HasValue x s m (2 ^ 1074) → HasValue y t n (2 ^ 1074) → 0 < n → m * 2 ^ 1074 ≤ limit * n
+pub div-rounded : (x y : Float) (s t : Bool) (m n : ℕ) → HasValue x s m (2 ^ 1074) → HasValue y t n (2 ^ 1074) → 0 < n → m * 2 ^ 1074 ≤ limit * n
     → Rounded (div binary64 x y) (unlike s t) (m * 2 ^ 1074) n
 unfolding div
 div-rounded nan y s t m n v w N h = absurd v
@@ -334,6 +334,22 @@ pub finite-of : {x : Float} {b : Interval} → In x b → T (b .ok) → T (finit
 finite-of {x = nan} p t = absurd (p .at t .val)
 finite-of {x = inf s} p t = absurd (p .at t .val)
 finite-of {x = fin s m e} p t = tt
+
+-- what an interval around zero says of the size
+pub size-at-most : {x : Float} (k : ℕ) → In x (about true (k * 2 ^ 1074)) → SizeAtMost x k
+size-at-most {x = x} k p = let v = p .at tt in go x (v .s) (v .m) (v .val) (sizes (about true (k * 2 ^ 1074)) (v .s) (v .m) (v .holds) .2)
+  where
+    size : (n d m l h : ℕ) → 0 < l → n * l ≡ m * d → m ≤ h → h ≡ k * l → n ≤ k * d
+    size n d m l h L e i j = let q = mul-le-mul-right d i in let r = ap (λ (z : ℕ). z * d) j in le-of-mul-le-mul-right {k = l} (omega arith) L
+
+    go : (x : Float) (s : Bool) (m : ℕ) → HasValue x s m (2 ^ 1074) → m ≤ max (k * 2 ^ 1074 - 0) (k * 2 ^ 1074 - 0) → SizeAtMost x k
+    go nan s m v h = absurd v
+    go (inf t) s m v h = absurd v
+    go (fin t n e) s m v h =
+        record { is-finite = tt; size = size (n * up e) (down e) m (2 ^ 1074) _ (pow-pos 1074) (v .1) h (same (k * 2 ^ 1074)) }
+      where
+        same : (a : ℕ) → max (a - 0) (a - 0) ≡ a
+        same a = omega arith
 
 -- ---- a double above zero, as its number of units
 

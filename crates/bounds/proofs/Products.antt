@@ -111,12 +111,12 @@ nearby p n q r p' n' q' r' a b d e h1 h2 h3 h4 h5 h6 h7 h8 =
     (omega (arith, f, g), omega (arith, f', g'))
 
 -- z times l units is p - n, up to e
-record Scaled (z : Float) (p n e : ℕ) : Type 0 where
-  s : Bool
-  m : ℕ
-  val : HasValue z s m (2 ^ 1074)
-  over : P s m * 2 ^ 1074 + n ≤ N s m * 2 ^ 1074 + p + e
-  under : N s m * 2 ^ 1074 + p ≤ P s m * 2 ^ 1074 + n + e
+pub record Scaled (z : Float) (p n e : ℕ) : Type 0 where
+  pub s : Bool
+  pub m : ℕ
+  pub val : HasValue z s m (2 ^ 1074)
+  pub over : P s m * 2 ^ 1074 + n ≤ N s m * 2 ^ 1074 + p + e
+  pub under : N s m * 2 ^ 1074 + p ≤ P s m * 2 ^ 1074 + n + e
 
 -- how far a rounded product of at most k units is from w / l
 near-quotient : (r w l k u : ℕ) → k ≤ 2 ^ 53 * u → w ≤ k * l → 2 ^ 53 * (r * l) ≤ 2 ^ 53 * w + w + 2 ^ 52 * l
@@ -152,7 +152,7 @@ at-most-size p n e a true m i h = omega (arith, h .low)
 
 module _ (x y : Float) (p n e q r f a b k : ℕ) (X : Off x p n e) (Y : Off y q r f) (A : p + n ≤ a) (B : q + r ≤ b)
     (top : (a + e) * (b + f) ≤ k * 2 ^ 1074) (K : k ≤ limit) where
-  scaled-product : Scaled (mul binary64 x y) (p * q + n * r) (p * r + n * q) ((a + e) * f + e * b + (2 ^ 1074 + ulp k * 2 ^ 1074))
+  pub scaled-product : Scaled (mul binary64 x y) (p * q + n * r) (p * r + n * q) ((a + e) * f + e * b + (2 ^ 1074 + ulp k * 2 ^ 1074))
   scaled-product =
       let v = X .inside in
       let w = Y .inside in
@@ -182,7 +182,7 @@ module _ (x y : Float) (p n e q r f a b k : ℕ) (X : Off x p n e) (Y : Off y q 
           (z .0) (z .1) (omega arith) (omega arith))
 
 -- the difference of two products that are near the same number
-cancel : (i j z l : ℕ) → 0 < l → i * l ≤ j * l + z → i ≤ j + z / l
+pub cancel : (i j z l : ℕ) → 0 < l → i * l ≤ j * l + z → i ≤ j + z / l
 cancel i j z l L h =
     let d = div-add-mod' z l in
     let m = mod-lt z L in
@@ -246,7 +246,7 @@ tightLo a b =
     let g = gapOf a b in
     addB (mulB i j) (addB (mulB i (about o (wide b))) (addB (mulB (about o (wide a)) j) (about o (g + ulp g))))
 
-small : {x : Float} {e : ℕ} (o : Bool) → Off x 0 0 e → Inside x (about o e)
+pub small : {x : Float} {e : ℕ} (o : Bool) → Off x 0 0 e → Inside x (about o e)
 small {e = e} o X = to (about o e) (X .inside) (omega arith) (omega arith)
 
 sized : {x : Float} {p n e a : ℕ} (o : Bool) → p + n ≤ a → Off x p n e → Inside x (about o (a + e))

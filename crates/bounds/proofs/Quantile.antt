@@ -1,4 +1,5 @@
--- The quantile is finite from 2 ^ -20 to 2 - 2 ^ -19: `f_erfcinv` by its tests, and the pair that it hands to `erf_core`. Assumes nothing.
+-- The quantile is finite, and at most 4 in size, from 2 ^ -20 to 2 - 2 ^ -19: `f_erfcinv` by its tests, and the pair that it hands to
+-- `erf_core`. Assumes nothing.
 use mathlib.Core.Path.{_≡_, refl, sym}
 use mathlib.Core.Bool.{Bool, true, false, true≢false, not, cond}
 use Prim.Native.Nat.{ℕ, _+_, _-_, _*_, _^_, _≤_, _<_}
@@ -19,15 +20,21 @@ use Rattle.pxfm.proofs.Order.{val-of-eq}
 use Rattle.pxfm.proofs.Bits.{BelowTwo}
 use Rattle.pxfm.proofs.Ranges.{zero-val, two-val}
 use Rattle.pxfm.proofs.FirstTests.{refuted, within-inside}
-use Rattle.bounds.specs.Interval.{In, about}
+use Rattle.bounds.specs.Interval.{In, SizeAtMost, about}
 use Rattle.bounds.specs.Quantile.{leastArgument, mostArgument, OrdinaryArgument}
-use Rattle.bounds.specs.Ranges.{reachB, coreB, coreLowB, argumentB, quantileB}
-use Rattle.bounds.proofs.Operations.{widen, counted, finite-of}
+use Rattle.bounds.specs.Ranges.{usual, deep, reachB, coreB, coreLowB, argumentB, quantileB, deepQuantileB}
+use Rattle.bounds.proofs.Operations.{widen, counted, finite-of, size-at-most}
 use Rattle.bounds.proofs.Estimate.{Est, EstP, given, pairE, point, negE, timesE, negPairE, exactAddE, fullExactAddE, fullAddE, toF64E}
 use Rattle.bounds.proofs.Pairs.{InP, known, settle, by-test}
 use Rattle.bounds.proofs.Tests.{below-of-lt, below-of-le, below-of-not-lt, capE, floorE}
 use Rattle.bounds.proofs.Tail.{extra-small-in}
 use Rattle.bounds.proofs.Core.{core-in}
+
+-- ---- the way below 0.1, down to 2 ^ -52
+
+pub small-in : (x : Float) → In x (reachB deep) → In (toF64 (inverfcExtraSmall x)) deepQuantileB
+unfolding toF64E
+small-in x h = widen deepQuantileB tt (toF64E (known (extra-small-in deep x h)) .holds)
 
 -- ---- the pair for `erf_core`
 
@@ -35,7 +42,7 @@ unfoldable fullExactSubE : {x y : Float} → Est x → Est y → EstP (fromFullE
 unfolding fromFullExactSub fromFullExactAdd sub fullExactAddE negE
 fullExactSubE p q = fullExactAddE p (negE q)
 
-unfoldable complementE : {d : DoubleDouble} → EstP d → EstP (complement d)
+unfoldable pub complementE : {d : DoubleDouble} → EstP d → EstP (complement d)
 unfolding complement fullAddE negPairE exactAddE point ofBits
 complementE d = let t = fullAddE (negPairE d) (point one) in exactAddE (t .hi) (t .lo)
 
@@ -73,8 +80,8 @@ module _ (x : Float) (h : In x argumentB) where
   below-tenth : T (lt x tenth) → In (toF64 (inverfcExtraSmall x)) quantileB
   unfolding toF64E capE ofBits
   below-tenth t =
-      let y = widen reachB tt (capE tenth (below-of-lt t) (given h) .holds) in
-      widen quantileB tt (toF64E (known (extra-small-in x y)) .holds)
+      let y = widen (reachB usual) tt (capE tenth (below-of-lt t) (given h) .holds) in
+      widen quantileB tt (toF64E (known (extra-small-in usual x y)) .holds)
 
 -- ---- the tests before them
 
@@ -120,3 +127,7 @@ ordinary-in (fin s m e) h =
 
 pub quantile-finite : (x : Float) → OrdinaryArgument x → T (finite (fErfcinv x))
 quantile-finite x h = finite-of (quantile-in x (ordinary-in x h)) tt
+
+-- Document 01's quantile is at most 4 in size.
+pub quantile-at-most-four : (x : Float) → OrdinaryArgument x → SizeAtMost (fErfcinv x) 4
+quantile-at-most-four x h = size-at-most 4 (quantile-in x (ordinary-in x h))

@@ -1,4 +1,4 @@
--- The square root of an interval that is not below zero, and of a pair by `fast_sqrt`. Assumes nothing.
+-- The square root of an interval that is not below zero. Assumes nothing.
 use mathlib.Core.Path.{_≡_, refl, sym, ap, _∙_, subst}
 use mathlib.Core.Bool.{Bool, true, false, _&&_, cond}
 use Prim.Native.Nat.{ℕ, zero, suc, _+_, _-_, _*_, _^_, _≤_, _<_}
@@ -8,20 +8,17 @@ use lib.Dec.{leb, eqb, lit<, leb→le}
 use lib.Pow.{pow-pos}
 use lib.IntN.{ℤ}
 use lib.Ieee.{Float, nan, inf, fin, binary64, up, down}
-use lib.Ieee.Exact.{HasValue}
 use lib.Ieee.Fits.{up-pos, down-pos, and-l, and-r}
 use Rattle.sqrt.specs.Sqrt.{isqrt, roundRoot, roundSqrt, sqrtIn, sqrtOf}
 use Rattle.sqrt.proofs.Squares.{isqrt-is, root-le}
 use Rattle.sqrt.proofs.Scaling.{radicand-of}
-use Rattle.pxfm.specs.declared.double_double.DoubleDouble.{DoubleDouble}
-use Rattle.pxfm.specs.DoubleDouble.{two, fastSqrt}
 use Rattle.bounds.specs.Interval.{Interval, Holds, Inside, In, ranged}
 use Rattle.bounds.proofs.Arithmetic.{limit, raised, lowered, least, most}
-use Rattle.bounds.proofs.Rounding.{rounded, at-most, at-least}
+use Rattle.bounds.proofs.Rounding.{Rounded, rounded, at-most, at-least}
 use Rattle.bounds.proofs.Operations.{least-le, le-most, ranged-holds}
-use Rattle.bounds.proofs.Estimate.{Est, EstP, pairE, point, sumE, lessE, timesE, overE, exactMultE}
+use Rattle.bounds.proofs.Estimate.{Est}
 
-isqrt-mono : (m n : ℕ) → m ≤ n → isqrt m ≤ isqrt n
+pub isqrt-mono : (m n : ℕ) → m ≤ n → isqrt m ≤ isqrt n
 isqrt-mono m n h = root-le (isqrt m) (isqrt n) n (le-trans (isqrt-is m .low) h) (isqrt-is n .high)
 
 abbrev hiOf : Interval → ℕ
@@ -42,34 +39,45 @@ bit-le true = omega arith
 bit-le false = omega arith
 
 -- the root is s, or between it and s + 1: a fraction with the divisor 2
-round-root : (o : Bool) (n i j : ℕ) → isqrt i ≤ isqrt n → isqrt n ≤ isqrt j → isqrt j + 1 ≤ limit
-    → Inside (roundSqrt binary64 n) (ranged o (lowered (isqrt i)) (raised (isqrt j + 1)))
+pub record RoundedRoot (n : ℕ) : Type 0 where
+  pub c : ℕ
+  pub small : c ≤ 1
+  pub near : Rounded (roundSqrt binary64 n) false (2 * isqrt n + c) 2
+
+pub rounded-root : (n h : ℕ) → isqrt n ≤ h → h + 1 ≤ limit → RoundedRoot n
 unfolding roundSqrt roundRoot
-round-root o n i j a b l =
+rounded-root n h b l =
     let s = isqrt n in
     let c : ℕ = cond (eqb (n - s * s) 0) 0 1 in
     let d = bit-le (eqb (n - s * s) 0) in
     let u = units (2 * s + c) (2 ^ 1074) in
-    let r = rounded false ((2 * s + c) * 2 ^ 0) (2 * 2 ^ 1074) (2 * s + c) 2 (pow-pos 1075) (lit< tt) u (small s c (isqrt j) limit b d l) in
-    record {
-      s = false;
-      m = r .m;
-      val = r .val;
-      holds = ranged-holds o _ _ (r .m) (at-least r (lit< tt) (isqrt i) (omega arith)) (at-most r (lit< tt) (isqrt j + 1) (omega arith));
-    }
+    let r = rounded false ((2 * s + c) * 2 ^ 0) (2 * 2 ^ 1074) (2 * s + c) 2 (pow-pos 1075) (lit< tt) u (fits s c h limit b d l) in
+    record { c = c; small = d; near = r }
   where
     units : (k l : ℕ) → k * 2 ^ 0 * l * 2 ≡ k * (2 * l)
     units k l = omega arith
 
-    small : (s c j l : ℕ) → s ≤ j → c ≤ 1 → j + 1 ≤ l → 2 * s + c ≤ l * 2
-    small s c j l a d h = omega arith
+    fits : (s c j l : ℕ) → s ≤ j → c ≤ 1 → j + 1 ≤ l → 2 * s + c ≤ l * 2
+    fits s c j l a d h = omega arith
+
+round-root : (o : Bool) (n i j : ℕ) → isqrt i ≤ isqrt n → isqrt n ≤ isqrt j → isqrt j + 1 ≤ limit
+    → Inside (roundSqrt binary64 n) (ranged o (lowered (isqrt i)) (raised (isqrt j + 1)))
+round-root o n i j a b l =
+    let z = rounded-root n (isqrt j) b l in
+    let r = z .near in
+    record {
+      s = false;
+      m = r .m;
+      val = r .val;
+      holds = ranged-holds o _ _ (r .m) (at-least r (lit< tt) (isqrt i) (omega arith)) (at-most r (lit< tt) (isqrt j + 1) (omega (arith, z .small)));
+    }
 
 -- a number of no units is zero, and a zero has none
-none : (k u d m l : ℕ) → 0 < d → k * u * l ≡ m * d → k ≡ 0 → m ≡ 0
+pub none : (k u d m l : ℕ) → 0 < d → k * u * l ≡ m * d → k ≡ 0 → m ≡ 0
 none k u d m l D e z =
     eq-of-mul-eq-mul-right d D m 0 (sym e ∙ ap (λ (x : ℕ). x * u * l) z ∙ ap (λ (x : ℕ). x * l) (zero-mul u) ∙ zero-mul l ∙ sym (zero-mul d))
 
-some : (k u d m l : ℕ) → 0 < u → 0 < l → suc k * u * l ≡ m * d → m ≡ 0 → ⊥
+pub some : (k u d m l : ℕ) → 0 < u → 0 < l → suc k * u * l ≡ m * d → m ≡ 0 → ⊥
 some k u d m l U L e z =
     lt-irrefl 0 (subst (λ (x : ℕ). 0 < x) (e ∙ ap (λ (x : ℕ). x * d) z ∙ zero-mul d) (mul-pos (mul-pos {m = suc k} (omega arith) U) L))
 
@@ -125,13 +133,3 @@ root-in {x = x} {a = a} h =
 unfoldable pub rootE : {x : Float} → Est x → Est (sqrtOf x)
 unfolding rootB
 rootE p = record { bound = rootB (p .bound); holds = root-in (p .holds) }
-
-unfoldable pub fastSqrtE : {x : DoubleDouble} → EstP x → EstP (fastSqrt x)
-unfolding fastSqrt rootE sumE lessE timesE overE exactMultE point
-fastSqrtE p =
-    let x = rootE (sumE (p .hi) (p .lo)) in
-    let m = exactMultE x x in
-    let r = lessE (sumE (lessE (p .hi) (m .hi)) (p .lo)) (m .lo) in
-    let d = overE r (timesE (point two) x) in
-    let h = sumE x d in
-    pairE (sumE (lessE x h) d) h

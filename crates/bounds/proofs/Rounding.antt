@@ -102,3 +102,9 @@ module _ {x : Float} {s : Bool} {n c : ℕ} (r : Rounded x s n c) (C : 0 < c) wh
 pub near-whole : {x : Float} {s : Bool} {j : ℕ} (r : Rounded x s j 1) (k : ℕ) → j ≤ k → (r .m ≤ j + ulp k) × (j ≤ r .m + ulp k)
 unfolding ulp
 near-whole r k h = omega (arith, r .over, r .under)
+
+-- a fraction of at most k units, and a divisor of at most d: m * c is n, up to `ulp k + d`
+pub near-fraction : {x : Float} {s : Bool} {n c : ℕ} (r : Rounded x s n c) (k d : ℕ) → n ≤ k → c ≤ d
+    → (r .m * c ≤ n + (ulp k + d)) × (n ≤ r .m * c + (ulp k + d))
+unfolding ulp
+near-fraction r k d h i = omega (arith, r .over, r .under)

@@ -1,4 +1,4 @@
--- The low parts of the two sums of doubles are small: what is left of a sum of at most k units is at most nine times what rounding moves it.
+-- The low parts of the sums of doubles are small: what is left of a sum of at most k units is at most nine times what rounding moves it.
 -- Assumes nothing.
 use mathlib.Core.Path.{_≡_}
 use mathlib.Core.Bool.{Bool, true, false, _&&_}
@@ -59,7 +59,7 @@ module _ (k : ℕ) (l : k ≤ limit) {x y : Float} {p n e q r f : ℕ} (s t g : 
       let z = add-near {y = neg y} {b = negB (at q r f)} k l (X .inside) (neg-inside (Y .inside)) (omega arith) (omega arith) in
       record { inside = to (at s t g) z (omega arith) (omega arith) }
 
--- ---- the two low parts
+-- ---- the low parts
 
 -- x and y as exact numbers of units, at most k together
 record Addends (x y : Float) (k : ℕ) : Type 0 where
@@ -106,6 +106,15 @@ module _ {x y : Float} {k : ℕ} (A : Addends x y k) where
       let t = sub-off k l (A .q) (A .r) (2 * ulp k) hi (A .first) (omega arith) in
       sub-off k l 0 0 (9 * ulp k) (A .second) t (omega arith)
 
+  -- as `fast_sqrt` takes it
+  low-root : Off (add binary64 (sub binary64 x (add binary64 x y)) y) 0 0 (9 * ulp k)
+  low-root =
+      let z = A .size in
+      let l = A .fits in
+      let hi = add-off k l (A .p + A .q) (A .n + A .r) (ulp k) (A .first) (A .second) (omega arith) in
+      let t = sub-off k l (A .r) (A .q) (2 * ulp k) (A .first) hi (omega arith) in
+      add-off k l 0 0 (9 * ulp k) t (A .second) (omega arith)
+
 -- twice the addends' sizes, and some
 abbrev reach : Interval → Interval → ℕ
 reach a b = 2 * (most a + most b) + 64
@@ -145,3 +154,7 @@ full-lo-in {a = a} {b = b} h g = record { at = λ t. to (sumLo a b) (low-full (a
 pub fast-lo-in : {x y : Float} {a b : Interval} → In x a → In y b → In (fromExactAdd x y .lo) (sumLo a b)
 unfolding sumLo
 fast-lo-in {a = a} {b = b} h g = record { at = λ t. to (sumLo a b) (low-fast (addends h g t) .inside) (omega arith) (omega arith) }
+
+pub root-lo-in : {x y : Float} {a b : Interval} → In x a → In y b → In (add binary64 (sub binary64 x (add binary64 x y)) y) (sumLo a b)
+unfolding sumLo
+root-lo-in {a = a} {b = b} h g = record { at = λ t. to (sumLo a b) (low-root (addends h g t) .inside) (omega arith) (omega arith) }

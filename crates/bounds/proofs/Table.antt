@@ -24,7 +24,7 @@ use Rattle.pxfm.proofs.Tables.{every-at}
 use Rattle.pxfm.proofs.Bins.{significand-indexed}
 use Rattle.pxfm.proofs.Reduced.{reduced-value}
 use Rattle.bounds.specs.Interval.{Interval, In}
-use Rattle.bounds.specs.Ranges.{binB, zB, exponentB, entryHighB, entryLowB}
+use Rattle.bounds.specs.Ranges.{Depth, usual, deep, every, start, binB, zB, exponentB, entryHighB, entryLowB}
 use Rattle.bounds.proofs.Arithmetic.{addB, mulB, negB, pointB, within}
 use Rattle.bounds.proofs.Operations.{point-in, widen, counted-in}
 use Rattle.bounds.proofs.Products.{tightLo}
@@ -79,9 +79,9 @@ z-in m l h =
 
 -- ---- the exponent
 
-exponentOk : ℕ → Bool
+exponentOk : Depth → ℕ → Bool
 unfolding pointB ofInt
-exponentOk n = within (pointB (ofInt binary64 (minus (1053 + n) 1074))) exponentB
+exponentOk d n = within (pointB (ofInt binary64 (minus (start d + n) 1074))) (exponentB d)
 
 -- a test at each number below n
 abbrev pub all : (ℕ → Bool) → ℕ → Bool
@@ -96,20 +96,27 @@ all-at f (suc n) k t h =
       | inr l ↦ all-at f n k (and-r (f n) _ t) l
     ]
 
-exponent-at : (n : ℕ) → 1053 ≤ n → n < 1074 → In (ofInt binary64 (minus n 1074)) exponentB
+exponents : (d : Depth) → T (all (exponentOk d) (1074 - start d))
 unfolding exponentOk
-exponent-at n l h =
-    let e : 1053 + (n - 1053) ≡ n = omega arith in
-    subst (λ (k : ℕ). In (ofInt binary64 (minus k 1074)) exponentB) e
-    (widen exponentB (all-at exponentOk 21 (n - 1053) tt (omega arith)) (point-in (ofInt binary64 (minus (1053 + (n - 1053)) 1074))))
+exponents usual = tt
+exponents deep = tt
+exponents every = tt
 
-pub exponent-in : (m e : ℕ) → 1054 ≤ e → e ≤ 1072 → In (exponentOf m e) exponentB
+exponent-at : (d : Depth) (n : ℕ) → start d ≤ n → n < 1074 → In (ofInt binary64 (minus n 1074)) (exponentB d)
+unfolding exponentOk
+exponent-at d n l h =
+    let e : start d + (n - start d) ≡ n = omega arith in
+    subst (λ (k : ℕ). In (ofInt binary64 (minus k 1074)) (exponentB d)) e
+    (widen (exponentB d) (all-at (exponentOk d) (1074 - start d) (n - start d) (exponents d) (omega arith))
+    (point-in (ofInt binary64 (minus (start d + (n - start d)) 1074))))
+
+pub exponent-in : (d : Depth) (m e : ℕ) → start d ≤ e → e ≤ 1072 → In (exponentOf m e) (exponentB d)
 unfolding exponentOf carryOf
-exponent-in m e l h = go (halved m)
+exponent-in d m e l h = go (halved m)
   where
-    go : (b : Bool) → In (ofInt binary64 (minus (e + cond b 1 0) 1074)) exponentB
-    go true = exponent-at (e + 1) (omega arith) (omega arith)
-    go false = exponent-at (e + 0) (omega arith) (omega arith)
+    go : (b : Bool) → In (ofInt binary64 (minus (e + cond b 1 0) 1074)) (exponentB d)
+    go true = exponent-at d (e + 1) (omega arith) (omega arith)
+    go false = exponent-at d (e + 0) (omega arith) (omega arith)
 
 -- ---- the entries' logarithms
 

@@ -1,9 +1,11 @@
 -- An interval of doubles, and what it is to lie in it. Definitions only.
-use Prim.Native.Nat.{ℕ, _+_, _^_, _≤_}
+use Prim.Native.Nat.{ℕ, _+_, _*_, _^_, _≤_}
 use mathlib.Core.Bool.{Bool, true, cond}
 use lib.Dec.{T}
 use lib.Ieee.{Float}
 use lib.Ieee.Exact.{HasValue}
+use lib.Ieee.Positive.{num, den}
+use lib.Ieee.Scale.{finite}
 
 -- From lp - ln to hp - hn, in units of the smallest double, 2 ^ -1074. `ok` says that no step to it overflows or divides by zero.
 pub record Interval : Type 0 where
@@ -46,3 +48,8 @@ between l h = ranged true l h
 -- at most h in size
 abbrev pub about : Bool → ℕ → Interval
 about o h = record { ok = o; lp = 0; ln = h; hp = h; hn = 0 }
+
+-- x is finite, and at most k in size
+pub record SizeAtMost (x : Float) (k : ℕ) : Type 0 where
+  pub is-finite : T (finite x)
+  pub size : num x ≤ k * den x

@@ -1,4 +1,4 @@
--- The arguments at which the quantile is shown finite: every double from 2 ^ -20 to 2 - 2 ^ -19. Definitions only.
+-- The arguments at which the quantile is shown finite, and at most 4 in size: every double from 2 ^ -20 to 2 - 2 ^ -19. Definitions only.
 -- The chances' arguments are among them, from 1 / 500000 to 999999 / 500000: the first is 2 ^ -18.93, and the last as far below 2.
 use mathlib.Core.Path.{_≡_}
 use mathlib.Core.Bool.{true}

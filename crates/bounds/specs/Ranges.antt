@@ -1,20 +1,45 @@
--- Where the numbers on the quantile's way lie, for every argument from 2 ^ -20 to 2 - 2 ^ -19. Definitions only.
+-- Where the numbers on the quantile's way lie, for every argument from 2 ^ -20 to 2 - 2 ^ -19; in the tails for every one from 2 ^ -52, and for
+-- every one above zero. Definitions only.
 -- In units of 2 ^ -1074: 1 is 2 ^ 1074. A pair has a range for its high part and one for its low part.
 use Prim.Native.Nat.{ℕ, _+_, _-_, _*_, _^_}
 use mathlib.Core.Bool.{true}
 use Rattle.bounds.specs.Interval.{Interval, between, about}
 
+-- how far down a tail's arguments go: to 2 ^ -20, as the chances' do; to 2 ^ -52, below which no 2 - x lies; or to the smallest double
+pub data Depth : Type 0 where
+  usual : Depth
+  deep : Depth
+  every : Depth
+
+-- the least argument, 2 ^ start d units
+abbrev pub start : Depth → ℕ
+start usual = 1054
+start deep = 1022
+start every = 0
+
+-- what the quantile is at most there
+abbrev pub greatest : Depth → ℕ
+greatest usual = 4
+greatest deep = 7
+greatest every = 64
+
 -- the argument: from 2 ^ -20 to 2 - 2 ^ -19
 abbrev pub argumentB : Interval
 argumentB = between (2 ^ 1054) (2 ^ 1075 - 2 ^ 1055)
 
--- the quantile, coarsely: at most 2 ^ 502 in size
+-- the quantile: at most 4 in size; at most 7 down to 2 ^ -52
 abbrev pub quantileB : Interval
-quantileB = about true (2 ^ 1576)
+quantileB = about true (4 * 2 ^ 1074)
 
--- each part of the pair that the quantile is made of
+abbrev pub deepQuantileB : Interval
+deepQuantileB = about true (7 * 2 ^ 1074)
+
+-- the pair that the quantile is the sum of: at most 4 - 2 ^ -8, the low part at most 2 ^ -9
 abbrev pub resultB : Interval
-resultB = about true (2 ^ 1574)
+resultB = about true (4 * 2 ^ 1074 - 2 ^ 1066)
+
+abbrev pub resultLowB : Interval
+resultLowB = about true (2 ^ 1065)
 
 -- ---- `erf_core`
 
@@ -29,6 +54,16 @@ coreLowB = about true (2 ^ 1030)
 abbrev pub middleB : Interval
 middleB = record { ok = true; lp = 0; ln = 2 ^ 1030; hp = 3 * 2 ^ 1072; hn = 0 }
 
+-- the three parts of it, up to 1 / 2, from there to 11 / 16, and from there to 0.75
+abbrev pub firstB : Interval
+firstB = record { ok = true; lp = 0; ln = 2 ^ 1030; hp = 2 ^ 1073; hn = 0 }
+
+abbrev pub secondB : Interval
+secondB = between (2 ^ 1073) (11 * 2 ^ 1070)
+
+abbrev pub thirdB : Interval
+thirdB = between (11 * 2 ^ 1070) (3 * 2 ^ 1072)
+
 -- from the cut at 0.75
 abbrev pub upperB : Interval
 upperB = between (3 * 2 ^ 1072) (2 ^ 1074 - 33 * 2 ^ 1049)
@@ -38,9 +73,9 @@ upperLowB = about true (2 ^ 1030)
 
 -- ---- the logarithms
 
--- their argument: from 2 ^ -20 to 3 / 8; the low part of 1 less a pair is at most 2 ^ -40
-abbrev pub reachB : Interval
-reachB = between (2 ^ 1054) (3 * 2 ^ 1071)
+-- their argument: up to 3 / 8; the low part of 1 less a pair is at most 2 ^ -40
+abbrev pub reachB : Depth → Interval
+reachB d = between (2 ^ start d) (3 * 2 ^ 1071)
 
 abbrev pub lessLowB : Interval
 lessLowB = about true (2 ^ 1034)
@@ -53,9 +88,9 @@ binB i = between ((i + 181) * 2 ^ 1066) ((i + 182) * 2 ^ 1066)
 abbrev pub zB : Interval
 zB = about true (2 ^ 1068)
 
--- the exponent: from -21 to -1
-abbrev pub exponentB : Interval
-exponentB = record { ok = true; lp = 0; ln = 21 * 2 ^ 1074; hp = 0; hn = 2 ^ 1074 }
+-- the exponent: from -20, -52 or -1074 to -1
+abbrev pub exponentB : Depth → Interval
+exponentB d = record { ok = true; lp = 0; ln = (1074 - start d) * 2 ^ 1074; hp = 0; hn = 2 ^ 1074 }
 
 -- the table's logarithms: at most 3 / 8, the low part at most 2 ^ -50
 abbrev pub entryHighB : Interval
@@ -68,25 +103,36 @@ entryLowB = about true (2 ^ 1024)
 abbrev pub shareB : Interval
 shareB = about true (2 ^ 1060)
 
--- the logarithm: from -15.5 to -9 / 32, the low part at most 2 ^ -10
-abbrev pub logB : Interval
-logB = record { ok = true; lp = 0; ln = 31 * 2 ^ 1073; hp = 0; hn = 9 * 2 ^ 1069 }
+-- the logarithm: from -913 / 64, -2333 / 64 or -745 to -19 / 64, the low part at most 2 ^ -10
+abbrev pub logStart : Depth → ℕ
+logStart usual = 913
+logStart deep = 2333
+logStart every = 745 * 64
+
+abbrev pub logB : Depth → Interval
+logB d = record { ok = true; lp = 0; ln = logStart d * 2 ^ 1068; hp = 0; hn = 19 * 2 ^ 1068 }
 
 abbrev pub logLowB : Interval
 logLowB = about true (2 ^ 1064)
 
 -- ---- the tails
 
--- zeta, the logarithm with the other sign: from 1 / 4 to 63 / 4, the low part at most 2 ^ -10
-abbrev pub zetaB : Interval
-zetaB = between (2 ^ 1072) (63 * 2 ^ 1072)
+-- a part of zeta's range, in 32nds
+abbrev pub zetaPartB : ℕ → ℕ → Interval
+zetaPartB a b = between (a * 2 ^ 1069) (b * 2 ^ 1069)
+
+-- zeta, the logarithm with the other sign: from 9 / 32 to 457 / 32, 1167 / 32 or 746, the low part at most 2 ^ -39
+abbrev pub zetaEnd : Depth → ℕ
+zetaEnd usual = 457
+zetaEnd deep = 1167
+zetaEnd every = 746 * 32
+
+abbrev pub zetaB : Depth → Interval
+zetaB d = zetaPartB 9 (zetaEnd d)
 
 abbrev pub zetaLowB : Interval
-zetaLowB = about true (2 ^ 1064)
+zetaLowB = about true (2 ^ 1035)
 
--- zeta's root and its reciprocal: from 1 / 8 to 8, the low part, coarsely, at most 2 ^ 70
-abbrev pub eightB : Interval
-eightB = between (2 ^ 1071) (2 ^ 1077)
-
-abbrev pub wideB : Interval
-wideB = about true (2 ^ 1144)
+-- the pair that a tail comes to: at least 2 ^ -6, and 2 ^ -8 below the greatest; the low part is that of the quantile's pair
+abbrev pub tailB : Depth → Interval
+tailB d = between (2 ^ 1068) (greatest d * 2 ^ 1074 - 2 ^ 1066)

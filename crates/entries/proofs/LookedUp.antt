@@ -4,11 +4,11 @@
 use mathlib.Core.Path.{_≡_, refl, sym, ap, _∙_}
 use Prim.Native.Nat.{ℕ, zero, suc, _+_, _-_, _≤_, _<_}
 use mathlib.Core.List.{List, [], _∷_, _++_}
-use mathlib.Core.Bool.{Bool, true, false}
+use mathlib.Core.Bool.{Bool, true, false, _&&_}
 use mathlib.Core.Option.{some}
 use native.Mathlib.Omega.{arith}
 use lib.ListN.{length, take, drop, getD}
-use lib.Dec.{leb}
+use lib.Dec.{leb, eqb}
 use lib.Seq.{getD-take, getD-drop}
 use Rattle.hex.specs.Same.{sameBytes}
 use Rattle.hex.proofs.Comparing.{equal-same, same-equal, lengths-differ, same-ends}
@@ -62,6 +62,18 @@ module _ (b name : List ℕ) (at size : ℕ) (e : size ≡ sizeAt b at) (k : 0 <
     pub name-part : take (at + 2 + length name - (at + 2)) (drop (at + 2) b) ≡ nameAt b at
     unfolding nameAt
     name-part = let m : at + 2 + length name - (at + 2) ≡ numberAt 2 at b = omega (arith, here .count, n) in ap (λ (i : ℕ). take i (drop (at + 2) b)) m
+
+-- ---- its name and its start
+
+module _ (b name : List ℕ) (at start : ℕ) (t : Bool) (told : t ≡ sameBytes (nameAt b at) name) where
+  pub entry-other : t ≡ false → false ≡ (sameBytes (nameAt b at) name && eqb (startAt b at) start)
+  entry-other f = rw (sym told ∙ f) refl
+
+  pub entry-own : (size n : ℕ) → size ≡ sizeAt b at → 0 < size → t ≡ true → n ≡ startIn b at
+      → eqb n start ≡ (sameBytes (nameAt b at) name && eqb (startAt b at) start)
+  entry-own size n e k h s =
+      let i : n ≡ startAt b at = s ∙ start-stands b at (size-here b at size e k .stands) in
+      rw (sym told ∙ h, i) refl
 
 -- ---- one entry a turn
 

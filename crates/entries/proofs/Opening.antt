@@ -17,7 +17,7 @@ true-not-false : true ≡ false → ⊥
 true-not-false h = let z : _≡_ {A = ℕ} 0 1 = cc in omega arith
 
 -- a byte before what is written
-set-before : (d : List ℕ) (at x : ℕ) (xs : List ℕ) → at + 1 + length xs ≤ length d → set (written d (at + 1) xs) at x ≡ written d at (x ∷ xs)
+pub set-before : (d : List ℕ) (at x : ℕ) (xs : List ℕ) → at + 1 + length xs ≤ length d → set (written d (at + 1) xs) at x ≡ written d at (x ∷ xs)
 unfolding written
 set-before d at x xs h =
     let t : take (at + 1) d ≡ take at d ++ getD d at 0 ∷ [] = ap (λ (k : ℕ). take k d) next ∙ take-suc d at 0 (omega arith) in

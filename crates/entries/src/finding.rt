@@ -1,11 +1,13 @@
 // A name among the entries: the place of its entry, or where it would be; and the start that its entry has.
 // Names rise, so that the search for a place ends at the first entry above the name.
 ghost use mathlib.Core.Path.{_≡_};
+ghost use mathlib.Core.Bool.{_&&_};
+ghost use lib.Dec.{eqb};
 ghost use Prim.Native.Nat.{_<_};
 ghost use Rattle.hex.specs.Same.{sameBytes};
 ghost use Rattle.journal_spec.specs.Index.{orderOf};
 ghost use Rattle.journal_spec.specs.Indexed.{lookUp};
-ghost use Rattle.entries.specs.Entries.{nameAt, sizeAt, entriesFrom, entriesIn};
+ghost use Rattle.entries.specs.Entries.{nameAt, startAt, sizeAt, entriesFrom, entriesIn};
 ghost use Rattle.entries.specs.Places.{findIn, lookFrom};
 ghost use Rattle.entries.specs.Answers.{orderMeaning, startMeaning};
 use crate::names::NameOrder;
@@ -131,4 +133,15 @@ fn is_name(index: &[u8], at: usize, size: usize, name: &[u8]) -> bool
         return false;
     }
     same(&index[first..end], name)
+}
+
+// Whether the entry at a place, which has so many bytes, has the name and the start.
+pub fn is_entry(index: &[u8], at: usize, size: usize, name: &[u8], start: usize) -> bool
+    requires { ⌜ (size ≡ sizeAt (now index) at) × (0 < size) ⌝ }
+    ensures { λ r. ⌜ r ≡ (sameBytes (nameAt (now (index .entry)) at) (now (name .entry)) && eqb (startAt (now (index .entry)) at) start) ⌝ }
+{
+    if !is_name(index, at, size, name) {
+        return false;
+    }
+    start_at(index, at) == start
 }

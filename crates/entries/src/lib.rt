@@ -13,6 +13,7 @@ pub use finding::Found;
 pub use finding::Looked;
 pub use finding::Start;
 pub use finding::find;
+pub use finding::is_entry;
 pub use finding::look_from;
 pub use finding::look_up;
 pub use names::NameOrder;

@@ -8,6 +8,7 @@ use native.Mathlib.Nat.{lt-of-lt-of-le, lt-of-le-of-lt}
 use native.Mathlib.Omega.{arith}
 use denote.Floats.{passes}
 use lib.Dec.{lit<}
+use lib.ListN.{length}
 use lib.Ieee.{Float, nan, inf, fin, binary64, ofBits, div, eq, lt}
 use lib.Ieee.Bits.{is-true}
 use lib.Ieee.Exact.{HasValue}
@@ -20,7 +21,7 @@ use Rattle.pxfm.proofs.Order.{val-of-lt, val-of-eq, lt-of-val}
 use Rattle.pxfm.proofs.Ranges.{zero-val, one-val}
 use Rattle.pxfm.proofs.FirstTests.{refuted}
 use Rattle.pxfm.proofs.Signs.{below-one-within}
-use Rattle.limit.specs.Times.{timesInRange}
+use Rattle.limit.specs.Times.{timesInRange, sumOf, squaresOf}
 use Rattle.limit.specs.Sums.{sumsOf}
 use Rattle.limit.specs.Formula.{double, sampleForm, limitFrom}
 use Rattle.limit.proofs.InRange as range
@@ -28,12 +29,12 @@ use Rattle.limit.proofs.Plausible.{times-plausible}
 use Rattle.band.specs.Band.{minShare, maxShare, million, shareInRange, inverseOf, endsFrom, endsOf, judge, bandOf}
 use Rattle.bounds.specs.Interval.{Interval, about, between, Holds, Inside, In}
 use Rattle.bounds.specs.Ranges.{coreB, coreLowB, quantileB}
-use Rattle.bounds.proofs.Operations.{widen, counted}
+use Rattle.bounds.proofs.Operations.{widen, counted, size-at-most}
 use Rattle.bounds.proofs.Estimate.{pairE, point, given, overE, toF64E}
 use Rattle.bounds.proofs.Pairs.{known, settle}
 use Rattle.bounds.proofs.Whole.{wholeE}
 use Rattle.bounds.proofs.Core.{core-in}
-use Rattle.finite.specs.Finite.{FiniteBand}
+use Rattle.finite.specs.Finite.{FiniteBand, maxLimit, SmallBand}
 use Rattle.finite.proofs.Formula.{form-within}
 
 -- ---- `f_erfinv` of a number between 0 and 1
@@ -64,7 +65,7 @@ module _ (x : Float) (n : ℕ) (v : HasValue x false n (2 ^ 1074)) (low : 0 < n)
   within-one : beyondOne x ≡ false
   within-one = below-one-within x (is-true (lt x one) (lt-of-val (val-whole v) (one-val 1074 0 refl) (below-it n (2 ^ 1074) high)))
 
-  within-answer : fErfinv x ≡ withSign false (toF64 (erfCore (newOf zero x)))
+  pub within-answer : fErfinv x ≡ withSign false (toF64 (erfCore (newOf zero x)))
   unfolding fErfinv
   within-answer = rw (size-itself x n v, not-zero, not-minus, not-one, within-one) refl
 
@@ -97,14 +98,14 @@ signed-in x h t p = record { at = λ o. go (p .at o) }
 -- ---- the inverse error function of a share
 
 -- from 2 ^ -20 to 1 - 33 * 2 ^ -25
-abbrev shareB : Interval
+abbrev pub shareB : Interval
 shareB = between (2 ^ 1054) (2 ^ 1074 - 33 * 2 ^ 1049)
 
 module _ (w : ℕ) (a : 1 ≤ w) (b : w ≤ 999999) where
   abbrev x : Float
   x = div binary64 (double w) (double million)
 
-  share-in : In x shareB
+  pub share-in : In x shareB
   unfolding wholeE overE
   share-in = widen shareB tt (overE (wholeE w 1 999999 a b tt) (wholeE million 1000000 1000000 (omega arith) (omega arith) tt) .holds)
 
@@ -112,18 +113,24 @@ module _ (w : ℕ) (a : 1 ≤ w) (b : w ≤ 999999) where
   unfolding toF64E point ofBits
   core-answer-in = widen quantileB tt (toF64E (known (core-in _ (settle coreLowB coreB (pairE (point zero) (given share-in)) tt))) .holds)
 
-  inverse-in : In (inverseOf w) quantileB
+  pub inverse-in : In (inverseOf w) quantileB
   unfolding inverseOf
   inverse-in =
       let c = counted (2 ^ 1054) (2 ^ 1074 - 33 * 2 ^ 1049) (lit< tt) share-in in
       let e = within-answer x (c .n) (c .val) (lt-of-lt-of-le (lit< tt) (c .low)) (lt-of-le-of-lt (c .high) (lit< tt)) in
-      subst (λ (y : Float). In y quantileB) (sym e) (signed-in (toF64 (erfCore (newOf zero x))) (2 ^ 1576) false core-answer-in)
+      subst (λ (y : Float). In y quantileB) (sym e) (signed-in (toF64 (erfCore (newOf zero x))) (4 * 2 ^ 1074) false core-answer-in)
 
 -- ---- the band
 
-pub finite-band : (ts : List ℕ) (w : ℕ) → timesInRange ts ≡ true → shareInRange w ≡ true → FiniteBand ts w
-unfolding sumsOf shareInRange bandOf judge endsOf endsFrom limitFrom
-finite-band ts w r h =
+pub small-band : (ts : List ℕ) (w : ℕ) → timesInRange ts ≡ true → shareInRange w ≡ true → SmallBand (length ts) (sumOf ts) (squaresOf ts) w
+unfolding sumsOf shareInRange endsOf endsFrom limitFrom
+small-band ts w r h =
     let i = inverse-in w (range.at-least minShare maxShare w h) (range.at-most minShare maxShare w h) in
     let e = form-within (sumsOf ts) (times-plausible ts r) sampleForm .ends (inverseOf w) i in
-    record { low = e .below; high = e .above; given = rw (h, r) refl }
+    record { low = size-at-most maxLimit (e .below); high = size-at-most maxLimit (e .above) }
+
+pub finite-band : (ts : List ℕ) (w : ℕ) → timesInRange ts ≡ true → shareInRange w ≡ true → FiniteBand ts w
+unfolding shareInRange bandOf judge
+finite-band ts w r h =
+    let e = small-band ts w r h in
+    record { low = e .low .is-finite; high = e .high .is-finite; given = rw (h, r) refl }

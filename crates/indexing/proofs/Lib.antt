@@ -1,11 +1,10 @@
--- The laws that the code of the index needs: which entries are the records' index, the pass that tells it, and what a check of it answers; an
--- entry found by a pass over the records, the index made entry by entry, and what making it answers; and an append that is handed one, by appends
--- that are not; and that the answers leave nothing free. Assumes nothing.
-mod Owning
-mod Nearby
+-- The laws that the code of the index needs: the last records of each name in order, which the index names; a buffer's entries held against theirs, and
+-- what a check of it answers; the index made entry by entry, and what making it answers; an append that is handed one, by appends that are not; and
+-- that the answers leave nothing free. Assumes nothing.
+mod Comparing
+mod Latest
 pub mod OwnPass
 pub mod Checking
-mod Finding
 mod Making
 mod Answered
 mod Appending

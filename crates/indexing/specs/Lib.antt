@@ -3,8 +3,6 @@
 pub mod Outcome
 pub mod Checked
 pub mod Made
--- for private contracts: what stands in bytes, records held against the entries of a buffer, places among these, and the place of an entry's record
+-- for private contracts: what stands in bytes, and the entries of records at places
 pub mod Standing
-pub mod Owned
-pub mod Near
-pub mod Next
+pub mod Places

@@ -1,10 +1,8 @@
 // The index of the records that stand (request 2026-08): made afresh, told from another, and kept beside the journal by append.
-// Nothing is assumed of the slices, the lengths or the buffers, and no memory is needed.
+// Nothing is assumed of the slices, the lengths or the buffers. Making and telling it takes an array of places on the stack.
 mod append;
 mod log;
 mod make;
-mod near;
-mod next;
 mod own;
 
 pub use append::append_indexed;

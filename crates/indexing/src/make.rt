@@ -1,5 +1,5 @@
-// The index of the records that stand, made afresh into a lent buffer: one pass over its entries finds its length, and where there is room a
-// second one writes it. Each entry is found by a pass over the records, so that no memory is needed.
+// The index of the records that stand, made afresh into a lent buffer: one pass over the records finds the last one of each name, in the order of
+// names; one over these finds the index's length, and where there is room a second one writes it.
 ghost use mathlib.Core.Path.{_≡_};
 ghost use Prim.Native.Nat.{_≤_};
 ghost use lib.ListN.{length};
@@ -9,14 +9,18 @@ ghost use Rattle.journal_spec.specs.MakeIndex.{makeUnless, makeIndexOf};
 ghost use Rattle.journal_spec.proofs.Whole.{WholeBytes};
 ghost use Rattle.indexing.specs.Standing.{indexIn};
 ghost use Rattle.indexing.specs.Made.{madeOutcome};
-use crate::next::next_entry;
+ghost use Rattle.indexing.specs.Places.{Named};
 use entries::put_count;
 use entries::put_entry;
 use journal::Contents;
 use journal::Fault;
 use journal::Rule;
 use journal::contents_of;
-use records::record_name;
+use journal_order::Key;
+use journal_order::MOST;
+use journal_order::key_at;
+use journal_order::latest_of;
+use journal_order::wide;
 
 // Document 02's number for a buffer that cannot hold the index.
 const INDEX_ROOM_REFUSAL: u32 = 15;
@@ -51,42 +55,52 @@ fn make_whole(b: &[u8], out: &mut [u8]) -> IndexMade
     ensures { λ r. ⌜ madeOutcome r (now (out .exit))
         ≡ makeUnless (judgeIndexRoom (indexIn (now (b .entry))) (now (out .entry))) (indexIn (now (b .entry))) (now (out .entry)) ⌝ }
 {
-    let size = index_size(b);
+    let mut places: [u16; MOST] = [0; MOST];
+    let count = latest_of(b, Key::Name, &mut places);
+    make_named(b, &places[..count], out)
+}
+
+// The same, with the places of the records that the index names.
+fn make_named(b: &[u8], places: &[u16], out: &mut [u8]) -> IndexMade
+    requires { ⌜ Named (now b) (now places) ⌝ }
+    ensures { λ r. ⌜ madeOutcome r (now (out .exit))
+        ≡ makeUnless (judgeIndexRoom (indexIn (now (b .entry))) (now (out .entry))) (indexIn (now (b .entry))) (now (out .entry)) ⌝ }
+{
+    let size = index_size(b, places);
     if out.len() < size {
         return IndexMade::Declined(INDEX_ROOM_REFUSAL);
     }
-    put_index(b, out);
+    put_index(b, places, out);
     IndexMade::Length(size)
 }
 
 // The first pass over the entries: the index's length.
-fn index_size(b: &[u8]) -> usize
-    requires { ⌜ WholeBytes (now b) ⌝ }
+fn index_size(b: &[u8], places: &[u16]) -> usize
+    requires { ⌜ Named (now b) (now places) ⌝ }
     ensures { λ r. ⌜ r ≡ length (indexBytes (indexIn (now (b .entry)))) ⌝ }
 {
     let mut size: usize = 2;
-    let mut at = next_entry(b, b.len());
-    while at < b.len() {
-        let name = record_name(&b[at..]);
+    let mut i: usize = 0;
+    while i < places.len() {
+        let name = key_at(b, Key::Name, wide(places[i]));
         size += 6 + name.len();
-        at = next_entry(b, at);
+        i += 1;
     }
     size
 }
 
 // The second: the entries behind one another, then their count in front.
-fn put_index(b: &[u8], out: &mut [u8])
-    requires { ⌜ WholeBytes (now b) × (length (indexBytes (indexIn (now b))) ≤ length (now out)) ⌝ }
+fn put_index(b: &[u8], places: &[u16], out: &mut [u8])
+    requires { ⌜ Named (now b) (now places) × (length (indexBytes (indexIn (now b))) ≤ length (now out)) ⌝ }
     ensures { λ _. ⌜ now (out .exit) ≡ written (now (out .entry)) 0 (indexBytes (indexIn (now (b .entry)))) ⌝ }
 {
-    let mut count: usize = 0;
     let mut n: usize = 2;
-    let mut at = next_entry(b, b.len());
-    while at < b.len() {
-        let name = record_name(&b[at..]);
+    let mut i: usize = 0;
+    while i < places.len() {
+        let at = wide(places[i]);
+        let name = key_at(b, Key::Name, at);
         n = put_entry(out, n, name, at);
-        count += 1;
-        at = next_entry(b, at);
+        i += 1;
     }
-    put_count(out, count);
+    put_count(out, places.len());
 }

@@ -1,24 +1,26 @@
-// Refusal 14: whether a buffer begins with the index of records, told by one pass over them. Each record's name must have an entry, with a
-// start that is not before the record; and as many entries must start at a record as there are.
+// Refusal 14: whether a buffer begins with the index of records. The last record of each name is found by one pass over them, in the order of names;
+// the buffer must be an index with the entries of these.
 ghost use mathlib.Core.Path.{_≡_};
 ghost use Rattle.journal_spec.specs.Index.{indexBytes, inFront};
 ghost use Rattle.journal_spec.specs.MakeIndex.{checkIndexOf};
 ghost use Rattle.journal_spec.proofs.Whole.{WholeBytes};
-ghost use Rattle.entries.specs.Answers.{startMeaning};
+ghost use Rattle.entries.specs.Entries.{entriesIn};
 ghost use Rattle.indexing.specs.Standing.{indexIn};
-ghost use Rattle.indexing.specs.Owned.{admits, hit};
+ghost use Rattle.indexing.specs.Places.{entriesOf, sameEntries};
 ghost use Rattle.indexing.specs.Checked.{checkMeaning};
-use crate::near::PLACES;
-use crate::near::look_near;
-use entries::Start;
+use entries::is_entry;
 use entries::is_index;
+use entries::size_at;
 use journal::Contents;
 use journal::Fault;
 use journal::Rule;
 use journal::contents_of;
 use journal::number_in;
-use records::record_name;
-use records::record_size;
+use journal_order::Key;
+use journal_order::MOST;
+use journal_order::key_at;
+use journal_order::latest_of;
+use journal_order::wide;
 
 // The buffer begins with the journal's index; or it does not, number 14; or the journal's first fault.
 pub enum Checked {
@@ -56,38 +58,37 @@ pub(crate) fn is_own(b: &[u8], index: &[u8]) -> bool
     if !is_index(index) {
         return false;
     }
-    let count = number_in(index, 0, 2);
-    let mut hits: u64 = 0;
-    let mut at: usize = 0;
-    let mut lefts: [u64; PLACES] = [0; PLACES];
-    let mut places: [usize; PLACES] = [0; PLACES];
-    while at < b.len() {
-        let start = look_near(index, record_name(&b[at..]), &mut lefts, &mut places);
-        if !is_admitted(start, at) {
+    let mut places: [u16; MOST] = [0; MOST];
+    let count = latest_of(b, Key::Name, &mut places);
+    has_entries(b, &places[..count], index)
+}
+
+// Whether an index has the entries of the records at the places, and no others.
+fn has_entries(b: &[u8], places: &[u16], index: &[u8]) -> bool
+    ensures { λ r. ⌜ r ≡ sameEntries (entriesIn (now (index .entry))) (entriesOf (now (b .entry)) (now (places .entry))) ⌝ }
+{
+    let mut left = number_in(index, 0, 2);
+    let mut place: usize = 2;
+    let mut i: usize = 0;
+    while i < places.len() {
+        if left == 0 {
             return false;
         }
-        hits += hit_of(start, at);
-        at += record_size(&b[at..]);
+        let size = size_at(index, place);
+        if size == 0 {
+            return false;
+        }
+        let at = wide(places[i]);
+        let name = key_at(b, Key::Name, at);
+        if !is_entry(index, place, size, name, at) {
+            return false;
+        }
+        place += size;
+        left -= 1;
+        i += 1;
     }
-    hits == count
-}
-
-// Whether an entry's start is there and not before a record's.
-fn is_admitted(start: Start, at: usize) -> bool
-    ensures { λ r. ⌜ r ≡ admits (startMeaning start) at ⌝ }
-{
-    match start {
-        Start::At(s) => at <= s,
-        Start::Absent => false,
+    if left == 0 {
+        return true;
     }
-}
-
-// 1 where it is the record's, else 0.
-fn hit_of(start: Start, at: usize) -> u64
-    ensures { λ r. ⌜ r ≡ hit (startMeaning start) at ⌝ }
-{
-    match start {
-        Start::At(s) => { if s == at { 1 } else { 0 } }
-        Start::Absent => 0,
-    }
+    size_at(index, place) == 0
 }

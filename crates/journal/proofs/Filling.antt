@@ -6,15 +6,15 @@ use mathlib.Core.List.{List, [], _∷_, _++_}
 use native.Mathlib.Omega.{arith}
 use native.Mathlib.Numerals.{add-one}
 use lib.ListN.{length, take, drop, getD, set, length-append, length-drop}
-use lib.Seq.{length-take-le, take-add, drop-drop, set-split, drop-cons}
+use lib.Seq.{length-take-le, take-add, take-suc, take-suc-set, drop-drop, set-split, drop-cons}
 use Rattle.journal_spec.specs.Append.{written}
 use Rattle.journal_spec.proofs.Writing.{written-nil, written-two}
-use Rattle.journal.specs.Stepped.{Stepped, Filled}
+use Rattle.journal.specs.Stepped.{Front, Stepped, Filled}
 
-pub filled-none : (new d : List ℕ) (p : ℕ) → p ≤ length d → p ≤ length new → Filled new d p p d
-filled-none new d p h k =
+pub filled-none : (new d : List ℕ) (p : ℕ) → p ≤ length d → p ≤ length new → Front new p d → Filled new d p p d
+filled-none new d p h k f =
     let z : p - p ≡ 0 = omega arith in
-    record { onward = omega arith; inside = h; known = k; bytes = rw z (sym (written-nil d p)) }
+    record { onward = omega arith; inside = h; known = k; bytes = rw z (sym (written-nil d p)); front = f }
 
 pub filled-length : (new d : List ℕ) (p r : ℕ) (d′ : List ℕ) → Filled new d p r d′ → length d′ ≡ length d
 unfolding written
@@ -45,12 +45,18 @@ filled-two new d p q r d₁ d₂ f g =
           ∙ ap₂ (λ (x : List ℕ) (k : ℕ). written x k b) (f .bytes) (sym m)
           ∙ written-two d p a b (omega (arith, f .onward, f .inside))
           ∙ ap (written d p) e;
+      front = g .front;
     }
 
+-- the byte after the front makes it one longer
+pub front-next : (new d : List ℕ) (p : ℕ) → p < length d → p < length new → Front new p d → Front new (p + 1) (set d p (getD new p 0))
+front-next new d p h k f = rw (add-one, take-suc-set d p (getD new p 0) h, take-suc new p 0 k, f) refl
+
 -- a step is a run to the next place
-filled-one : (new d : List ℕ) (p : ℕ) → p < length d → p < length new → Filled new d p (p + 1) (set d p (getD new p 0))
+filled-one : (new d : List ℕ) (p : ℕ) → p < length d → p < length new → Front new (p + 1) (set d p (getD new p 0))
+    → Filled new d p (p + 1) (set d p (getD new p 0))
 unfolding written
-filled-one new d p h k =
+filled-one new d p h k f =
     let one : p + 1 - p ≡ 1 = omega arith in
     let e : take 1 (drop p new) ≡ getD new p 0 ∷ [] = ap (take 1) (drop-cons new p 0 k) in
     record {
@@ -58,13 +64,14 @@ filled-one new d p h k =
       inside = omega arith;
       known = omega arith;
       bytes = set-split d p (getD new p 0) h ∙ rw (one, e, add-one) refl;
+      front = f;
     }
 
 pub filled-more : (new d : List ℕ) (p q : ℕ) (d₁ : List ℕ) (r : ℕ) (d₂ : List ℕ) → Filled new d p q d₁ → q < length d → q < length new
     → Stepped new d₁ q r d₂ → Filled new d p r d₂
 filled-more new d p q d₁ r d₂ f h k s =
     filled-two new d p q r d₁ d₂ f
-    (rw (s .place, s .bytes) (filled-one new d₁ q (omega (arith, filled-length new d p q d₁ f)) k))
+    (rw (s .place, s .bytes) (filled-one new d₁ q (omega (arith, filled-length new d p q d₁ f)) k (rw (s .place, s .bytes) at (s .front))))
 
 -- ---- section after section
 
@@ -77,7 +84,7 @@ pub record Reached (new d : List ℕ) (end start p : ℕ) (d′ : List ℕ) : Ty
 
 pub reached-none : (new d : List ℕ) (end : ℕ) → end ≤ length d → end ≤ length new → Reached new d end 0 0 d
 reached-none new d end h k = record {
-  filled = filled-none new d 0 (omega arith) (omega arith);
+  filled = filled-none new d 0 (omega arith) (omega arith) refl;
   place = omega arith;
   room = h;
   known = k;
@@ -85,8 +92,8 @@ reached-none new d end h k = record {
 
 module _ {new d : List ℕ} {end start p : ℕ} {d₁ : List ℕ} (c : Reached new d end start p d₁) where
   -- what the next section's writer asks
-  pub reached-asks : (end ≤ length d₁) × (end ≤ length new) × (p ≡ min end start)
-  reached-asks = (omega (arith, c .room, filled-length _ _ _ _ _ (c .filled)), c .known, c .place)
+  pub reached-asks : (end ≤ length d₁) × (end ≤ length new) × (p ≡ min end start) × Front new p d₁
+  reached-asks = (omega (arith, c .room, filled-length _ _ _ _ _ (c .filled)), c .known, c .place, c .filled .front)
 
   pub reached-next : {next stop r : ℕ} {d₂ : List ℕ} → stop ≡ next → Filled new d₁ p r d₂ × (r ≡ min end stop) → Reached new d end next r d₂
   reached-next e w = record {

@@ -25,6 +25,7 @@ pub mod Answering
 -- writing
 pub mod RecordByte
 pub mod Filling
+pub mod Turns
 -- the check of an offer
 pub mod Checking
 pub mod WorkedOut

@@ -180,13 +180,21 @@ module _ (day : ℕ) (name chances times limits : List ℕ) where
     pub byte-narrow : p - first < 8
     byte-narrow = omega (arith, h .above, h .below, width-most s i)
 
+    number-within : Within (bytesOf (widthAt s i) (getD (numbersOf s day name chances times limits) i 0)) (numberPlace s i name chances times)
+        (bytesFrom day name chances times limits)
+    number-within = within-both _ _ _ _ _ (section-within s (numbersOf s day name chances times limits) i (h .number)) (record-within s)
+
+    pub byte-inside : p < length (bytesFrom day name chances times limits)
+    byte-inside =
+        let v : ℕ = getD (numbersOf s day name chances times limits) i 0 in
+        omega (arith, h .place, h .above, h .below, number-within .inside, length-bytes (widthAt s i) v)
+
     pub number-in-record : (x : ℕ) → x ≡ getD (numbersOf s day name chances times limits) i 0 → (b : ℕ)
         → ((w : ℕ) → p - first < w → b ≡ getD (bytesOf w x) (p - first) 0) → b ≡ getD (bytesFrom day name chances times limits) p 0
     number-in-record x e b f =
-        let w = within-both _ _ _ _ _ (section-within s (numbersOf s day name chances times limits) i (h .number)) (record-within s) in
         let at : startOf s name chances times + placeIn s i + (p - first) ≡ p = omega (arith, h .place, h .above) in
         let few : p - first < widthAt s i = omega (arith, h .above, h .below) in
         f (widthAt s i) few
         ∙ ap (λ (y : ℕ). getD (bytesOf (widthAt s i) y) (p - first) 0) e
-        ∙ w .bytes (p - first) (rw (length-bytes (widthAt s i)) few)
+        ∙ number-within .bytes (p - first) (rw (length-bytes (widthAt s i)) few)
         ∙ ap (λ (k : ℕ). getD (bytesFrom day name chances times limits) k 0) at

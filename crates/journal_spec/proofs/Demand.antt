@@ -31,7 +31,7 @@ use Rattle.journal_spec.specs.Ranges.{RecordRanges, AllRanges}
 use Rattle.journal_spec.proofs.Reading.{by-order, reads-cut}
 use Rattle.journal_spec.proofs.Limits.{formulaBits, sample-known}
 use Rattle.journal_spec.proofs.SameRefusals.{same-next, same-refusal, same-record, same-length}
-use Rattle.journal_spec.proofs.Ranged.{passed, accepted-exactly, good-record, good-exactly, reads-back}
+use Rattle.journal_spec.proofs.Ranged.{passed, fits-room, accepted-exactly, good-record, good-exactly, reads-back}
 use Rattle.journal_spec.proofs.Scanning.{Torn, last-form, follow-snoc, torn-none, records-snoc}
 use Rattle.journal_spec.proofs.Places.{placedFrom, length-placed}
 use Rattle.journal_spec.proofs.Scanning.{unlessBroken, contents-of, plain-keeps}
@@ -194,14 +194,14 @@ module _ (room : ℕ) (j : Journal) (m : Model) (h : Holds room j m) (q : Reques
         let p = passed room m q e in
         let a = accepted-exactly room m q .0 e in
         good-exactly (lastOf (m .records)) (recordFor o) .0
-        (good-record (lastOf (m .records)) (recordFor o) sample-known (last-form [] (m .records) (h .follow) (omega arith)) (a .offer .day)
+        (good-record (lastOf (m .records)) (recordFor o) sample-known (last-form [] (m .records) (h .follow) (omega arith)) (unfold offerOf in a .0)
         (unfold offerOf in fits) (p .name) (p .chances) (p .times) refl)
 
     same : recordBytes (offered o) ≡ bytes
     same = let p = passed room m q e in ap recordBytes (same-record o (p .chances) (p .times))
 
     room-for : committedOf m + length bytes ≤ min room maxLength
-    room-for = let a = accepted-exactly room m q .0 e in omega (arith, a .fitsSlice, a .fitsJournal)
+    room-for = let f = fits-room room m q e in omega (arith, f .0, f .1)
 
     -- the outcome where `new` is what is written, and the model's entry
     step-written : (new : List ℕ) (m′ : Model) (index : Option (List ℕ)) → take k bytes ≡ new → length new ≤ length bytes

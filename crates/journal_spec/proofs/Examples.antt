@@ -4,7 +4,7 @@ use mathlib.Core.Path.{_≡_, refl, sym, ap, _∙_}
 use Prim.Native.Nat.{ℕ, zero, suc, _≤_, _<_}
 use mathlib.Core.List.{List, [], _∷_, _++_, append-nil}
 use mathlib.Core.Bool.{true, false}
-use mathlib.Core.Option.{none}
+use mathlib.Core.Option.{Option, none, some}
 use native.Mathlib.Omega.{arith}
 use lib.ListN.{length, take, getD, set, replicate}
 use lib.Ieee.{binary64, ofBits, toBits}
@@ -19,14 +19,15 @@ use Rattle.journal_spec.specs.Record.{Record, lastOf, judgeForm, judgeDa
 use Rattle.journal_spec.specs.Record.{limitSection, recordReader, recordBytes, recordsBytes}
 use Rattle.journal_spec.specs.Profile.{plain, profile, inProfile, keeps}
 use Rattle.journal_spec.specs.Scan.{Placed, recordsOf, judged, recordAt, contentsFrom, contentsOf, whole, torn, damaged, statusOf, scanOf}
-use Rattle.journal_spec.specs.Read.{flat, few, normal, letterOf, allEqual, areEqual, markFrom, markOf}
+use Rattle.journal_spec.specs.Read.{flat, few, normal, letterOf, allEqual, areEqual, markFrom, markOf, unmarked, markAt, markIn, readMark}
 use Rattle.journal_spec.specs.Tests.{each, same, nameGood}
-use Rattle.journal_spec.specs.Index.{IndexEntry, entryBytes, indexBytes, inFront, orderOf, amend, entryOf, amendAll}
+use Rattle.journal_spec.specs.Index.{IndexEntry, entryBytes, indexBytes, inFront, orderOf, amend, entryOf, amendAll, indexOf}
 use Rattle.journal_spec.specs.Log.{begin, linesOf, nameIn, digitsIn, digitsGood, decimalFrom, ticksIn, lineGood, Gathered, gathered, misread}
 use Rattle.journal_spec.specs.Log.{takeLine, gatherFrom, gatherOf}
 use Rattle.journal_spec.specs.Request.{all, times, log, Request, gatherBy, timesOf, gatheredTimes, offerOf, declined, declinedAt}
 use Rattle.journal_spec.specs.Request as R
-use Rattle.journal_spec.specs.Append.{judgeEven, appendRefusals, unchanged, settle, appendTo, appendWith, appendOf}
+use Rattle.journal_spec.specs.Append.{offered, limitsOf, judgeEven, judgeRoom, ofHanded, judgeIndex, judgeIndexRoom, nextIndex}
+use Rattle.journal_spec.specs.Append.{appendRefusals, unchanged, settle, appendTo, appendWith, appendOf}
 use Rattle.journal_spec.specs.Model.{breakFrom, workedOut}
 use Rattle.journal_spec.specs.Ranges.{RecordRanges}
 use Rattle.journal_spec.proofs.EvenChance.{worked-plain}
@@ -184,6 +185,16 @@ pub old-form : run (recordReader (record { form = 2; day = 9 })) 33 theBytes ≡
 unfolding theBytes recordReader run then section items valueOf judgeForm formKnown unless firstOf inRange
 old-form = refl
 
+-- day 1 after a record of day 2
+pub day-falls : run (recordReader (record { form = 1; day = 2 })) 33 theBytes ≡ fault 3 35
+unfolding theBytes recordReader run then section items valueOf judgeForm formKnown judgeDay unless firstOf inRange
+day-falls = refl
+
+-- no record in an empty journal
+pub no-record : readMark plain theBytes 0 0 ≡ unmarked 10
+unfolding theBytes readMark markIn markAt contentsOf contentsFrom
+no-record = refl
+
 -- ---- declined offers
 
 -- an offer of which nothing is right, made better from the front
@@ -207,6 +218,23 @@ pub record Declined : Type 0 where
   pub noLine : declined-by (through []) 6
   pub oneLine : declined-by (through (0x41 ∷ 0x20 ∷ 0x31 ∷ 0x0a ∷ [])) 6
   pub badLine : appendOf (record { slice = theBytes; len = 34 }) (through (0x0a ∷ [])) .answer ≡ declinedAt 11 0
+
+-- an offer of 33 bytes, by the index's buffer that is handed with it
+abbrev handing : Option (List ℕ) → Request
+handing index =
+    record { day = 1; name = 0x41 ∷ []; chances = 500_000 ∷ []; source = times (100 ∷ 100 ∷ []); budget = all; rule = plain; index = index }
+
+pub record DeclinedLast : Type 0 where
+  pub room : appendOf (record { slice = take 32 theBytes; len = 0 }) (handing none) .answer ≡ declined 9
+  pub index : declined-by (handing (some (1 ∷ 0 ∷ []))) 14
+  pub indexRoom : declined-by (handing (some (0 ∷ 0 ∷ []))) 15
+
+pub declines-last : DeclinedLast
+unfolding theBytes appendOf appendWith timesOf gatherBy gatheredTimes appendTo settle unchanged appendRefusals judgeEven judgeRoom firstOf sectionRefusal
+    offerOf offered limitsOf ofHanded judgeIndex judgeIndexRoom nextIndex indexOf amendAll amend indexBytes entryBytes inFront same recordBytes joined
+    sectionBytes numberBytes bytesOf itemsRefusal contentsOf contentsFrom keeps recordsOf lastOf judgeDay nameSection chanceSection judgeChance
+    chanceInRange lastChance timeSection outside unless inRange
+declines-last = record { room = refl; index = refl; indexRoom = refl }
 
 pub declines : Declined
 unfolding theBytes appendOf appendWith timesOf gatherBy gatheredTimes gatherOf gatherFrom takeLine linesOf begin lineGood nameGood digitsGood each

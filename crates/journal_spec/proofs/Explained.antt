@@ -164,7 +164,7 @@ accepts slice len ps committed n c tail x number upto same = record {
 }
 
 -- the length is that of the records and the torn tail
-tail-length : (slice : List ℕ) (len : ℕ) (ps : List Placed) (committed : ℕ) → (x : Holding slice len ps committed) → len ≡ committed + length (x .tail)
+pub tail-length : (slice : List ℕ) (len : ℕ) (ps : List Placed) (committed : ℕ) → (x : Holding slice len ps committed) → len ≡ committed + length (x .tail)
 tail-length slice len ps committed x =
     sym (length-take-le len slice (x .fits)) ∙ ap length (x .bytes) ∙ length-append (recordsBytes (x .records)) (x .tail) ∙ rw (← x .upto) refl
 

@@ -17,15 +17,17 @@ use Rattle.journal_spec.specs.Record.{Record, lastOf, minName, maxName, 
 use Rattle.journal_spec.specs.Profile.{plain}
 use Rattle.journal_spec.specs.Scan.{maxLength, standing, contentsOf}
 use Rattle.journal_spec.specs.Index.{IndexEntry, indexBytes, Order, lower, equal, higher, orderOf, enroll, freshFrom, freshIndex}
-use Rattle.journal_spec.specs.Request.{Journal}
+use Rattle.journal_spec.specs.Request.{upTo, Journal}
 use Rattle.journal_spec.specs.Append.{written, judgeIndexRoom}
 use Rattle.journal_spec.specs.MakeIndex.{made, declined, Made, makeUnless, makeFrom, makeIndexOf}
 use Rattle.journal_spec.specs.Calls.{operations, Call, emptyIn, perform, journalAfter}
-use Rattle.journal_spec.specs.Model.{Model, emptyModel, committedOf, breakOf, taken, verdictOf, Entry, enterRecord, enterBy, refreshed}
+use Rattle.journal_spec.specs.Model.{Model, emptyModel, committedOf, breakOf, Verdict, taken, turned, verdictOf, Entry, enterRecord, enterBy, refreshed}
 use Rattle.journal_spec.specs.Model.{modelAfter}
-use Rattle.journal_spec.specs.Shown.{budgetOf, recordOf}
+use Rattle.journal_spec.specs.Shown.{budgetOf, recordOf, Takes, Finishes}
 use Rattle.journal_spec.specs.Ranges.{AllRanges}
 use Rattle.journal_spec.proofs.Ranged.{encoding-length}
+use Rattle.journal_spec.proofs.Given.{record-is, budget-upto, budget-reaches}
+use Rattle.journal_spec.proofs.Verdicts.{taken-exactly}
 use Rattle.journal_spec.proofs.Scanning.{unlessBroken, plain-keeps}
 use Rattle.journal_spec.proofs.Places.{placedFrom}
 use Rattle.journal_spec.proofs.Placing.{lengths-are}
@@ -35,30 +37,65 @@ use Rattle.journal_spec.proofs.Shown.{enter-is}
 
 -- ---- after a call
 
-module _ (slice : List ℕ) (cs : List Call) (c : Call) where
+-- one more call, after a list that starts from a journal that holds what a model says
+module _ (room : ℕ) (j : Journal) (m : Model) (h : Holds room j m) (cs : List Call) (c : Call) where
   -- the model before the call, and the index's buffer after it
   abbrev before : Model
-  before = modelAfter (length slice) emptyModel cs
+  before = modelAfter room m cs
 
   abbrev after : Option (List ℕ)
-  after = perform operations (journalAfter operations (emptyIn slice) cs) c .index
+  after = perform operations (journalAfter operations j cs) c .index
 
-  entered : after ≡ enterBy (verdictOf (length slice) before (c .request)) before (recordOf c) (budgetOf c) (c .request .index) .index
+  entered : after ≡ enterBy (verdictOf room before (c .request)) before (recordOf c) (budgetOf c) (c .request .index) .index
   entered =
-      step (length slice) _ before (after-all (length slice) (emptyIn slice) emptyModel (start slice) cs .holds) c .index
-      ∙ ap (λ (e : Entry). e .index) (enter-is (length slice) before c)
+      step room _ before (after-all room j m h cs .holds) c .index
+      ∙ ap (λ (e : Entry). e .index) (enter-is room before c)
 
   -- its record is finished: the index of all records now shown stands in front, and every byte beyond it is as it was
-  pub index-finished : (b : List ℕ) → c .request .index ≡ some b → verdictOf (length slice) before (c .request) ≡ taken
-      → length (recordBytes (recordOf c)) ≤ budgetOf c
-      → let now = indexBytes (freshIndex (before .records ++ recordOf c ∷ [])) in after ≡ some (now ++ drop (length now) b)
+  pub index-finished-from : (b : List ℕ) → c .request .index ≡ some b → (f : Finishes room before c)
+      → let now = indexBytes (freshIndex (before .records ++ f .takes .content ∷ [])) in after ≡ some (now ++ drop (length now) b)
   unfolding enterBy enterRecord refreshed
-  index-finished b i t all = entered ∙ rw (t, le-leb (length (recordBytes (recordOf c))) (budgetOf c) all, i) refl
+  index-finished-from b i f =
+      let same : f .takes .content ≡ recordOf c = record-is c (f .takes .content) (f .takes .given) in
+      let all : length (recordBytes (recordOf c)) ≤ budgetOf c = budget-reaches c .1 (rw same at (f .reaches)) in
+      entered
+      ∙ rw (same, taken-exactly room before (c .request) .1 (f .takes), le-leb (length (recordBytes (recordOf c))) (budgetOf c) all, i) refl
 
   -- its record is cut: the index is as it was
-  pub index-cut : verdictOf (length slice) before (c .request) ≡ taken → budgetOf c < length (recordBytes (recordOf c)) → after ≡ c .request .index
+  pub index-cut-from : (t : Takes room before (c .request)) (k : ℕ) → c .request .budget ≡ upTo k → k < length (recordBytes (t .content))
+      → after ≡ c .request .index
   unfolding enterBy enterRecord
-  index-cut t less = entered ∙ rw (t, lt-leb (length (recordBytes (recordOf c))) (budgetOf c) less) refl
+  index-cut-from t k e short =
+      let less : k < length (recordBytes (recordOf c)) = rw (record-is c (t .content) (t .given)) at short in
+      entered
+      ∙ rw (taken-exactly room before (c .request) .1 t, lt-leb (length (recordBytes (recordOf c))) (budgetOf c) (omega (arith, budget-upto c k e)))
+      refl
+
+  -- it is declined: the index is as it was
+  pub index-declined-from : (Takes room before (c .request) → ⊥) → after ≡ c .request .index
+  unfolding enterBy
+  index-declined-from never = entered ∙ go (verdictOf room before (c .request)) refl
+    where
+      go : (v : Verdict) → verdictOf room before (c .request) ≡ v
+          → enterBy (verdictOf room before (c .request)) before (recordOf c) (budgetOf c) (c .request .index) .index ≡ c .request .index
+      go taken e = absurd (never (taken-exactly room before (c .request) .0 e))
+      go (turned a) e = rw e refl
+
+-- the same from the empty journal
+module _ (slice : List ℕ) (cs : List Call) (c : Call) where
+  abbrev emptyBefore : Model
+  emptyBefore = modelAfter (length slice) emptyModel cs
+
+  abbrev emptyAfter : Option (List ℕ)
+  emptyAfter = perform operations (journalAfter operations (emptyIn slice) cs) c .index
+
+  pub index-finished : (b : List ℕ) → c .request .index ≡ some b → (f : Finishes (length slice) emptyBefore c)
+      → let now = indexBytes (freshIndex (emptyBefore .records ++ f .takes .content ∷ [])) in emptyAfter ≡ some (now ++ drop (length now) b)
+  index-finished = index-finished-from (length slice) (emptyIn slice) emptyModel (start slice) cs c
+
+  pub index-cut : (t : Takes (length slice) emptyBefore (c .request)) (k : ℕ) → c .request .budget ≡ upTo k
+      → k < length (recordBytes (t .content)) → emptyAfter ≡ c .request .index
+  index-cut = index-cut-from (length slice) (emptyIn slice) emptyModel (start slice) cs c
 
 -- ---- made afresh
 

@@ -1,6 +1,7 @@
 -- The laws on the journal's definitions, one idea to a file, and the theorem of the whole list.
--- `Format` has the format's laws by name, `Demand` the theorem, `Continued` that it goes on from a journal that stands, `Shown`, `Answers`,
--- `TornOrWhole` and `ShutOut` what follows from it, `Former`, `Marks` and `Unchanged` what document 02's requests changed of reading, and what not.
+-- `Format` has the format's laws by name, `Fields` and `Scanned` say the record's fields and scan's answers in the paper's words, `Demand` is the
+-- theorem, `Continued` that it goes on from a journal that stands, `Shown`, `Answers`, `TornOrWhole` and `ShutOut` what follows from it, `Former`,
+-- `Marks` and `Unchanged` what document 02's requests changed of reading, and what not.
 
 -- numbers, refusals, readers, sections, records
 pub mod Numbers
@@ -11,7 +12,12 @@ pub mod Each
 pub mod Limits
 pub mod Records
 pub mod SameRefusals
+pub mod Asking
 pub mod Ranged
+pub mod Fields
+-- what stands in a request, and the verdict on it
+pub mod Given
+pub mod Verdicts
 -- scan and append
 pub mod Places
 pub mod Scanning
@@ -23,6 +29,7 @@ pub mod Independent
 pub mod Format
 pub mod Refused
 pub mod Table
+pub mod Scanned
 pub mod Placing
 -- the log
 pub mod Lines
@@ -36,9 +43,11 @@ pub mod Demand
 pub mod Continued
 pub mod Shown
 pub mod Answers
+pub mod Cut
 pub mod TornOrWhole
 mod NamedCalls
 pub mod IndexAfter
+pub mod Making
 pub mod Threaded
 pub mod ShutOut
 -- examples

@@ -19,7 +19,7 @@ use Rattle.journal_spec.specs.Model.{Model, emptyModel, lengthsOf, commi
 use Rattle.journal_spec.specs.Model.{verdictOf}
 use Rattle.journal_spec.specs.Model.{refreshed, indexWrong, indexFull, Entry, enterRecord}
 use Rattle.journal_spec.specs.Model.{enterBy, enter, noRoom, modelRefusals, modelRefusal, modelAfter}
-use Rattle.journal_spec.specs.Ranges.{Accepted}
+use Rattle.journal_spec.specs.Ranges.{NameRanges, ChanceRanges, TimeRanges, AllHold, askedOf}
 use Rattle.journal_spec.proofs.Records.{length-record}
 use Rattle.journal_spec.proofs.Ranged.{passed, accepted-exactly}
 use Rattle.journal_spec.proofs.Placing.{lengths-snoc}
@@ -85,34 +85,27 @@ appends ns = map appendNamed ns
 
 -- a model takes such an offer where its last day is not later than 1 and there is room
 accepts : (room : ℕ) (m : Model) (n : ℕ) (budget : Budget) → lastOf (m .records) .day ≤ 1 → 1 ≤ n → n ≤ 32
-    → committedOf m + (32 + n) ≤ room → committedOf m + (32 + n) ≤ maxLength → Accepted room m (request n budget)
-unfolding request named offerOf timesOf gatherBy gatheredTimes
-accepts room m n budget day least most fits fits′ = record {
-  offer = record {
-    day = day;
-    name = record {
+    → committedOf m + (32 + n) ≤ room → committedOf m + (32 + n) ≤ maxLength
+    → AllHold (askedOf room m (request n budget) (recordFor (offerOf (request n budget))))
+unfolding request named recordFor offerOf timesOf gatherBy gatheredTimes
+accepts room m n budget day least most fits fits′ =
+    let name : NameRanges (replicate n 0x41) = record {
       least = rw (length-replicate {A = ℕ} n 0x41) least;
       most = rw (length-replicate {A = ℕ} n 0x41) most;
       bytes = λ i k. rw (getD-replicate {A = ℕ} n i 0x41 0 (rw (length-replicate {A = ℕ} n 0x41) at k)) (omega arith, omega arith);
-    };
-    chances = record {
+    } in
+    let chances : ChanceRanges (500_000 ∷ []) = record {
       least = omega arith;
       most = omega arith;
       range = λ i k. one-chance i k;
       rising = λ i k. absurd (omega arith);
-    };
-    even = λ i k. even-chance i k;
-    times = record {
+    } in
+    let times : TimeRanges (100 ∷ 100 ∷ []) = record {
       least = omega arith;
       most = omega arith;
       range = λ i k. two-times i k;
-    };
-  };
-  rule = tt;
-  fitsSlice = rw (named-length n) fits;
-  fitsJournal = rw (named-length n) fits′;
-  index = tt;
-}
+    } in
+    (day, (name, (chances, (λ i k. even-chance i k, (times, (tt, ((rw (named-length n) fits, rw (named-length n) fits′), (tt, (tt, tt)))))))))
   where
     one-chance : (i : ℕ) → i < 1 → (1 ≤ getD (500_000 ∷ []) i 0) × (getD (500_000 ∷ []) i 0 ≤ 999_999)
     one-chance zero k = (omega arith, omega arith)

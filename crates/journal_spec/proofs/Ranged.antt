@@ -16,7 +16,7 @@ use Rattle.limit.specs.Answer.{chanceRefusal, timesRefusal}
 use Rattle.limit.specs.Limit.{minChance, maxChance, formKnown}
 use Rattle.limit.specs.Formula.{plainForm, sampleForm}
 use Rattle.limit.proofs.InRange as R
-use Rattle.journal_spec.specs.Refusals.{dayRefusal, nameRefusal, limitRefusal, unless, firstOf}
+use Rattle.journal_spec.specs.Refusals.{dayRefusal, nameRefusal, limitRefusal, firstOf}
 use Rattle.journal_spec.specs.Section.{sectionRefusal}
 use Rattle.journal_spec.specs.Record.{Record, Last, IsDay, lastOf, judgeForm, judgeDay, limitSection, minName, maxName, minByte}
 use Rattle.journal_spec.specs.Record.{maxByte, minChances, maxChances, evenChance, recordReader, recordBytes}
@@ -27,8 +27,9 @@ use Rattle.journal_spec.specs.Request.{Request, Offer, offerOf}
 use Rattle.journal_spec.specs.Tests.{each, rising, same, nameGood}
 use Rattle.journal_spec.specs.Model.{Model, committedOf, workedOut, recordFor, dayFalls, chancesGood, timesGood}
 use Rattle.journal_spec.specs.Model.{chancesEven, noRoom, indexWrong, indexFull, modelRefusals, modelRefusal}
-use Rattle.journal_spec.specs.Ranges.{NameRanges, ChanceRanges, TimeRanges, Keeps, IndexFits, Accepted, RecordRanges}
+use Rattle.journal_spec.specs.Ranges.{NameRanges, ChanceRanges, TimeRanges, Keeps, IndexStands, IndexFits, AllHold, FirstNamed, askedOf, RecordRanges}
 use Rattle.journal_spec.proofs.Judging.{unless-none, unless-not, unless-true, first-none, none-at, none-first}
+use Rattle.journal_spec.proofs.Asking.{Tests, ended, test, all-hold, first-named}
 use Rattle.journal_spec.proofs.Each.{same-lists, same-self, each-holds, holds-each, each-range, range-each, rising-holds, holds-rising}
 use Rattle.journal_spec.proofs.Limits.{formulaBits, times-good, limits-good, limits-exact}
 use Rattle.journal_spec.proofs.Reading.{Reads}
@@ -104,22 +105,93 @@ rule-ranged profile r = (
 
 -- ---- the index
 
-pub index-ranged : (m : Model) (r : Record) (index : Option (List ℕ))
-    → ((indexWrong m index ≡ false) × (indexFull m r index ≡ false)) ↔ IndexFits m r index
-unfolding indexWrong indexFull inFront
-index-ranged m r none = (λ h. tt, λ h. (refl, refl))
-index-ranged m r (some b) =
-    let now : List ℕ = indexBytes (freshIndex (m .records)) in
-    let next : List ℕ = indexBytes (freshIndex (m .records ++ r ∷ [])) in (
-      λ h. (same-lists (take (length now) b) now (not-true (same (take (length now) b) now) (h .0)), ltb-false (length b) (length next) (h .1)),
-      λ k. (rw (k .0, same-self now) refl, le-ltb (length b) (length next) (k .1)),
+not-true : (t : Bool) → (not t ≡ true) ↔ (t ≡ false)
+not-true true = (λ h. sym h, λ h. sym h)
+not-true false = (λ h. refl, λ h. refl)
+
+pub stands-ranged : (m : Model) (index : Option (List ℕ)) → (not (indexWrong m index) ≡ true) ↔ IndexStands m index
+unfolding indexWrong inFront
+stands-ranged m none = (λ h. tt, λ h. refl)
+stands-ranged m (some b) =
+    let now : List ℕ = indexBytes (freshIndex (m .records)) in (
+      λ h. same-lists (take (length now) b) now (not-not (same (take (length now) b) now) h),
+      λ k. rw (k, same-self now) refl,
     )
   where
-    not-true : (t : Bool) → not t ≡ false → t ≡ true
-    not-true true h = refl
-    not-true false h = sym h
+    not-not : (t : Bool) → not (not t) ≡ true → t ≡ true
+    not-not true h = refl
+    not-not false h = h
+
+pub fits-ranged : (m : Model) (r : Record) (index : Option (List ℕ)) → (not (indexFull m r index) ≡ true) ↔ IndexFits m r index
+unfolding indexFull
+fits-ranged m r none = (λ h. tt, λ h. refl)
+fits-ranged m r (some b) =
+    let next : List ℕ = indexBytes (freshIndex (m .records ++ r ∷ [])) in
+    let short : Bool = ltb (length b) (length next) in (
+      λ h. ltb-false (length b) (length next) (not-true short .0 h),
+      λ k. not-true short .1 (le-ltb (length b) (length next) k),
+    )
 
 -- ---- a request
+
+-- a day that does not fall
+pub day-ranged : (m : Model) (o : Offer) → (not (dayFalls m o) ≡ true) ↔ (lastOf (m .records) .day ≤ o .day)
+unfolding dayFalls
+day-ranged m o = (
+  λ h. ltb-false (o .day) (lastOf (m .records) .day) (not-true (ltb (o .day) (lastOf (m .records) .day)) .0 h),
+  λ k. not-true (ltb (o .day) (lastOf (m .records) .day)) .1 (le-ltb (o .day) (lastOf (m .records) .day) k),
+)
+
+-- no chance beyond even
+pub even-ranged : (xs : List ℕ) → (chancesEven xs ≡ true) ↔ ((i : ℕ) → i < length xs → getD xs i 0 ≤ evenChance)
+unfolding chancesEven
+even-ranged xs = (
+  λ h i k. leb-true (getD xs i 0) evenChance (each-holds (λ (c : ℕ). leb c evenChance) xs h i k),
+  λ f. holds-each (λ (c : ℕ). leb c evenChance) xs (λ i k. le-leb (getD xs i 0) evenChance (f i k)),
+)
+
+either : (a b : Bool) → (a || b) ≡ false → (a ≡ false) × (b ≡ false)
+either true b h = (h, cc)
+either false b h = (refl, h)
+
+-- room for the record
+pub room-ranged : (room : ℕ) (m : Model) (o : Offer) → let size = committedOf m + length (recordBytes (recordFor o)) in
+    (not (noRoom room m o) ≡ true) ↔ ((size ≤ room) × (size ≤ maxLength))
+unfolding noRoom
+room-ranged room m o =
+    let size : ℕ = committedOf m + length (recordBytes (recordFor o)) in (
+      λ h.
+          let fit = either (ltb room size) (ltb maxLength size) (not-true (ltb room size || ltb maxLength size) .0 h) in
+          (ltb-false room size (fit .0), ltb-false maxLength size (fit .1)),
+      λ k. rw (le-ltb room size (k .0), le-ltb maxLength size (k .1)) refl,
+    )
+
+-- the model's rows are the tests of the papers' conditions, in their order
+pub asked-tests : (room : ℕ) (m : Model) (q : Request) → Tests (modelRefusals room m q) (askedOf room m q (recordFor (offerOf q)))
+unfolding modelRefusals offerOf recordFor
+asked-tests room m q =
+    let o : Offer = offerOf q in
+    test (not (dayFalls m o)) refl (day-ranged m o)
+    (test (nameGood (o .name)) refl (name-ranged (o .name))
+    (test (chancesGood (o .chances)) refl (chance-ranged (o .chances))
+    (test (chancesEven (o .chances)) refl (even-ranged (o .chances))
+    (test (timesGood (o .times)) refl (time-ranged (o .times))
+    (test (keeps (q .rule) (recordFor o)) refl (rule-ranged (q .rule) (recordFor o))
+    (test (not (noRoom room m o)) refl (room-ranged room m o)
+    (test (not (indexWrong m (q .index))) refl (stands-ranged m (q .index))
+    (test (not (indexFull m (recordFor o) (q .index))) refl (fits-ranged m (recordFor o) (q .index))
+    ended))))))))
+
+-- nothing declines a request exactly where all of them hold
+pub accepted-exactly : (room : ℕ) (m : Model) (q : Request) → (modelRefusal room m q ≡ 0) ↔ AllHold (askedOf room m q (recordFor (offerOf q)))
+unfolding modelRefusal
+accepted-exactly room m q = all-hold (asked-tests room m q)
+
+-- and one declines it exactly by the number of the first that fails
+pub declined-exactly : (room : ℕ) (m : Model) (q : Request) (n : ℕ)
+    → ((0 < n) × (modelRefusal room m q ≡ n)) ↔ FirstNamed (askedOf room m q (recordFor (offerOf q))) n
+unfolding modelRefusal
+declined-exactly room m q = first-named (asked-tests room m q)
 
 -- what each test of the model says where none declines
 pub record Passed (room : ℕ) (m : Model) (q : Request) : Type 0 where
@@ -150,50 +222,10 @@ passed room m q h =
       holds = unless-not (indexFull m (recordFor o) (q .index)) 14 (row 8);
     }
 
-pub not-declined : (room : ℕ) (m : Model) (q : Request) → Passed room m q → modelRefusal room m q ≡ 0
-unfolding modelRefusal modelRefusals unless firstOf
-not-declined room m q p = rw (p .day, p .name, p .chances, p .even, p .times, p .rule, p .room′, p .index, p .holds) refl
-
-either : (a b : Bool) → (a || b) ≡ false → (a ≡ false) × (b ≡ false)
-either true b h = (h, cc)
-either false b h = (refl, h)
-
--- nothing declines a request exactly under the papers' ranges
-pub accepted-exactly : (room : ℕ) (m : Model) (q : Request) → (modelRefusal room m q ≡ 0) ↔ Accepted room m q
-unfolding dayFalls chancesEven noRoom
-accepted-exactly room m q =
-    let o : Offer = offerOf q in
-    let size : ℕ = committedOf m + length (recordBytes (recordFor o)) in (
-      λ h.
-          let p = passed room m q h in
-          let fit = either (ltb room size) (ltb maxLength size) (p .room′) in
-          record {
-            offer = record {
-              day = ltb-false (o .day) (lastOf (m .records) .day) (p .day);
-              name = name-ranged (o .name) .0 (p .name);
-              chances = chance-ranged (o .chances) .0 (p .chances);
-              even = λ i k. leb-true (getD (o .chances) i 0) evenChance (each-holds (λ (c : ℕ). leb c evenChance) (o .chances) (p .even) i k);
-              times = time-ranged (o .times) .0 (p .times);
-            };
-            rule = rule-ranged (q .rule) (recordFor o) .0 (p .rule);
-            fitsSlice = ltb-false room size (fit .0);
-            fitsJournal = ltb-false maxLength size (fit .1);
-            index = index-ranged m (recordFor o) (q .index) .0 (p .index, p .holds);
-          },
-      λ a.
-          let f = a .offer in
-          not-declined room m q (record {
-            day = le-ltb (o .day) (lastOf (m .records) .day) (f .day);
-            name = name-ranged (o .name) .1 (f .name);
-            chances = chance-ranged (o .chances) .1 (f .chances);
-            even = holds-each (λ (c : ℕ). leb c evenChance) (o .chances) (λ i k. le-leb (getD (o .chances) i 0) evenChance (f .even i k));
-            times = time-ranged (o .times) .1 (f .times);
-            rule = rule-ranged (q .rule) (recordFor o) .1 (a .rule);
-            room′ = rw (le-ltb room size (a .fitsSlice), le-ltb maxLength size (a .fitsJournal)) refl;
-            index = index-ranged m (recordFor o) (q .index) .1 (a .index) .0;
-            holds = index-ranged m (recordFor o) (q .index) .1 (a .index) .1;
-          }),
-    )
+-- there is room for the record of a request that nothing declines
+pub fits-room : (room : ℕ) (m : Model) (q : Request) → modelRefusal room m q ≡ 0 → let size = committedOf m + length (recordBytes (recordFor (offerOf q))) in
+    (size ≤ room) × (size ≤ maxLength)
+fits-room room m q h = room-ranged room m (offerOf q) .0 (ap not (passed room m q h .room′))
 
 -- ---- a record
 

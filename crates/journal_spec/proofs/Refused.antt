@@ -1,8 +1,9 @@
 -- Any refusal writes no byte: a call that is declined, or that finds the journal damaged, leaves every byte of the slice and the length.
--- And reading refuses as scan does. For every slice and length, whether or not a list of calls leads there. Assumes nothing.
+-- And reading refuses as scan does, and then by 10. For every slice and length, whether or not a list of calls leads there. Assumes nothing.
 use mathlib.Core.Path.{_≡_, refl, sym, ap}
-use Prim.Native.Nat.{ℕ, zero, suc}
-use mathlib.Core.List.{List, []}
+use Prim.Native.Nat.{ℕ, zero, suc, _≤_, _<_}
+use mathlib.Core.List.{List, [], _∷_}
+use mathlib.Core.Logic.{_⊎_, inl, inr, ⊎-elim}
 use mathlib.Core.Option.{Option}
 use mathlib.Core.Bool.{Bool, true, false, cond}
 use lib.Dec.{eqb}
@@ -11,7 +12,7 @@ use lib.ListN.{length}
 use Rattle.journal_spec.specs.Profile.{Rule}
 use Rattle.journal_spec.specs.Scan.{Placed, Contents, standing, faulty, contentsOf, statusOf, scanOf}
 use Rattle.journal_spec.specs.Scan as S
-use Rattle.journal_spec.specs.Read.{noPart, partOf, partPlace, partBytes, readPart, unmarked, markIn, readMark}
+use Rattle.journal_spec.specs.Read.{noPart, partAt, partOf, partPlace, partBytes, readPart, Mark, markOf, marked, unmarked, markAt, markIn, readMark}
 use Rattle.journal_spec.specs.Log.{Gathered, gathered, misread}
 use Rattle.journal_spec.specs.Request.{Journal, Request, timesOf, AppendResult, extended, declinedAt, damaged, Outcome}
 use Rattle.journal_spec.specs.Append.{unchanged, extend, settle, appendTo, appendWith, appendOf}
@@ -42,6 +43,15 @@ standing-not-damaged len ps committed n p h = go (eqb committed len) h
     go : (t : Bool) → cond t (S.whole (length ps) committed) (S.torn (length ps) committed) ≡ S.damaged n p → ⊥
     go true h = let z : _≡_ {A = ℕ} 0 1 = cc in omega arith
     go false h = let z : _≡_ {A = ℕ} 0 1 = cc in omega arith
+
+-- faulty contents are what scan says damaged of
+pub faulty-said : (len : ℕ) (x : Contents) (n p : ℕ) → statusOf len x ≡ S.damaged n p → x ≡ faulty n p
+faulty-said len (standing ps committed) n p h = absurd (standing-not-damaged len ps committed n p h)
+faulty-said len (faulty m q) n p h =
+    unfold statusOf in
+    let a : m ≡ n = cc in
+    let b : q ≡ p = cc in
+    rw (a, b) refl
 
 fault-said : (len m q n p : ℕ) (j : Journal) (r : Request) → statusOf len (faulty m q) ≡ S.damaged n p
     → appendTo (faulty m q) j r .answer ≡ damaged n p
@@ -90,3 +100,63 @@ reading-refused rule slice len i n p h = go (contentsOf rule slice len) h
     go : (x : Contents) → statusOf len x ≡ S.damaged n p → (partBytes slice (partOf x i) ≡ []) × (markIn x i ≡ unmarked n)
     go (standing ps committed) h = absurd (standing-not-damaged len ps committed n p h)
     go (faulty m q) h = (unfold partBytes partOf noPart in refl, number m q h)
+
+-- ---- no such record
+
+part-absent : (ps : List Placed) (i : ℕ) → length ps ≤ i → partAt ps i ≡ noPart
+unfolding partAt
+part-absent [] i h = refl
+part-absent (p ∷ ps) zero h = absurd (omega arith)
+part-absent (p ∷ ps) (suc i) h = part-absent ps i (omega arith)
+
+mark-absent : (ps : List Placed) (i : ℕ) → length ps ≤ i → markAt ps i ≡ unmarked 10
+unfolding markAt
+mark-absent [] i h = refl
+mark-absent (p ∷ ps) zero h = absurd (omega arith)
+mark-absent (p ∷ ps) (suc i) h = mark-absent ps i (omega arith)
+
+mark-present : (ps : List Placed) (i : ℕ) → i < length ps → (m : Mark) × (markAt ps i ≡ marked m)
+unfolding markAt
+mark-present [] i h = absurd (omega arith)
+mark-present (p ∷ ps) zero h = (markOf (p .content .times), refl)
+mark-present (p ∷ ps) (suc i) h = mark-present ps i (omega arith)
+
+-- scan says whole or torn, with so many records
+pub record Stands (x : S.ScanResult) (n : ℕ) : Type 0 where
+  pub committed : ℕ
+  pub says : (x ≡ S.whole n committed) ⊎ (x ≡ S.torn n committed)
+
+-- where it says so, as many stand
+standing-number : (len : ℕ) (x : Contents) (n : ℕ) → Stands (statusOf len x) n → (ps : List Placed) × (c : ℕ) × (x ≡ standing ps c) × (length ps ≡ n)
+unfolding statusOf
+standing-number len (faulty m p) n s = ⊎-elim
+    (λ e. let z : _≡_ {A = ℕ} 0 1 = cc in absurd (omega arith))
+    (λ e. let z : _≡_ {A = ℕ} 0 1 = cc in absurd (omega arith)) (s .says)
+standing-number len (standing ps c) n s = (ps, c, refl, go (eqb c len) (s .says))
+  where
+    go : (t : Bool)
+        → (cond t (S.whole (length ps) c) (S.torn (length ps) c) ≡ S.whole n (s .committed))
+        ⊎ (cond t (S.whole (length ps) c) (S.torn (length ps) c) ≡ S.torn n (s .committed))
+        → length ps ≡ n
+    go true (inl e) = cc
+    go true (inr e) = let z : _≡_ {A = ℕ} 0 1 = cc in absurd (omega arith)
+    go false (inl e) = let z : _≡_ {A = ℕ} 0 1 = cc in absurd (omega arith)
+    go false (inr e) = cc
+
+module _ (rule : Rule) (slice : List ℕ) (len i n : ℕ) (stands : Stands (scanOf rule slice len) n) where
+  -- an i that is not below their number: an empty part, and 10
+  pub reading-absent : n ≤ i → (readPart rule slice len i ≡ []) × (readMark rule slice len i ≡ unmarked 10)
+  unfolding scanOf readPart partPlace readMark
+  reading-absent h =
+      let s = standing-number len (contentsOf rule slice len) n stands in
+      rw (s .2) (unfold partOf markIn in (
+        rw (part-absent (s .0) i (omega (arith, s .3))) (unfold partBytes noPart in refl),
+        mark-absent (s .0) i (omega (arith, s .3)),
+      ))
+
+  -- any other: a mark
+  pub reading-present : i < n → (m : Mark) × (readMark rule slice len i ≡ marked m)
+  unfolding scanOf readMark
+  reading-present h =
+      let s = standing-number len (contentsOf rule slice len) n stands in
+      rw (s .2) (unfold markIn in mark-present (s .0) i (omega (arith, s .3)))

@@ -4,12 +4,12 @@ use mathlib.Core.Path.{_≡_, refl, sym, ap, _∙_}
 use mathlib.Core.Logic.{_⊎_, inl, inr, ⊎-elim, _↔_}
 use Prim.Native.Nat.{ℕ, zero, suc, _+_, _-_, _≤_, _<_, min}
 use mathlib.Core.List.{List, [], _∷_, _++_}
-use mathlib.Core.Bool.{Bool, true, false, cond, _||_}
+use mathlib.Core.Bool.{Bool, true, false, cond, not, _||_}
 use mathlib.Core.Option.{Option, none, some}
 use native.Mathlib.Omega.{arith}
 use lib.ListN.{length, take, drop, getD, length-drop}
 use lib.Dec.{leb, eqb}
-use borrow.Author.Tests.{eqb-true}
+use borrow.Author.Tests.{eqb-true, eq-eqb}
 use Rattle.limit.specs.Answer.{LimitResult, limited, refused}
 use Rattle.limit.specs.Limit.{limitOf}
 use Rattle.limit.proofs.InRange as R
@@ -238,6 +238,15 @@ among-each test (m ∷ ms) n h a = go (among-each test ms n (R.second-of (test m
     go : (Among ms n → test n ≡ true) → (b : Bool) → eqb m n ≡ b → test n ≡ true
     go later true e = rw (eqb-true m n e) at (R.first-of (test m) (each test ms) h)
     go later false e = later (rw e at a)
+
+-- a number that the table does not have is no damaged journal's
+pub scan-never : (k : ℕ) → each (λ (m : ℕ). not (eqb m k)) (1 ∷ 19 ∷ recordNumbers) ≡ true
+    → (rule : Rule) (slice : List ℕ) (len n p : ℕ) → scanOf rule slice len ≡ S.damaged n p → n ≡ k → ⊥
+scan-never k t rule slice len n p h e =
+    let a : not (eqb n k) ≡ true = among-each (λ (m : ℕ). not (eqb m k)) (1 ∷ 19 ∷ recordNumbers) n t (scan-number rule slice len n p h) in
+    let b : false ≡ true = rw (eq-eqb n k e) at a in
+    let z : _≡_ {A = ℕ} 0 1 = cc in
+    omega arith
 
 not-one : Among (19 ∷ recordNumbers) 1 → ⊥
 unfolding among

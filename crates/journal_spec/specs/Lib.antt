@@ -26,6 +26,9 @@ pub mod Model
 pub mod Ranges
 pub mod Demand
 pub mod Shown
+-- a record's fields as the paper has them, and what scan answers in its words
+pub mod Fields
+pub mod Scanned
 -- what came before document 02's requests, for the laws about old journals
 pub mod Former
 -- for private contracts: the record's reader from each of its parts on, and an index entry by entry

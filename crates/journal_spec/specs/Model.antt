@@ -1,7 +1,7 @@
 -- The model, document 01's book: fed the calls' arguments, a log's bytes among them, and the slice's length, it says what each call answers
 -- and what the journal holds. It is written from the paper's paragraph and shares with append the layout, the formula and what a log is read
 -- as, but none of append's own definitions except the types of a request and an answer, which times and how many bytes a request asks for
--- (Request), and what keeps a rule (Profile; as inequalities again in Ranges).
+-- (Request; by the request's own fields again in Shown), and what keeps a rule (Profile; as inequalities again in Ranges).
 use Prim.Native.Nat.{ℕ, zero, suc, _+_}
 use mathlib.Core.List.{List, [], _∷_, _++_, map}
 use mathlib.Core.Bool.{Bool, false, cond, _&&_, _||_, not}

@@ -1,5 +1,5 @@
 -- What a call of append is handed, what it answers, and what it leaves: types, and which times a request has, its log's among them.
--- Append's definition and the model share them.
+-- Append's definition and the model share them; the laws of proofs/Given.antt say that what both read of a request is what stands in its fields.
 use Prim.Native.Nat.{ℕ}
 use mathlib.Core.List.{List, []}
 use mathlib.Core.Option.{Option}

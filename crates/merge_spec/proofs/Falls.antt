@@ -8,10 +8,12 @@ use native.Mathlib.Omega.{arith}
 use mathlib.Core.Option.{Option, none, some}
 use lib.ListN.{length, length-append}
 use lib.Dec.{ltb}
-use borrow.Author.Tests.{ltb-true, ltb-false, le-ltb}
+use borrow.Author.Tests.{ltb-true, ltb-false, lt-ltb, le-ltb}
 use Rattle.limit.specs.Formula.{plainForm, sampleForm}
 use Rattle.journal_spec.specs.Bytes.{joined}
 use Rattle.journal_spec.specs.Record.{Record, recordBytes, recordsBytes}
+use Rattle.journal_spec.specs.Model.{lengthsOf}
+use Rattle.journal_spec.proofs.Placing.{lengths-are}
 use Rattle.journal_spec.proofs.Cursor.{GoodSomewhere, AllGood}
 use Rattle.merge_spec.specs.Records.{fallFrom}
 use Rattle.merge_spec.proofs.Following.{FormsFrom}
@@ -80,6 +82,22 @@ first-fall form at (r ∷ rs) p h = go (ltb (r .form) form) refl (first-fall (r 
           below = x .below;
           place = x .place ∙ rw length-append (omega arith);
         }
+
+-- behind records whose forms do not fall, one whose form is below: its place is behind their bytes
+pub fall-behind : (f at : ℕ) (made : List Record) (r : Record) (rest : List Record) → FormsFrom f made → r .form < lastForm f made
+    → fallFrom f at (made ++ r ∷ rest) ≡ some (at + lengthsOf made)
+unfolding fallFrom lengthsOf
+fall-behind f at [] r rest g h = rw (lt-ltb (r .form) f h) (ap some (omega arith))
+fall-behind f at (s ∷ made) r rest g h =
+    rw (le-ltb (s .form) f (g .0))
+    (fall-behind (s .form) (at + length (recordBytes s)) made r rest (g .1) h ∙ ap some (omega arith))
+
+-- so that a place is found exactly where the first fall is
+pub fall-first : (form at : ℕ) (rs : List Record) (p : ℕ) → FirstFall form at rs p → fallFrom form at rs ≡ some p
+fall-first form at rs p x =
+    ap (fallFrom form at) (x .parts)
+    ∙ fall-behind form at (x .front) (x .falling) (x .others) (x .rises) (x .below)
+    ∙ ap some (omega (arith, x .place, lengths-are (x .front)))
 
 -- ---- forms of good records
 

@@ -7,7 +7,6 @@ use mathlib.Core.Bool.{true, false, not}
 use native.Mathlib.Omega.{arith}
 use mathlib.Core.Option.{none, some}
 use lib.ListN.{length}
-use borrow.Author.Tests.{lt-ltb, le-ltb}
 use Rattle.journal_spec.specs.Bytes.{joined}
 use Rattle.journal_spec.specs.Record.{Record, recordBytes, recordsBytes}
 use Rattle.journal_spec.specs.Append.{written}
@@ -18,7 +17,7 @@ use Rattle.journal_spec.proofs.Writing.{written-two, written-nil}
 use Rattle.merge_spec.specs.Records.{isTwin, select, undropped, byDay, fallFrom}
 use Rattle.merge_spec.proofs.ByDay.{HeadFrom, DaysFrom, step-first, step-second}
 use Rattle.merge_spec.proofs.Following.{FormsFrom, select-days}
-use Rattle.merge_spec.proofs.Falls.{lastForm, none-falls}
+use Rattle.merge_spec.proofs.Falls.{lastForm, none-falls, fall-behind}
 
 -- ---- a turn
 
@@ -93,14 +92,6 @@ measured-next made n form r m h = record {
   form′ = sym (last-snoc 0 made r);
   rises = rises-snoc 0 made r (m .rises) (omega (arith, m .form′));
 }
-
-fall-behind : (f at : ℕ) (made : List Record) (r : Record) (rest : List Record) → FormsFrom f made → r .form < lastForm f made
-    → fallFrom f at (made ++ r ∷ rest) ≡ some (at + lengthsOf made)
-unfolding fallFrom lengthsOf
-fall-behind f at [] r rest g h = rw (lt-ltb (r .form) f h) (ap some (omega arith))
-fall-behind f at (s ∷ made) r rest g h =
-    rw (le-ltb (s .form) f (g .0))
-    (fall-behind (s .form) (at + length (recordBytes s)) made r rest (g .1) h ∙ ap some (omega arith))
 
 -- one whose form is below: 13, at the length made so far
 pub measured-falls : (made : List Record) (n form : ℕ) (r : Record) (rest : List Record) → Measured made n form → r .form < form

@@ -63,7 +63,7 @@ pub record Measuring (a b : List ℕ) (p : Places) (n form : ℕ) : Type 0 where
   pub measured : Measured (there .made) n form
   pub small : n ≤ p .first + p .second
 
-pub measuring-start : (a b : List ℕ) → WholeBytes a → WholeBytes b → Measuring a b (record { first = 0; second = 0; since = 0 }) 0 0
+pub measuring-start : (a b : List ℕ) → WholeBytes a → WholeBytes b → Measuring a b (record { first = 0; second = 0 }) 0 0
 measuring-start a b w v = record {
   there = record { firstWhole = w; secondWhole = v; made = []; reached = start a b w v };
   measured = measured-start;
@@ -115,7 +115,7 @@ pub record Copying (a b buffer after : List ℕ) (p : Places) (n : ℕ) : Type 0
   pub room : lengthsOf (mergedOf (recordsIn a) (recordsIn b)) ≤ length buffer
 
 pub copying-start : (a b buffer : List ℕ) → WholeBytes a → WholeBytes b → lengthsOf (mergedOf (recordsIn a) (recordsIn b)) ≤ length buffer
-    → Copying a b buffer buffer (record { first = 0; second = 0; since = 0 }) 0
+    → Copying a b buffer buffer (record { first = 0; second = 0 }) 0
 copying-start a b buffer w v r = record {
   there = record { firstWhole = w; secondWhole = v; made = []; reached = start a b w v };
   copied = copied-start buffer;

@@ -1,99 +1,89 @@
--- What the two loops over the first journal keep: the records left decide where a day's records start, and whether one of them has some
--- bytes. Assumes nothing.
+-- A record's bytes are among a journal's records exactly where a place of theirs has them for its key.
+-- Assumes nothing.
 use mathlib.Core.Path.{_≡_, refl, sym, ap, subst, _∙_}
-use Prim.Native.Nat.{ℕ, suc, _+_, _≤_, _<_}
+use Prim.Native.Nat.{ℕ, _+_}
 use mathlib.Core.List.{List, [], _∷_}
-use mathlib.Core.Bool.{true, false}
+use mathlib.Core.Bool.{Bool, true, false, _||_}
+use mathlib.Core.Option.{Option, none, some}
 use native.Mathlib.Omega.{arith}
 use lib.ListN.{length, take, drop}
 use Rattle.hex.specs.Same.{sameBytes}
+use Rattle.hex.proofs.Comparing.{equal-same, same-equal}
 use Rattle.journal_spec.specs.Record.{Record, recordBytes}
-use Rattle.journal_spec.specs.Cursor.{dayAt, sizeAt, recordsIn}
-use Rattle.journal_spec.proofs.Cursor.{Cursor, cursor-none, cursor-some, cursor-part, cursor-next, cursor-read}
-use Rattle.merge_spec.specs.Records.{isAmong, before, from}
-use Rattle.merge_spec.proofs.SameDay.{ofDay, from-earlier, from-there, from-later, upto-there, upto-later}
-use Rattle.merging.specs.Records.{FromDay}
+use Rattle.journal_spec.specs.Cursor.{recordsIn}
+use Rattle.journal_spec.specs.Index.{Order, lower, equal, higher, orderOf}
+use Rattle.journal_spec.specs.Indexed.{orElse, whereEqual}
+use Rattle.journal_spec.proofs.Reading.{by-test}
+use Rattle.journal_spec.proofs.NameOrder.{order-self, order-equal}
+use Rattle.journal_spec.proofs.Cursor.{Cursor, cursor-part, cursor-next}
+use Rattle.records.proofs.Front.{front-size}
+use Rattle.merge_spec.specs.Records.{isAmong}
+use Rattle.journal_order.specs.Starts.{startsFrom, startsIn}
+use Rattle.journal_order.specs.Keys.{keyAt}
+use Rattle.journal_order.specs.Sorted.{having, lastIn, lastHaving, placeMeaning}
+use Rattle.journal_order.specs.declared.keys.Key.the-variants as K
+use Rattle.journal_order.specs.declared.halving.Place.{Place}
+use Rattle.journal_order.specs.declared.halving.Place.the-variants as P
+use Rattle.journal_order.proofs.Having.{last-where}
+use Rattle.merging.specs.Records.{ByBytes}
 
--- ---- where a day's records start
+-- ---- there is one
 
-pub record Skipping (b : List ℕ) (day at : ℕ) : Type 0 where
-  pub left : List Record
-  pub cursor : Cursor b at left
-  pub same : from day left ≡ from day (recordsIn b)
+unfoldable isThere : Option ℕ → Bool
+isThere none = false
+isThere (some p) = true
 
-pub skipping-start : (b : List ℕ) (since day : ℕ) → FromDay b since day → Skipping b day since
-skipping-start b since day f = record {
-  left = from (f .day) (recordsIn b);
-  cursor = f .cursor;
-  same = from-later (f .day) day (recordsIn b) (f .below);
-}
+-- the same bytes, or none
+there-or : (o : Order) (p : ℕ) (x : Option ℕ) (t : Bool) → (o ≡ equal → t ≡ true) → ((o ≡ equal → ⊥) → t ≡ false)
+    → t || isThere x ≡ isThere (orElse x (whereEqual o p))
+unfolding orElse whereEqual isThere
+there-or lower p none t f g = rw (g (λ e. let z : _≡_ {A = ℕ} 0 1 = cc in omega arith)) refl
+there-or lower p (some q) t f g = rw (g (λ e. let z : _≡_ {A = ℕ} 0 1 = cc in omega arith)) refl
+there-or equal p none t f g = rw (f refl) refl
+there-or equal p (some q) t f g = rw (f refl) refl
+there-or higher p none t f g = rw (g (λ e. let z : _≡_ {A = ℕ} 0 1 = cc in omega arith)) refl
+there-or higher p (some q) t f g = rw (g (λ e. let z : _≡_ {A = ℕ} 0 1 = cc in omega arith)) refl
 
-module _ (b : List ℕ) (day at : ℕ) (s : Skipping b day at) where
-  pub skipping-stops : at < length b → day ≤ dayAt b at → Cursor b at (from day (recordsIn b))
-  skipping-stops h k = go (s .left) (s .cursor) (s .same)
-    where
-      go : (left : List Record) → Cursor b at left → from day left ≡ from day (recordsIn b) → Cursor b at (from day (recordsIn b))
-      go [] c e = absurd (cursor-some b at c h)
-      go (x ∷ xs) c e = subst (Cursor b at) (sym (from-there day x xs (omega (arith, cursor-read b at x xs c .day))) ∙ e) c
+same-if : (a bytes : List ℕ) → orderOf bytes a ≡ equal → sameBytes a bytes ≡ true
+same-if a bytes e = subst (λ (l : List ℕ). sameBytes a l ≡ true) (sym (order-equal bytes a e)) (equal-same a)
 
-  pub skipping-goes : at < length b → dayAt b at < day → Skipping b day (at + sizeAt b at)
-  skipping-goes h k = go (s .left) (s .cursor) (s .same)
-    where
-      go : (left : List Record) → Cursor b at left → from day left ≡ from day (recordsIn b) → Skipping b day (at + sizeAt b at)
-      go [] c e = absurd (cursor-some b at c h)
-      go (x ∷ xs) c e =
-          let r = cursor-read b at x xs c in
-          record {
-            left = xs;
-            cursor = rw (r .size) (cursor-next b at x xs c);
-            same = sym (from-earlier day x xs (omega (arith, r .day))) ∙ e;
-          }
+same-not : (a bytes : List ℕ) → (orderOf bytes a ≡ equal → ⊥) → sameBytes a bytes ≡ false
+same-not a bytes d =
+    by-test (sameBytes a bytes)
+    (λ t. absurd (d (subst (λ (l : List ℕ). orderOf bytes l ≡ equal) (sym (same-equal a bytes t)) (order-self bytes))))
+    (λ f. f)
 
-  pub skipping-ends : length b ≤ at → Cursor b at (from day (recordsIn b))
-  unfolding from
-  skipping-ends h =
-      let none : s .left ≡ [] = cursor-none b at (s .left) (s .cursor) h in
-      let e : [] ≡ from day (recordsIn b) = ap (from day) (sym none) ∙ s .same in
-      subst (Cursor b at) (none ∙ e) (s .cursor)
+-- ---- among the records from a place on
 
--- ---- whether one of them has some bytes
+module _ (b bytes : List ℕ) where
+  abbrev key : ℕ → List ℕ
+  key = keyAt K.Record b
 
-pub record Searching (b bytes : List ℕ) (day at : ℕ) : Type 0 where
-  pub left : List Record
-  pub cursor : Cursor b at left
-  pub same : isAmong (ofDay day (recordsIn b)) bytes ≡ isAmong (before (suc day) left) bytes
+  key-bytes : (at : ℕ) (r : Record) (rs : List Record) → Cursor b at (r ∷ rs) → key at ≡ recordBytes r
+  unfolding keyAt
+  key-bytes at r rs c = ap (λ (n : ℕ). take n (drop at b)) (front-size b at r rs c) ∙ cursor-part b at r rs c
 
-pub searching-start : (b bytes : List ℕ) (day at : ℕ) → Cursor b at (from day (recordsIn b)) → Searching b bytes day at
-unfolding ofDay
-searching-start b bytes day at c = record { left = from day (recordsIn b); cursor = c; same = refl }
+  among-from : (at : ℕ) (rs : List Record) → Cursor b at rs → isAmong rs bytes ≡ isThere (lastHaving key bytes (startsFrom at rs))
+  unfolding isAmong startsFrom lastHaving having lastIn isThere
+  among-from at [] c = refl
+  among-from at (r ∷ rs) c =
+      let rest : List ℕ = having key bytes (startsFrom (at + length (recordBytes r)) rs) in
+      let o : Order = orderOf bytes (key at) in
+      ap (λ (t : Bool). sameBytes (recordBytes r) bytes || t) (among-from (at + length (recordBytes r)) rs (cursor-next b at r rs c))
+      ∙ ap (λ (l : List ℕ). sameBytes l bytes || isThere (lastIn rest)) (sym (key-bytes at r rs c))
+      ∙ there-or o at (lastIn rest) (sameBytes (key at) bytes) (same-if (key at) bytes) (same-not (key at) bytes)
+      ∙ ap isThere (sym (last-where o at rest))
 
--- what a turn comes to: a later record ends the day, else by whether the record's part is the bytes
-pub record Turn (b bytes : List ℕ) (day at : ℕ) : Type 0 where
-  pub later : day < dayAt b at → isAmong (ofDay day (recordsIn b)) bytes ≡ false
-  pub found : dayAt b at ≤ day → sameBytes (take (sizeAt b at) (drop at b)) bytes ≡ true → isAmong (ofDay day (recordsIn b)) bytes ≡ true
-  pub next : dayAt b at ≤ day → sameBytes (take (sizeAt b at) (drop at b)) bytes ≡ false → Searching b bytes day (at + sizeAt b at)
+  module _ (places : List ℕ) (w : ByBytes b places) where
+    found-is : (found : Place) → placeMeaning found ≡ lastHaving key bytes places → isThere (placeMeaning found) ≡ isAmong (recordsIn b) bytes
+    unfolding startsIn
+    found-is found e =
+        ap isThere (e ∙ w .latest .last bytes) ∙ sym (among-from 0 (recordsIn b) (w .whole .cursor))
 
-module _ (b bytes : List ℕ) (day at : ℕ) (s : Searching b bytes day at) where
-  pub turn : at < length b → Turn b bytes day at
-  unfolding isAmong
-  turn h = go (s .left) (s .cursor) (s .same)
-    where
-      go : (left : List Record) → Cursor b at left → isAmong (ofDay day (recordsIn b)) bytes ≡ isAmong (before (suc day) left) bytes → Turn b bytes day at
-      go [] c e = absurd (cursor-some b at c h)
-      go (x ∷ xs) c e =
-          let r = cursor-read b at x xs c in
-          let part : sameBytes (take (sizeAt b at) (drop at b)) bytes ≡ sameBytes (recordBytes x) bytes =
-          rw (r .size, cursor-part b at x xs c) refl in
-          record {
-            later = λ k. e ∙ rw (upto-later day x xs (omega (arith, r .day))) refl;
-            found = λ k q. e ∙ rw (upto-there day x xs (omega (arith, r .day))) (rw (sym part ∙ q) refl);
-            next = λ k q. record {
-              left = xs;
-              cursor = rw (r .size) (cursor-next b at x xs c);
-              same = e ∙ rw (upto-there day x xs (omega (arith, r .day))) (rw (sym part ∙ q) refl);
-            };
-          }
+    pub found-there : (found : Place) (p : ℕ) → placeMeaning found ≡ lastHaving key bytes places → found ≡ P.At p → true ≡ isAmong (recordsIn b) bytes
+    unfolding placeMeaning isThere
+    found-there found p e f = ap (λ (x : Place). isThere (placeMeaning x)) (sym f) ∙ found-is found e
 
-  pub searched : length b ≤ at → isAmong (ofDay day (recordsIn b)) bytes ≡ false
-  unfolding before isAmong
-  searched h = s .same ∙ rw (cursor-none b at (s .left) (s .cursor) h) refl
+    pub found-absent : (found : Place) → placeMeaning found ≡ lastHaving key bytes places → found ≡ P.Absent → false ≡ isAmong (recordsIn b) bytes
+    unfolding placeMeaning isThere
+    found-absent found e f = ap (λ (x : Place). isThere (placeMeaning x)) (sym f) ∙ found-is found e

@@ -13,12 +13,11 @@ use Rattle.journal_spec.proofs.Reading.{by-order}
 use Rattle.journal_spec.proofs.Cursor.{Cursor, cursor-none, cursor-some, cursor-part, cursor-next, cursor-read}
 use Rattle.journal_spec.proofs.Whole.{WholeBytes}
 use Rattle.journal.specs.Numbers.{numberIn}
-use Rattle.merge_spec.specs.Records.{isAmong, isTwin, from, mergedOf}
+use Rattle.merge_spec.specs.Records.{isAmong, isTwin, mergedOf}
 use Rattle.merge_spec.proofs.ByDay.{HeadFrom, DaysFrom}
 use Rattle.merge_spec.proofs.Following.{follow-days}
-use Rattle.merge_spec.proofs.SameDay.{ofDay, from-all, among-day}
 use Rattle.merge_spec.proofs.MergeLoop.{HeadAfter, coming, coming-none, turn-first, turn-dropped, turn-second}
-use Rattle.merging.specs.Records.{Rest, AtRecord, FromDay, sourceOf}
+use Rattle.merging.specs.Records.{Rest, AtRecord, sourceOf}
 use Rattle.merging.specs.Passes.{firstNext, Reached, Somewhere, Took, Passed}
 use Rattle.merging.specs.declared.stepping.Places.{Places}
 use Rattle.merging.proofs.Reading.{at-record, form-read}
@@ -29,7 +28,7 @@ unfolding lastOf
 whole-days b w = follow-days [] (recordsIn b) (w .follow)
 
 -- a pass starts with nothing made
-pub start : (a b : List ℕ) → WholeBytes a → WholeBytes b → Reached a b (record { first = 0; second = 0; since = 0 }) []
+pub start : (a b : List ℕ) → WholeBytes a → WholeBytes b → Reached a b (record { first = 0; second = 0 }) []
 unfolding mergedOf
 start a b w v = record {
   xs = recordsIn a;
@@ -38,7 +37,6 @@ start a b w v = record {
   second = v .cursor;
   parts = refl;
   day = 0;
-  since = rw from-all (w .cursor);
   days = whole-days b v;
 }
 
@@ -145,7 +143,7 @@ module _ (a b : List ℕ) (p : Places) (made : List Record) (w : WholeBytes a) (
     -- the first journal's record
     pub stepped-first : firstNext a b (p .first) (p .second) ≡ true → size ≡ sizeAt a (p .first)
         → Took a b p made (record { first = true; start = p .first; size = size })
-        (record { first = p .first + size; second = p .second; since = p .since })
+        (record { first = p .first + size; second = p .second })
     unfolding sourceOf
     stepped-first h e =
         let f = is-first a b (p .first) (p .second) (m .xs) (m .ys) (m .first) (m .second) h in
@@ -169,29 +167,20 @@ module _ (a b : List ℕ) (p : Places) (made : List Record) (w : WholeBytes a) (
                 (turn-first (recordsIn a) (m .day) (f .x) (f .rest) (m .ys) (f .head) (m .days))
                 ∙ sym (append-snoc made (f .x) _);
             day = m .day;
-            since = m .since;
             days = m .days;
           };
         }
 
-    -- the second's, of the day d
-    module _ (h : firstNext a b (p .first) (p .second) ≡ false) (k : p .second < length b) (e : size ≡ sizeAt b (p .second))
-        (d : ℕ) (read : d ≡ dayAt b (p .second)) where
+    -- the second's
+    module _ (h : firstNext a b (p .first) (p .second) ≡ false) (k : p .second < length b) (e : size ≡ sizeAt b (p .second)) where
       next : IsSecond (m .xs) (m .ys)
       next = is-second a b (p .first) (p .second) (m .xs) (m .ys) (m .first) (m .second) h k
 
       cursor : Cursor b (p .second) (next .y ∷ next .rest)
       cursor = rw (next .is) at (m .second)
 
-      day : d ≡ next .y .day
-      day = read ∙ cursor-read b (p .second) (next .y) (next .rest) cursor .day
-
       days : DaysFrom (m .day) (next .y ∷ next .rest)
       days = rw (next .is) at (m .days)
-
-      -- where the search for it starts
-      pub from-day : FromDay a (p .since) d
-      from-day = record { day = m .day; below = omega (arith, days .0, day); cursor = m .since }
 
       -- its bytes
       abbrev part : List ℕ
@@ -202,51 +191,45 @@ module _ (a b : List ℕ) (p : Places) (made : List Record) (w : WholeBytes a) (
           let n : p .second + size - p .second ≡ size = omega arith in
           rw n (part-is b (p .second) size (next .y) (next .rest) cursor e)
 
-      module _ (since : ℕ) (s : Cursor a since (from d (recordsIn a))) where
-        after : (now : List Record) → mergedOf (recordsIn a) (recordsIn b) ≡ now ++ coming (recordsIn a) (m .xs) (next .rest)
-            → Reached a b (record { first = p .first; second = p .second + size; since = since }) now
-        after now parts = record {
-          xs = m .xs;
-          ys = next .rest;
-          first = m .first;
-          second = part-next b (p .second) size (next .y) (next .rest) cursor e;
-          parts = parts;
-          day = next .y .day;
-          since = rw (← day) s;
-          days = days .1;
-        }
+      after : (now : List Record) → mergedOf (recordsIn a) (recordsIn b) ≡ now ++ coming (recordsIn a) (m .xs) (next .rest)
+          → Reached a b (record { first = p .first; second = p .second + size }) now
+      after now parts = record {
+        xs = m .xs;
+        ys = next .rest;
+        first = m .first;
+        second = part-next b (p .second) size (next .y) (next .rest) cursor e;
+        parts = parts;
+        day = next .y .day;
+        days = days .1;
+      }
 
-        -- it is compared with the records of its day
-        twin : (t : Bool) → isAmong (ofDay d (recordsIn a)) part ≡ t → isTwin (recordsIn a) (next .y) ≡ t
-        twin t q =
-            sym (among-day (next .y) (cursor .good .0) (recordsIn a) (w .cursor .good) (whole-days a w)) ∙ rw (← day, ← part-bytes) q
+      twin : (t : Bool) → isAmong (recordsIn a) part ≡ t → isTwin (recordsIn a) (next .y) ≡ t
+      twin t q = rw (← part-bytes) q
 
-        pub stepped-dropped : isAmong (ofDay d (recordsIn a)) part ≡ true
-            → Passed a b p made (record { first = p .first; second = p .second + size; since = since })
-        stepped-dropped q = record {
-          further = omega (arith, part-inside b (p .second) size (next .y) (next .rest) cursor e .1);
-          reached =
-              after made
-              (coming-of (recordsIn a) (m .xs) (m .ys) (m .xs) (next .y ∷ next .rest) made _ _ (m .parts) refl (next .is)
-              (turn-dropped (recordsIn a) (m .xs) (next .y) (next .rest) (twin true q)));
-        }
+      pub stepped-dropped : isAmong (recordsIn a) part ≡ true → Passed a b p made (record { first = p .first; second = p .second + size })
+      stepped-dropped q = record {
+        further = omega (arith, part-inside b (p .second) size (next .y) (next .rest) cursor e .1);
+        reached =
+            after made
+            (coming-of (recordsIn a) (m .xs) (m .ys) (m .xs) (next .y ∷ next .rest) made _ _ (m .parts) refl (next .is)
+            (turn-dropped (recordsIn a) (m .xs) (next .y) (next .rest) (twin true q)));
+      }
 
-        pub stepped-second : isAmong (ofDay d (recordsIn a)) part ≡ false
-            → Took a b p made (record { first = false; start = p .second; size = size })
-            (record { first = p .first; second = p .second + size; since = since })
-        unfolding sourceOf
-        stepped-second q =
-            let i = part-inside b (p .second) size (next .y) (next .rest) cursor e in
-            record {
-              taken = next .y;
-              positive = i .1;
-              inside = i .0;
-              short = omega (arith, i .0, v .short);
-              bytes = part-is b (p .second) size (next .y) (next .rest) cursor e;
-              form = part-form b (p .second) size (next .y) (next .rest) cursor e (v .short);
-              sum = omega arith;
-              reached = after (made ++ next .y ∷ [])
-                  (coming-of (recordsIn a) (m .xs) (m .ys) (m .xs) (next .y ∷ next .rest) made _ _ (m .parts) refl (next .is)
-                  (turn-second (recordsIn a) (m .xs) (next .y) (next .rest) (twin false q) (next .head))
-                  ∙ sym (append-snoc made (next .y) _));
-            }
+      pub stepped-second : isAmong (recordsIn a) part ≡ false
+          → Took a b p made (record { first = false; start = p .second; size = size }) (record { first = p .first; second = p .second + size })
+      unfolding sourceOf
+      stepped-second q =
+          let i = part-inside b (p .second) size (next .y) (next .rest) cursor e in
+          record {
+            taken = next .y;
+            positive = i .1;
+            inside = i .0;
+            short = omega (arith, i .0, v .short);
+            bytes = part-is b (p .second) size (next .y) (next .rest) cursor e;
+            form = part-form b (p .second) size (next .y) (next .rest) cursor e (v .short);
+            sum = omega arith;
+            reached = after (made ++ next .y ∷ [])
+                (coming-of (recordsIn a) (m .xs) (m .ys) (m .xs) (next .y ∷ next .rest) made _ _ (m .parts) refl (next .is)
+                (turn-second (recordsIn a) (m .xs) (next .y) (next .rest) (twin false q) (next .head))
+                ∙ sym (append-snoc made (next .y) _));
+          }

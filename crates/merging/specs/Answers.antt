@@ -5,7 +5,7 @@ use mathlib.Core.Bool.{Bool, true, false, cond}
 use mathlib.Core.List.{List}
 use Rattle.journal.specs.declared.Status.{Status}
 use Rattle.journal.specs.declared.Status.the-variants as J
-use Rattle.merge_spec.specs.Merge.{Whose, ofFirst, ofSecond, MergeResult, merged, damaged, endsTorn, falls, noRoom, MergeOutcome}
+use Rattle.merge_spec.specs.Merge.{Whose, ofFirst, ofSecond, MergeResult, merged, damaged, endsTorn, falls, noRoom, numberOf, MergeOutcome}
 use Rattle.merging.specs.declared.Whose as W
 use Rattle.merging.specs.declared.Whose.the-variants as WV
 use Rattle.merging.specs.declared.Merged as M
@@ -23,6 +23,10 @@ answerOf (MV.Damaged w f) = damaged (whoseOf w) (f .number) (f .place)
 answerOf (MV.Torn w) = endsTorn (whoseOf w)
 answerOf (MV.Falls p) = falls p
 answerOf MV.NoRoom = noRoom
+
+-- the papers' number of each, 0 for the result's length
+unfoldable pub numberSaid : M.Merged → ℕ
+numberSaid r = numberOf (answerOf r)
 
 -- with the third buffer after the call
 unfoldable pub outcomeOf : M.Merged → List ℕ → MergeOutcome

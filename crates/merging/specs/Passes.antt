@@ -14,7 +14,7 @@ use Rattle.journal_spec.specs.Cursor.{dayAt, recordsIn}
 use Rattle.journal_spec.proofs.Cursor.{Cursor}
 use Rattle.journal_spec.proofs.Whole.{WholeBytes}
 use Rattle.journal.specs.Numbers.{numberIn}
-use Rattle.merge_spec.specs.Records.{undropped, from, byDay, mergedOf, fallFrom}
+use Rattle.merge_spec.specs.Records.{undropped, byDay, mergedOf, fallFrom}
 use Rattle.merge_spec.specs.Merge.{MergeOutcome, fallOf, roomOf, firstRefusal, settleMerge}
 use Rattle.merge_spec.proofs.ByDay.{DaysFrom}
 use Rattle.merging.specs.Records.{sourceOf}
@@ -31,7 +31,7 @@ firstNext a b i j = cond (leb (length a) i) false (cond (leb (length b) j) true 
 
 -- ---- where a pass stands
 
--- the records `made` are made, xs are left of the first journal and ys of the second; and where the search for a record of ys starts
+-- the records `made` are made, xs are left of the first journal and ys of the second, whose days do not fall
 pub record Reached (a b : List ℕ) (p : Places) (made : List Record) : Type 0 where
   pub xs : List Record
   pub ys : List Record
@@ -39,7 +39,6 @@ pub record Reached (a b : List ℕ) (p : Places) (made : List Record) : Type 0 w
   pub second : Cursor b (p .second) ys
   pub parts : mergedOf (recordsIn a) (recordsIn b) ≡ made ++ byDay xs (undropped (recordsIn a) ys)
   pub day : ℕ
-  pub since : Cursor a (p .since) (from day (recordsIn a))
   pub days : DaysFrom day ys
 
 -- with some records made

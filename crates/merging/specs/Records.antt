@@ -6,9 +6,12 @@ use mathlib.Core.Bool.{cond}
 use lib.ListN.{length}
 use Rattle.journal_spec.specs.Record.{Record}
 use Rattle.journal_spec.specs.Scan.{maxLength}
-use Rattle.journal_spec.specs.Cursor.{recordsIn}
 use Rattle.journal_spec.proofs.Cursor.{Cursor}
-use Rattle.merge_spec.specs.Records.{from}
+use Rattle.journal_spec.proofs.Whole.{WholeBytes}
+use Rattle.journal_order.specs.Starts.{startsIn}
+use Rattle.journal_order.specs.Keys.{keyAt}
+use Rattle.journal_order.specs.Sorted.{LatestOf}
+use Rattle.journal_order.specs.declared.keys.Key.the-variants as K
 use Rattle.merging.specs.declared.parts.Part.{Part}
 
 -- records stand from the place `at` on, to the end of the bytes
@@ -24,11 +27,10 @@ pub record AtRecord (b : List ℕ) (at : ℕ) : Type 0 where
   pub cursor : Cursor b at (first ∷ others)
   pub short : length b ≤ maxLength
 
--- all records from some day on that is not behind the day d
-pub record FromDay (b : List ℕ) (at d : ℕ) : Type 0 where
-  pub day : ℕ
-  pub below : day ≤ d
-  pub cursor : Cursor b at (from day (recordsIn b))
+-- the places of a whole journal's records, sorted by their bytes, one for each that differs
+pub record ByBytes (b places : List ℕ) : Type 0 where
+  pub whole : WholeBytes b
+  pub latest : LatestOf (keyAt K.Record b) (startsIn b) places
 
 -- the journal in which a part stands
 unfoldable pub sourceOf : List ℕ → List ℕ → Part → List ℕ

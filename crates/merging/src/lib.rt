@@ -1,11 +1,13 @@
 // The merge of two journals into a third buffer (request 2026-09), with two passes over both: the first finds the result's length and where
-// forms fall in it, the second copies the records. Nothing is assumed of the slices, the lengths or the buffer, and no memory is needed.
+// forms fall in it, the second copies the records. The first
+// journal's records are sorted by their bytes before. Nothing is assumed of the slices, the lengths or the buffer.
 ghost use mathlib.Core.Path.{_≡_};
 ghost use Rattle.journal_spec.specs.Cursor.{recordsIn};
 ghost use Rattle.journal_spec.proofs.Whole.{WholeBytes};
 ghost use Rattle.merge_spec.specs.Records.{mergedOf};
 ghost use Rattle.merge_spec.specs.Merge.{mergeOf};
 ghost use Rattle.merging.specs.Answers.{outcomeOf};
+ghost use Rattle.merging.specs.Records.{ByBytes};
 ghost use Rattle.merging.specs.Passes.{wholeOutcome};
 use crate::copying::copy;
 use crate::inputs::Inputs;
@@ -14,6 +16,9 @@ use crate::measuring::Measured;
 use crate::measuring::measure;
 use journal::Fault;
 use journal::scan;
+use journal_order::Key;
+use journal_order::MOST;
+use journal_order::latest_of;
 
 mod copying;
 mod inputs;
@@ -60,7 +65,18 @@ fn merge_whole(a: &[u8], b: &[u8], out: &mut [u8]) -> Merged
     ensures { λ r. ⌜ outcomeOf r (now (out .exit))
         ≡ wholeOutcome (mergedOf (recordsIn (now (a .entry))) (recordsIn (now (b .entry)))) (now (out .entry)) ⌝ }
 {
-    let m = measure(a, b);
+    let mut places: [u16; MOST] = [0; MOST];
+    let count = latest_of(a, Key::Record, &mut places);
+    merge_sorted(a, b, &places[..count], out)
+}
+
+// The same, with the places of the first journal's records by their bytes.
+fn merge_sorted(a: &[u8], b: &[u8], sorted: &[u16], out: &mut [u8]) -> Merged
+    requires { ⌜ WholeBytes (now a) × WholeBytes (now b) × ByBytes (now a) (now sorted) ⌝ }
+    ensures { λ r. ⌜ outcomeOf r (now (out .exit))
+        ≡ wholeOutcome (mergedOf (recordsIn (now (a .entry))) (recordsIn (now (b .entry)))) (now (out .entry)) ⌝ }
+{
+    let m = measure(a, b, sorted);
     match m {
         Measured::Length(n) => {
             if out.len() < n {
@@ -69,7 +85,7 @@ fn merge_whole(a: &[u8], b: &[u8], out: &mut [u8]) -> Merged
             if MAX_LENGTH < n {
                 return Merged::NoRoom;
             }
-            copy(a, b, out);
+            copy(a, b, sorted, out);
             Merged::Length(n)
         }
         Measured::Falls(p) => Merged::Falls(p),

@@ -4,6 +4,7 @@ ghost use mathlib.Core.Path.{_≡_};
 ghost use Rattle.journal_spec.specs.Cursor.{recordsIn};
 ghost use Rattle.journal_spec.proofs.Whole.{WholeBytes};
 ghost use Rattle.merge_spec.specs.Records.{mergedOf};
+ghost use Rattle.merging.specs.Records.{ByBytes};
 ghost use Rattle.merging.specs.Passes.{measuredOf};
 use crate::parts::form_of;
 use crate::stepping::Places;
@@ -15,19 +16,18 @@ pub(crate) enum Measured {
     Falls(usize),
 }
 
-pub(crate) fn measure(a: &[u8], b: &[u8]) -> Measured
-    requires { ⌜ WholeBytes (now a) × WholeBytes (now b) ⌝ }
+pub(crate) fn measure(a: &[u8], b: &[u8], sorted: &[u16]) -> Measured
+    requires { ⌜ WholeBytes (now a) × WholeBytes (now b) × ByBytes (now a) (now sorted) ⌝ }
     ensures { λ r. ⌜ r ≡ measuredOf (mergedOf (recordsIn (now (a .entry))) (recordsIn (now (b .entry)))) ⌝ }
 {
     let mut p = Places {
         first: 0,
         second: 0,
-        since: 0,
     };
     let mut n: usize = 0;
     let mut form: u64 = 0;
     loop {
-        let s = next_step(a, b, p);
+        let s = next_step(a, b, sorted, p);
         match s {
             Step::Take { part, after } => {
                 let size = part.size;

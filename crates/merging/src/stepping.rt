@@ -6,20 +6,17 @@ ghost use mathlib.Core.List.{List};
 ghost use Prim.Native.Nat.{_<_};
 ghost use lib.ListN.{length};
 ghost use Rattle.journal_spec.specs.Record.{Record};
-ghost use Rattle.merging.specs.Records.{Rest};
+ghost use Rattle.merging.specs.Records.{Rest, ByBytes};
 ghost use Rattle.merging.specs.Passes.{firstNext, Reached, Somewhere, Stepped};
 use crate::parts::Part;
 use crate::parts::day_at;
 use crate::parts::size_at;
-use crate::searching::day_start;
 use crate::searching::is_among;
 
-// Where a pass stands: the places of the next records of both journals; and a place in the first, not behind the records of the day of
-// the second's next.
+// Where a pass stands: the places of the next records of both journals.
 pub(crate) struct Places {
     pub(crate) first: usize,
     pub(crate) second: usize,
-    pub(crate) since: usize,
 }
 
 // The next record of the result and the places behind it; or the places behind a dropped record.
@@ -29,9 +26,9 @@ pub(crate) enum Step {
     Done,
 }
 
-// The next step from some places on.
-pub(crate) fn next_step(a: &[u8], b: &[u8], p: Places) -> Step
-    requires { ⌜ Somewhere (now a) (now b) p ⌝ }
+// The next step from some places on, where `sorted` has those of the first journal's records by their bytes.
+pub(crate) fn next_step(a: &[u8], b: &[u8], sorted: &[u16], p: Places) -> Step
+    requires { ⌜ Somewhere (now a) (now b) p × ByBytes (now a) (now sorted) ⌝ }
     ensures { λ r. ⌜ ((made : List Record) → Reached (now (a .entry)) (now (b .entry)) p made
         → Stepped (now (a .entry)) (now (b .entry)) p made r) ⌝ }
 {
@@ -41,7 +38,7 @@ pub(crate) fn next_step(a: &[u8], b: &[u8], p: Places) -> Step
         return first_step(a, b, p);
     }
     if j < b.len() {
-        return second_step(a, b, p);
+        return second_step(a, b, sorted, p);
     }
     Step::Done
 }
@@ -68,7 +65,6 @@ fn first_step(a: &[u8], b: &[u8], p: Places) -> Step
 {
     let first = p.first;
     let second = p.second;
-    let since = p.since;
     let size = size_at(a, first);
     let end = first + size;
     Step::Take {
@@ -77,33 +73,23 @@ fn first_step(a: &[u8], b: &[u8], p: Places) -> Step
             start: first,
             size,
         },
-        after: Places {
-            first: end,
-            second,
-            since,
-        },
+        after: Places { first: end, second },
     }
 }
 
 // The step that takes the second's, or drops it.
-fn second_step(a: &[u8], b: &[u8], p: Places) -> Step
-    requires { ⌜ Somewhere (now a) (now b) p × (firstNext (now a) (now b) (p .first) (p .second) ≡ false) × (p .second < length (now b)) ⌝ }
+fn second_step(a: &[u8], b: &[u8], sorted: &[u16], p: Places) -> Step
+    requires { ⌜ Somewhere (now a) (now b) p × (firstNext (now a) (now b) (p .first) (p .second) ≡ false) × (p .second < length (now b))
+        × ByBytes (now a) (now sorted) ⌝ }
     ensures { λ r. ⌜ ((made : List Record) → Reached (now (a .entry)) (now (b .entry)) p made
         → Stepped (now (a .entry)) (now (b .entry)) p made r) ⌝ }
 {
     let first = p.first;
     let second = p.second;
-    let from = p.since;
     let size = size_at(b, second);
     let end = second + size;
-    let day = day_at(b, second);
-    let since = day_start(a, from, day);
-    let after = Places {
-        first,
-        second: end,
-        since,
-    };
-    if is_among(a, since, day, &b[second..end]) {
+    let after = Places { first, second: end };
+    if is_among(a, sorted, &b[second..end]) {
         return Step::Drop(after);
     }
     Step::Take {

@@ -5,16 +5,16 @@ use lib.Ieee.{binary64, fits, ofBits, toBits, sub, lt, le, eq}
 use Rattle.pxfm.specs.Argument.{tenth}
 use Rattle.mirror.specs.Mirror.{flipSign, mirrorOf, mirrorBits, lastMirrored, Mirrored}
 
--- 1.5; the double after 1.9, for which 2 - x is below 0.1; and 2 - x at the last x
+-- 1.5; the double after 1.9, for which 2 - x is below 0.1; and 2 - x at the last x, 2 ^ -52
 mirrored-case : Mirrored (ofBits binary64 0x3ff8000000000000)
-unfolding ofBits fits lt le eq sub
-mirrored-case = record { double = refl; above-one = refl; below-two = refl; from-tenth = refl }
+unfolding ofBits fits lt
+mirrored-case = record { double = refl; above-one = refl; below-two = refl }
 
 mirror-below-tenth : le tenth (mirrorOf (ofBits binary64 0x3ffe666666666667)) ≡ false
 unfolding ofBits lt le eq sub
 mirror-below-tenth = refl
 
-mirror-last : mirrorBits lastMirrored ≡ 0x3fb99999999999a0
+mirror-last : mirrorBits lastMirrored ≡ 0x3cb0000000000000
 unfolding ofBits toBits sub
 mirror-last = refl
 

@@ -2,6 +2,10 @@
 -- patterns in `Patterns`: `mirror-patterns`.
 pub mod Finer
 pub mod Sign
+pub mod Back
+pub mod Cuts
+pub mod Roots
+pub mod Logs
 pub mod Sides
 pub mod Mirror
 pub mod Patterns

@@ -1,24 +1,21 @@
--- The mirror of bit patterns: those from the one after 1's to that of 1.9 are the x of `Mirrored`. Assumes nothing.
+-- The mirror of bit patterns: those from the one after 1's to the one before 2's are the x of `Mirrored`. Assumes nothing.
 use mathlib.Core.Path.{_≡_, refl, sym, ap, _∙_, subst}
 use mathlib.Core.Bool.{false}
-use Prim.Native.Nat.{ℕ, _+_, _-_, _*_, _/_, _%_, _^_, _≤_, _<_}
+use Prim.Native.Nat.{ℕ, _+_, _-_, _*_, _/_, _%_, _^_, _≤_}
 use native.Mathlib.Omega.{arith}
 use lib.Dec.{T}
-use lib.Ieee.{Float, binary64, fits, ofBits, toBits, neg, sub, lt, le}
+use lib.Ieee.{Float, binary64, fits, ofBits, toBits, neg, sub, lt}
 use lib.Ieee.Bits.{is-true, ofBits-fits, ofBits-toBits}
 use lib.Ieee.Exact.{HasValue}
 use lib.Ieee.Fits.{add-fits}
 use Rattle.sqrt.proofs.Scaling.{pattern-mid}
 use Rattle.pxfm.specs.DoubleDouble.{one, two}
-use Rattle.pxfm.specs.Argument.{tenth}
 use Rattle.pxfm.specs.Inverfc.{fErfcinv, fErfcinvBits}
 use Rattle.pxfm.proofs.Value.{Val}
 use Rattle.pxfm.proofs.Units.{val-of-units}
-use Rattle.pxfm.proofs.Order.{lt-of-val, le-of-val}
-use Rattle.pxfm.proofs.Ranges.{one-val, two-val, tenth-val}
-use Rattle.pxfm.proofs.Complement.{two-less}
+use Rattle.pxfm.proofs.Order.{lt-of-val}
+use Rattle.pxfm.proofs.Ranges.{one-val, two-val}
 use Rattle.mirror.specs.Mirror.{flipSign, mirrorOf, Mirrored, firstMirrored, lastMirrored, mirrorBits}
-use Rattle.mirror.proofs.Finer.{val-finer}
 use Rattle.mirror.proofs.Mirror.{mirror}
 
 module _ (b : ℕ) (from : firstMirrored ≤ b) (to : b ≤ lastMirrored) where
@@ -42,12 +39,10 @@ module _ (b : ℕ) (from : firstMirrored ≤ b) (to : b ≤ lastMirrored) where
 
   pub pattern-mirrored : Mirrored x
   pattern-mirrored =
-      let y = val-finer 3 1018 (two-less units (omega arith) (omega arith)) in
       record {
         double = is-true (fits binary64 x) (ofBits-fits binary64 b);
         above-one = is-true (lt one x) (lt-of-val (one-val 53 1021 refl) units (omega arith));
         below-two = is-true (lt x two) (lt-of-val units (two-val 54 1021 refl) (omega arith));
-        from-tenth = is-true (le tenth (mirrorOf x)) (le-of-val (tenth-val 0 1018 refl) y (omega arith));
       }
 
   mirror-fits : T (fits binary64 (mirrorOf x))

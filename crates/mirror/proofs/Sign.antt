@@ -1,41 +1,27 @@
 -- A product with 1 is the double itself, a product with -1 the double with the other sign, of every double; and the other sign is
 -- the sign bit flipped, of every double but a NaN. Assumes nothing.
-use mathlib.Core.Path.{_≡_, refl, sym, ap, _∙_, subst}
+use mathlib.Core.Path.{_≡_, refl}
 use mathlib.Core.Bool.{Bool, true, false, true≢false}
-use Prim.Native.Nat.{ℕ, zero, suc, _+_, _*_, _%_, _^_, _<_}
+use Prim.Native.Nat.{ℕ, _+_, _*_, _%_, _^_, _<_}
 use native.Mathlib.Nat.{mul-one}
 use native.Mathlib.Omega.{arith}
 use lib.Dec.{T}
 use lib.IntN.{ℤ}
 use lib.Ieee.{Float, nan, inf, fin, binary64, up, down, fits, ofBits, toBits, isNan, round, mul, neg}
 use lib.Ieee.Bits.{toBits-lt}
-use lib.Ieee.Exact.{HasValue, round-exact}
-use lib.Ieee.Fits.{down-pos, round-fits}
-use Rattle.sqrt.proofs.Counted.{counted}
+use lib.Ieee.Fits.{down-pos}
 use Rattle.pxfm.specs.DoubleDouble.{one}
-use Rattle.pxfm.proofs.Exact.{value-same}
-use Rattle.sqrt.proofs.Patterns.{value-unique}
+use Rattle.exact.proofs.Own.{fits-sign, round-own}
 use Rattle.mirror.specs.Mirror.{flipSign}
-
-fits-sign : (s t : Bool) (m : ℕ) (e : ℤ) → T (fits binary64 (fin s m e)) → T (fits binary64 (fin t m e))
-unfolding fits
-fits-sign s t zero e f = f
-fits-sign s t (suc m) e f = f
 
 -- ---- products with 1 and -1
 
--- A double is what its own fraction rounds to.
 round-itself : (t : Bool) (m : ℕ) (e : ℤ) → T (fits binary64 (fin t m e)) → round binary64 t (m * up e * (1 * 1)) (down e * 1) ≡ fin t m e
 round-itself t m e f =
-    let c = counted binary64 (fin false m e) (fits-sign t false m e f) tt in
-    let own : HasValue (fin t m e) t (c .u) (2 ^ 1074) = (refl, c .value) in
-    let D : 0 < down e * 1 = rw mul-one (down-pos e) in
-    let cross : m * up e * (1 * 1) * 2 ^ 1074 ≡ c .u * (down e * 1) =
-    ap (λ (z : ℕ). z * 2 ^ 1074) (mul-one (m * up e)) ∙ c .value ∙ ap (λ (z : ℕ). c .u * z) (sym (mul-one (down e))) in
-    let r = round-exact binary64 t (m * up e * (1 * 1)) (down e * 1) (c .m) (c .j) D (c .short)
-    (subst (λ (z : ℕ). z < 2 ^ 2098) (c .is) (c .below)) (cross ∙ ap (λ (z : ℕ). z * (down e * 1)) (c .is)) in
-    value-unique binary64 (round binary64 t (m * up e * (1 * 1)) (down e * 1)) (fin t m e) t (c .u) (round-fits binary64 t (m * up e * (1 * 1)) (down e * 1)) f
-    (value-same (round binary64 t (m * up e * (1 * 1)) (down e * 1)) t (m * up e * (1 * 1)) (down e * 1) (c .u) (2 ^ 1074) D (sym cross) r) own
+    round-own (fin t m e) t (m * up e * (1 * 1)) (down e * 1) (rw mul-one (down-pos e)) f (refl, once (m * up e) (down e))
+  where
+    once : (n d : ℕ) → n * (d * 1) ≡ n * (1 * 1) * d
+    once n d = omega arith
 
 pub mul-one-is : (x : Float) → T (fits binary64 x) → mul binary64 x one ≡ x
 unfolding mul ofBits

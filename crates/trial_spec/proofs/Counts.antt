@@ -1,13 +1,15 @@
--- Every line of the log is counted once: as a link of the one entry with its name, or as unknown. Overs are links. Assumes nothing.
+-- Every line of the log is counted once: as a link of the one entry with its name, or as unknown. Overs are links, each counted
+-- against its own limit. Assumes nothing.
 use mathlib.Core.Path.{_≡_, refl, sym, _∙_}
-use Prim.Native.Nat.{ℕ, zero, suc, _+_, _≤_}
+use Prim.Native.Nat.{ℕ, zero, suc, _+_, _≤_, _<_}
 use mathlib.Core.List.{List, [], _∷_}
-use mathlib.Core.Bool.{Bool, true, false, cond, not, _||_}
+use mathlib.Core.Bool.{Bool, true, false, cond, not, _&&_, _||_}
 use native.Mathlib.Omega.{arith}
 use lib.ListN.{length, getD}
 use lib.Ieee.{Float, binary64, ofBits, lt}
 use Rattle.limit.specs.Formula.{double}
 use Rattle.limit.proofs.InRange as R
+use Rattle.journal_spec.specs.Tests.{same}
 use Rattle.journal_spec.specs.Index.{IndexEntry}
 use Rattle.journal_spec.specs.Indexed.{Before, Rising}
 use Rattle.trial_spec.specs.Tally.{tally}
@@ -56,3 +58,12 @@ unfolding oversOf linksOf
 overs-at-most name [] ls i = omega arith
 overs-at-most name (b ∷ bs) ls zero = tally-mono (isOver name (ofBits binary64 b)) (isNamed name) ls (over-named name (ofBits binary64 b))
 overs-at-most name (b ∷ bs) ls (suc i) = overs-at-most name bs ls i
+
+-- the j-th over is counted against the j-th limit: links of the name whose ticks as a double exceed it
+pub over-at : (name limits : List ℕ) (ls : List Link) (j : ℕ) → j < length limits
+    → getD (oversOf name limits ls) j 0
+    ≡ tally (λ (l : Link). same (l .name) name && lt (ofBits binary64 (getD limits j 0)) (double (l .ticks))) ls
+unfolding oversOf isOver isNamed
+over-at name [] ls j h = absurd (omega arith)
+over-at name (b ∷ bs) ls zero h = refl
+over-at name (b ∷ bs) ls (suc j) h = over-at name bs ls j (omega arith)

@@ -4,11 +4,15 @@ use mathlib.Core.Path.{_≡_, refl, sym, ap, _∙_}
 use mathlib.Core.Logic.{_↔_}
 use Prim.Native.Nat.{ℕ, zero, suc, _+_, _≤_, _<_}
 use mathlib.Core.List.{List, [], _∷_, _++_}
-use mathlib.Core.Bool.{false}
+use mathlib.Core.Bool.{false, _&&_}
 use mathlib.Core.Option.{none, some}
 use native.Mathlib.Omega.{arith}
 use lib.ListN.{length, getD, length-map}
+use lib.Ieee.{binary64, ofBits, toBits, lt}
+use Rattle.limit.specs.Formula.{double}
 use Rattle.journal_spec.specs.Bytes.{AreBytes}
+use Rattle.journal_spec.specs.Tests.{same}
+use Rattle.journal_spec.specs.Model.{workedOut}
 use Rattle.journal_spec.specs.Refusals.{absentRefusal}
 use Rattle.journal_spec.specs.Record.{Record, Last, lastOf}
 use Rattle.journal_spec.specs.Ranges.{RecordRanges, AllRanges}
@@ -25,7 +29,7 @@ use Rattle.trial_spec.specs.Trial.{declined, ready, readyOf, TrialResult
 use Rattle.trial_spec.specs.Trial.{trialAt, entryTrial, tryEntry, UnknownResult, unknown, uncounted, unknownCount, tryUnknown}
 use Rattle.trial_spec.proofs.Lines.{isNewline, links-counted}
 use Rattle.trial_spec.proofs.Names.{noEntry}
-use Rattle.trial_spec.proofs.Counts.{linksSum, links-and-unknown, overs-at-most}
+use Rattle.trial_spec.proofs.Counts.{linksSum, links-and-unknown, overs-at-most, over-at}
 use Rattle.trial_spec.proofs.Overrun.{OverrunAt, FirstOverrun, lowest-first, none-overrun, lowest-least}
 use Rattle.trial_spec.proofs.Standing.{leaf-at, leaf-beyond, entry-stands}
 use Rattle.trial_spec.proofs.Rows.{ready-exactly}
@@ -37,6 +41,19 @@ pub trial-overs : (r : Record) (ls : List Link)
     → (length (trialOf r ls .overs) ≡ length (r .limits)) × ((i : ℕ) → getD (trialOf r ls .overs) i 0 ≤ trialOf r ls .links)
 unfolding trialOf oversOf
 trial-overs r ls = (length-map (r .limits) _, λ i. unfold oversOf in overs-at-most (r .name) (r .limits) ls i)
+
+-- the j-th chance of a record: its limit is the formula's at that chance, and its overs are the links of the name whose ticks exceed that limit
+pub record OverAt (r : Record) (ls : List Link) (j : ℕ) : Type 0 where
+  pub limit : getD (r .limits) j 0 ≡ toBits binary64 (workedOut (r .form) (r .times) (getD (r .chances) j 0))
+  pub over : getD (trialOf r ls .overs) j 0
+      ≡ tally (λ (l : Link). same (l .name) (r .name) && lt (ofBits binary64 (getD (r .limits) j 0)) (double (l .ticks))) ls
+
+pub trial-over-at : (last : Last) (r : Record) (ls : List Link) (j : ℕ) → RecordRanges last r → j < length (r .chances) → OverAt r ls j
+unfolding trialOf
+trial-over-at last r ls j g h = record {
+  limit = g .limits j h;
+  over = over-at (r .name) (r .limits) ls j (omega (arith, g .limitCount));
+}
 
 -- the chance that is reported was overrun, and is the first that was
 pub trial-has : (last : Last) (r : Record) (ls : List Link) (c : ℕ) → RecordRanges last r → trialOf r ls .lowest ≡ chance c
@@ -117,6 +134,10 @@ module _ (log slice : List ℕ) (len : ℕ) (index : List ℕ) (b : AreBytes sli
         answer = rw r (rw (leaf-at (recordsOf ps) (indexOf ps) i h ∙ ap (λ (n : List ℕ). lastNamed n (recordsOf ps)) (sym (s .named ∙ name)) ∙ is)
             (unfold trialAt in refl));
       }
+
+  -- each of its overs is counted against its own limit
+  pub position-over : (i : ℕ) (h : i < length (indexOf ps)) (j : ℕ) → let t = position-tried i h in j < length (t .leaf .chances) → OverAt (t .leaf) ls j
+  position-over i h j k = let t = position-tried i h in trial-over-at (t .last) (t .leaf) ls j (t .ranges) k
 
   -- 10 beyond them
   pub position-beyond : (i : ℕ) → length (indexOf ps) ≤ i → tryEntry log slice len index i ≡ untried (declined absentRefusal)

@@ -1,4 +1,5 @@
--- The laws for the trial's code: the line at a place, a pass over the log's lines, what is counted in it, and the index's entries.
+-- The laws for the trial's code: the line at a place, a pass over the log's lines, what is counted in it, and the index's entries; and `Numbers`,
+-- the papers' number of each answer.
 -- Assumes nothing.
 pub mod ByBytes
 pub mod Passes
@@ -14,3 +15,4 @@ pub mod Deciding
 pub mod NotIndexed
 pub mod Tabled
 pub mod InPieces
+pub mod Numbers

@@ -1,58 +1,28 @@
--- `merge_whole` measures, looks for room, and copies. Assumes nothing.
-use mathlib.Core.Path.{_≡_, sym, _∙_}
+-- `merge_whole` sorts the first journal's records by their bytes, and merges by these. Assumes nothing.
+use mathlib.Core.Path.{sym}
 use native.Mathlib.Omega.{arith}
 use borrow.Author.Needs.{needs}
-use denote.Ref.{now}
-use Rattle.merge_spec.specs.Records.{mergedOf}
-use Rattle.journal_spec.specs.Cursor.{recordsIn}
-use Rattle.merging.specs.Passes.{measuredOf}
-use Rattle.merging.specs.declared.measuring.Measured.the-variants as M
-use Rattle.merging.proofs.Outcomes.{outcome-falls, outcome-length, outcome-no-room, outcome-put}
+use lib.Seq.{length-take-le}
 use Rattle.merging.proofs.merge_whole.Statement.{statement}
 use Rattle.merging.proofs.merge_whole.Tie as tie
 
-told : (c : tie.After-known-told)
-    → let a = c .before .before .before .before .before .before .before .args in
-    measuredOf (mergedOf (recordsIn (now (a .a))) (recordsIn (now (a .b)))) ≡ M.Length (c .before .m .given .0 .0)
-told c = sym (c .before .before .before .measure .ensures) ∙ c .before .m .given .1
+slice-aggregate-merge-sorted : tie.Need-slice-aggregate-merge-sorted
+slice-aggregate-merge-sorted c = sym (length-take-le _ _ (omega (arith, c .before .before .latest-of .ensures .1)))
 
-returns : tie.Need-returns
-returns c =
-    let a = c .before .before .before .before .before .before .before .before .args in
-    outcome-no-room _ (now (a .out)) (c .before .before .m .given .0 .0) (told (c .before)) (omega arith)
-
-returns-2 : tie.Need-returns-2
-returns-2 c =
-    let a = c .before .before .before .before .before .before .before .before .before .args in
-    outcome-no-room _ (now (a .out)) (c .before .before .before .m .given .0 .0) (told (c .before .before)) (omega arith)
-
-copy-requires : tie.Need-copy-requires
-copy-requires c κs =
-    let a = c .before .before .before .before .before .before .before .before .before .before in
-    let n = outcome-length _ (now (a .args .out)) (c .before .before .before .before .m .given .0 .0) (told (c .before .before .before)) in
-    (a .pre .0, a .pre .1, omega (arith, n))
-
-returns-3 : tie.Need-returns-3
-returns-3 c =
-    let known = c .before .before .before .before .before .before in
-    let a = known .before .before .before .before .before .before .before .args in
-    outcome-put _ (now (a .out)) (known .before .m .given .0 .0) (told known) (omega arith) _ (c .before .before .copy .ensures)
-
-returns-4 : tie.Need-returns-4
-returns-4 c =
-    let a = c .before .before .before .before .before .before .before .args in
-    outcome-falls _ (now (a .out)) (c .before .m2 .given .0 .0) (sym (c .before .before .before .measure .ensures) ∙ c .before .m2 .given .1)
+merge-sorted-requires : tie.Need-merge-sorted-requires
+merge-sorted-requires c κs =
+    let read = c .before .before .before in
+    let p = read .before .before .before .before .before .pre in
+    (p .0, p .1, record { whole = p .0; latest = read .latest-of .ensures .0 })
 
 pub merge-whole-spec : {M : Type 1} → statement M
 merge-whole-spec =
     tie.close
     (tie.spec
+    (λ c. search needs)
     (λ c κs. search needs)
     (λ c. search needs)
-    returns
-    returns-2
-    copy-requires
+    slice-aggregate-merge-sorted
+    merge-sorted-requires
     (λ c. search needs)
-    (λ c. search needs)
-    returns-3
-    returns-4)
+    (λ c. search needs))

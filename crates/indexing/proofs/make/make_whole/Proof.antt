@@ -1,20 +1,28 @@
--- `make_whole` measures the index, looks for room, and puts it. Assumes nothing.
+-- `make_whole` finds the last record of each name in order, and makes the index of these. Assumes nothing.
+use mathlib.Core.Path.{sym}
 use native.Mathlib.Omega.{arith}
 use borrow.Author.Needs.{needs}
-use Rattle.indexing.proofs.Answered.{made-short, made-put}
+use lib.Seq.{length-take-le}
+use Rattle.indexing.proofs.Latest.{latest-named}
 use Rattle.indexing.proofs.make.make_whole.Statement.{statement}
 use Rattle.indexing.proofs.make.make_whole.Tie as tie
 
-returns : tie.Need-returns
-returns c = made-short _ _ (c .before .index-size .result) (c .before .index-size .ensures) (omega arith)
+slice-aggregate-make-named : tie.Need-slice-aggregate-make-named
+slice-aggregate-make-named c = sym (length-take-le _ _ (omega (arith, c .before .before .latest-of .ensures .1)))
 
-put-index-requires : tie.Need-put-index-requires
-put-index-requires c κs = (c .before .before .before .before .before .pre, omega (arith, c .before .before .index-size .ensures))
-
-returns-2 : tie.Need-returns-2
-returns-2 c =
-    let size = c .before .before .before .before .before .index-size in
-    made-put _ _ (size .result) (size .ensures) (omega arith) _ (c .before .before .put-index .ensures)
+make-named-requires : tie.Need-make-named-requires
+make-named-requires c κs =
+    let read = c .before .before .before in
+    latest-named _ (read .before .before .before .before .pre) _ (read .latest-of .ensures .0)
 
 pub make-whole-spec : {M : Type 1} → statement M
-make-whole-spec = tie.close (tie.spec (λ c κs. search needs) returns put-index-requires (λ c. search needs) returns-2)
+make-whole-spec =
+    tie.close
+    (tie.spec
+    (λ c. search needs)
+    (λ c κs. search needs)
+    (λ c. search needs)
+    slice-aggregate-make-named
+    make-named-requires
+    (λ c. search needs)
+    (λ c. search needs))

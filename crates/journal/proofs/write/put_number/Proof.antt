@@ -19,7 +19,9 @@ abbrev μ-loop : tie.MeasureT-loop
 μ-loop part₀ at end section i day name chances times limits w p₀ part p = at + w - p
 
 loop-holds : tie.Need-loop-holds Inv-loop μ-loop
-loop-holds c = (filled-none _ _ _ (omega arith) (omega arith), omega arith, omega arith)
+loop-holds c =
+    let start = c .before .before .before .before .before .before in
+    (filled-none _ _ _ (omega arith) (omega arith) (start .pre .4), omega arith, omega arith)
 
 step-requires : tie.Need-step-requires Inv-loop μ-loop
 step-requires c κs =
@@ -34,6 +36,7 @@ step-requires c κs =
         above = f .onward;
         below = omega (arith, more .before .width-of .ensures);
       },
+      f .front,
     )
 
 loop-less : tie.Need-loop-less Inv-loop μ-loop

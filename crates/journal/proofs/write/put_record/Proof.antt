@@ -1,5 +1,6 @@
 -- `put_record` hands the part from each section's writer to the next; the last ends where the budget does.
 -- Assumes nothing.
+use mathlib.Core.Path.{refl}
 use mathlib.Core.List.{List}
 use Prim.Native.Nat.{ℕ}
 use native.Mathlib.Omega.{arith}
@@ -49,7 +50,7 @@ put-section-requires : tie.Need-put-section-requires
 unfolding startOf
 put-section-requires c κs =
     let asked = c .before .before .before .before .before .before .pre in
-    (asked .0, asked .1, omega arith)
+    (asked .0, asked .1, omega arith, refl)
 
 put-section-requires-2 : tie.Need-put-section-requires-2
 put-section-requires-2 c κs = reached-asks (after-head (c .before .before .before))

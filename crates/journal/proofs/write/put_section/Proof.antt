@@ -23,7 +23,9 @@ abbrev μ-loop : tie.MeasureT-loop
 
 loop-holds : tie.Need-loop-holds Inv-loop μ-loop
 unfolding placeIn
-loop-holds c = (filled-none _ _ _ (omega arith) (omega arith), omega arith, omega arith)
+loop-holds c =
+    let start = c .before .before .before .before .before .before in
+    (filled-none _ _ _ (omega arith) (omega arith) (start .pre .3), omega arith, omega arith)
 
 put-number-requires : tie.Need-put-number-requires Inv-loop μ-loop
 put-number-requires c κs =
@@ -33,6 +35,7 @@ put-number-requires c κs =
       start .pre .1,
       omega (arith, more .before .numbers-in .ensures (start .args .day)),
       more .loop .inv .1,
+      more .loop .inv .0 .front,
     )
 
 loop-again : tie.Need-loop-again Inv-loop μ-loop

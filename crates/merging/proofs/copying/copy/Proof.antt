@@ -10,16 +10,16 @@ use Rattle.merging.proofs.copying.copy.Statement.{statement}
 use Rattle.merging.proofs.copying.copy.Tie as tie
 
 abbrev Inv-loop : tie.InvT-loop
-Inv-loop a b out₀ p₀ n₀ out p n = Copying a b out₀ out p n
+Inv-loop a b sorted out₀ p₀ n₀ out p n = Copying a b out₀ out p n
 
 abbrev μ-loop : tie.MeasureT-loop
-μ-loop a b out₀ p₀ n₀ out p n = leftOf a b p
+μ-loop a b sorted out₀ p₀ n₀ out p n = leftOf a b p
 
 loop-holds : tie.Need-loop-holds Inv-loop μ-loop
-loop-holds c = let a = c .before .before .before in copying-start _ _ _ (a .pre .0) (a .pre .1) (a .pre .2)
+loop-holds c = let a = c .before .before .before .before in copying-start _ _ _ (a .pre .0) (a .pre .1) (a .pre .2)
 
 next-step-requires : tie.Need-next-step-requires Inv-loop μ-loop
-next-step-requires c κs = c .loop .inv .there
+next-step-requires c κs = (c .loop .inv .there, c .before .before .before .before .before .pre .3)
 
 enum-known-s : tie.Need-enum-known-s Inv-loop μ-loop
 enum-known-s c = search needs
@@ -27,7 +27,7 @@ enum-known-s c = search needs
 -- ---- a record is next
 
 took : (c : tie.After-known-told Inv-loop μ-loop)
-    → let a = c .before .before .before .before .before .before .before .before .args in
+    → let a = c .before .before .before .before .before .before .before .before .before .args in
     let l = c .before .before .before .before .loop in
     Took (now (a .a)) (now (a .b)) (l .p) (l .inv .there .made) (c .before .s .given .0 .0) (c .before .s .given .0 .1 .0)
 took c =
@@ -56,7 +56,7 @@ enum-known-s-2 : tie.Need-enum-known-s-2 Inv-loop μ-loop
 enum-known-s-2 c = search needs
 
 passed : (c : tie.After-known-told2 Inv-loop μ-loop)
-    → let a = c .before .before .before .before .before .before .before .before .args in
+    → let a = c .before .before .before .before .before .before .before .before .before .args in
     let l = c .before .before .before .before .loop in
     Passed (now (a .a)) (now (a .b)) (l .p) (l .inv .there .made) (c .before .s2 .given .0 .0)
 passed c =

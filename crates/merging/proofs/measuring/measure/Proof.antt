@@ -12,16 +12,16 @@ use Rattle.merging.proofs.measuring.measure.Statement.{statement}
 use Rattle.merging.proofs.measuring.measure.Tie as tie
 
 abbrev Inv-loop : tie.InvT-loop
-Inv-loop a b p₀ n₀ form₀ p n form = Measuring a b p n form
+Inv-loop a b sorted p₀ n₀ form₀ p n form = Measuring a b p n form
 
 abbrev μ-loop : tie.MeasureT-loop
-μ-loop a b p₀ n₀ form₀ p n form = leftOf a b p
+μ-loop a b sorted p₀ n₀ form₀ p n form = leftOf a b p
 
 loop-holds : tie.Need-loop-holds Inv-loop μ-loop
-loop-holds c = let a = c .before .before in measuring-start _ _ (a .pre .0) (a .pre .1)
+loop-holds c = let a = c .before .before .before in measuring-start _ _ (a .pre .0) (a .pre .1)
 
 next-step-requires : tie.Need-next-step-requires Inv-loop μ-loop
-next-step-requires c κs = c .loop .inv .there
+next-step-requires c κs = (c .loop .inv .there, c .before .before .before .before .pre .2)
 
 enum-known-s : tie.Need-enum-known-s Inv-loop μ-loop
 enum-known-s c = search needs
@@ -32,7 +32,7 @@ form-of-requires c κs = search needs
 -- ---- a record is next
 
 took : (c : tie.After-known-told Inv-loop μ-loop)
-    → let a = c .before .before .before .before .before .before .before .args in
+    → let a = c .before .before .before .before .before .before .before .before .args in
     let l = c .before .before .before .before .loop in
     Took (now (a .a)) (now (a .b)) (l .p) (l .inv .there .made) (c .before .s .given .0 .0) (c .before .s .given .0 .1 .0)
 took c =
@@ -47,7 +47,7 @@ returns c =
     measuring-falls _ _ (l .p) (l .n) (l .form) (l .inv) _ _ (took told) _ (c .before .form-of .ensures ∙ took told .form) (omega arith)
 
 fits : (c : tie.After-known-told Inv-loop μ-loop)
-    → let a = c .before .before .before .before .before .before .before .args in
+    → let a = c .before .before .before .before .before .before .before .before .args in
     let l = c .before .before .before .before .loop in
     (l .n + c .before .s .given .0 .0 .size ≤ 131_072)
     × (leftOf (now (a .a)) (now (a .b)) (c .before .s .given .0 .1 .0) < leftOf (now (a .a)) (now (a .b)) (l .p))
@@ -67,7 +67,7 @@ enum-known-s-2 : tie.Need-enum-known-s-2 Inv-loop μ-loop
 enum-known-s-2 c = search needs
 
 passed : (c : tie.After-known-told2 Inv-loop μ-loop)
-    → let a = c .before .before .before .before .before .before .before .args in
+    → let a = c .before .before .before .before .before .before .before .before .args in
     let l = c .before .before .before .before .loop in
     Passed (now (a .a)) (now (a .b)) (l .p) (l .inv .there .made) (c .before .s2 .given .0 .0)
 passed c =

@@ -1,0 +1,10 @@
+-- The laws of sorted places.
+-- Assumes nothing.
+pub mod Keyed
+pub mod Below
+pub mod Having
+pub mod Searching
+pub mod Inserting
+pub mod Settling
+pub mod Entering
+pub mod Gathering

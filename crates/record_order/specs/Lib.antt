@@ -1,0 +1,2 @@
+-- On which side of the mean a record's limits lie.
+pub mod Sides

@@ -1,0 +1,38 @@
+-- What a report prints of a double, its exact decimal and its whole ticks: neither is a dash. Definitions only.
+use Prim.Native.Nat.{ℕ, _<_}
+use mathlib.Core.Path.{_≡_}
+use mathlib.Core.Bool.{true}
+use lib.ListN.{length, getD}
+use lib.Ieee.{Float, binary64, ofBits, toBits}
+use Rattle.limit.specs.Times.{sumOf, squaresOf}
+use Rattle.limit.specs.Formula.{meanOf, spreadOf, formulaOf}
+use Rattle.ticks.specs.Meaning.{RoundsUp, RoundsNear}
+use Rattle.decimal.specs.Decimal.{isShown, exactText}
+use Rattle.decimal.specs.Meaning.{IsExact}
+use Rattle.journal_spec.specs.Record.{Record}
+
+-- x has at most 60 binary digits behind the point and is below 2 ^ 53 in size, and its text is x, no more and no less
+pub record Exact (x : Float) : Type 0 where
+  pub shown : isShown x ≡ true
+  pub exact : IsExact x (exactText x)
+
+-- and it has a nearest tick, or a least one that is not below it
+pub record ShownNear (x : Float) : Type 0 where
+  pub exact : Exact x
+  pub ticks : RoundsNear x
+
+pub record ShownUp (x : Float) : Type 0 where
+  pub exact : Exact x
+  pub ticks : RoundsUp x
+
+-- under a form, for n times with sum s and sum of squares q, at the chance c
+pub record ShownUnder (form n s q c : ℕ) : Type 0 where
+  pub mean : ShownNear (meanOf n s)
+  pub spread : ShownNear (spreadOf form n s q)
+  pub limit : ShownUp (formulaOf form n s q c)
+
+-- of a record, by the patterns that a report prints: mean and spread of its times under its form, and each of its limits
+pub record ShownRecord (r : Record) : Type 0 where
+  pub mean : ShownNear (ofBits binary64 (toBits binary64 (meanOf (length (r .times)) (sumOf (r .times)))))
+  pub spread : ShownNear (ofBits binary64 (toBits binary64 (spreadOf (r .form) (length (r .times)) (sumOf (r .times)) (squaresOf (r .times)))))
+  pub limits : (i : ℕ) → i < length (r .limits) → ShownUp (ofBits binary64 (getD (r .limits) i 0))
