@@ -1,12 +1,14 @@
 #!/usr/bin/env python3
-"""misreadings.py [DEFINITION.md]: one step of the paper misread, in every way of a list made here; which number of sections 12 and 13 shows it.
+"""misreadings.py [--check] [DEFINITION.md]: one step of the paper misread, in every way of a list made here; which number of sections 12 and 13 shows it.
 
-The blocks, and the lists of sections 7 and 7.5 written as blocks, become one C++ program over the processor's doubles, in which misreading M of one line
+The blocks, and the lists of sections 7 and 7.5 written as blocks, become one C++ program over the processor's doubles, in which a misreading of one line
 takes the place of the line. A misreading that no number shows is tried at all 999,999 chances and shares: it must change no answer. Prints the table
-of witness/misreadings.txt, and ends with 1 if a misreading changes an answer and no number shows it. Needs g++ on an x86-64 machine.
+of witness/misreadings.txt, and ends with 1 if a misreading changes an answer and no number shows it. --check tries the numbers alone, and that the
+table stands as it comes out. Needs g++ on an x86-64 machine.
 """
 import pathlib
 import re
+import shutil
 import subprocess
 import sys
 import tempfile
@@ -337,49 +339,70 @@ int main(int argc, char **argv) {
         for (const Row &row : rows)
             if (row.of() != row.said) { shows = row.name; break; }
         if (misread == 0 && shows) { printf("0 %s does not come out\\n", shows); return 1; }
-        long changed = 0, first = 0;
-        if (misread == 0 || !shows)
+        long changed = 0, first = 0, changed_shares = 0, first_share = 0;
+        if ((misread == 0 || !shows) && argc < 2)
             for (long c = 1; c < 1000000; c++) {
                 uint64_t q = shown(quantile(as_double(c) / as_double(500000))), v = shown(inverse(as_double(c) / as_double(1000000)));
                 if (misread == 0) { quantiles[c] = q; inverses[c] = v; }
-                else if (q != quantiles[c] || v != inverses[c]) { if (!changed++) first = q != quantiles[c] ? c : -c; }
+                if (q != quantiles[c] && !changed++) first = c;
+                if (v != inverses[c] && !changed_shares++) first_share = c;
             }
-        if (misread) printf("%d\\t%ld\\t%ld\\t%s\\n", misread, changed, first, shows ? shows : "");
+        if (misread) printf("%ld\\t%ld\\t%ld\\t%ld\\t%s\\n", changed, first, changed_shares, first_share, shows ? shows : "");
         fflush(stdout);
     }
 }
 """
 
 
-def main():
-    paper = pathlib.Path(sys.argv[1] if len(sys.argv) > 1 else HERE.parent / "docs/DEFINITION.md")
-    text = paper.read_text(encoding="utf-8")
+def program_of(text):
+    """The C++ program, and the misreadings by their numbers."""
     program = Program(text)
     rows = [f'{{[]() -> uint64_t {{ return {asked}; }}, 0x{said}ull, "{name}"}},' for name, asked, said in rows_of(text)]
     for k, (name, _, values) in enumerate(worked_of(text)):
         for part, value in zip(("low", "high") if len(values) == 2 else ("low",), values):
             rows.append(f'{{[]() -> uint64_t {{ return shown(worked({k}).{part}); }}, 0x{value}ull, "{name}"}},')
-    parts = {"CONSTANTS": constants_of(text), "BLOCKS": program.out, "ROWS": rows, "COUNT": [str(len(program.misread))]}
     source = SHELL
-    for name, lines in parts.items():
+    for name, lines in {"CONSTANTS": constants_of(text), "BLOCKS": program.out, "ROWS": rows, "COUNT": [str(len(program.misread))]}.items():
         source = source.replace(f"@{name}@", "\n".join(lines))
+    return source, program.misread
+
+
+def run(source, *arguments):
     with tempfile.TemporaryDirectory() as folder:
         file = pathlib.Path(folder) / "misread.cc"
         file.write_text(source)
         subprocess.run(["g++", "-std=c++17", "-O1", "-w", "-ffp-contract=off", "-o", f"{folder}/misread", str(file)], check=True)
-        out = subprocess.run([f"{folder}/misread"], stdout=subprocess.PIPE, text=True).stdout
+        return subprocess.run([f"{folder}/misread", *arguments], stdout=subprocess.PIPE, text=True).stdout
+
+
+def changes(changed, first, shares, first_share):
+    """What a misreading changes, in words."""
+    words = [f"{n} {what}, the first {at}" for n, at, what in ((changed, first, "chances"), (shares, first_share, "shares")) if int(n)]
+    return "; ".join(words) or "none"
+
+
+def main():
+    quick = "--check" in sys.argv
+    given = [word for word in sys.argv[1:] if word != "--check"]
+    text = pathlib.Path(given[0] if given else HERE.parent / "docs/DEFINITION.md").read_text(encoding="utf-8")
+    if quick and not shutil.which("g++"):
+        print("misreadings skipped: there is no g++")
+        return
+    source, misread = program_of(text)
+    out = run(source, *(["rows"] if quick else []))
     if out.startswith("0 "):
         sys.exit(out.strip())
-    unseen = harmless = 0
-    print("misreading\tshown by\tchances and shares it changes")
-    for line in out.splitlines():
-        number, changed, first, shows = line.split("\t")
-        changes = "" if shows else f"{changed}, the first at {'chance' if int(first) > 0 else 'share'} {abs(int(first))}" if int(changed) else "none"
-        unseen += not shows and int(changed) > 0
-        harmless += not shows and int(changed) == 0
-        print(f"{program.misread[int(number) - 1]}\t{shows or 'no number'}\t{changes}")
-    count = len(program.misread)
-    print(f"misreadings: {count}, {count - unseen - harmless} shown by a number, {harmless} change no answer, {unseen} change an answer that no number shows")
+    table, unseen, harmless = [], 0, 0
+    for name, line in zip(misread, out.splitlines()):
+        *numbers, shows = line.split("\t")
+        what = "" if shows else changes(*numbers)
+        unseen += what not in ("", "none")
+        harmless += what == "none"
+        table.append(f"{name}\t{shows or 'no number'}\t{what}")
+    table.append(f"misreadings: {len(misread)}, {len(misread) - unseen - harmless} shown by a number, {harmless} change no answer, {unseen} unseen")
+    if quick and table != (HERE / "misreadings.txt").read_text(encoding="utf-8").splitlines()[2:]:
+        sys.exit("misreadings: witness/misreadings.txt is not what comes out; misreadings.py makes it again")
+    print(table[-1] if quick else "\n".join(["What is misread, what shows it, and what it changes where nothing does", "", *table]))
     sys.exit(1 if unseen else 0)
 
 
