@@ -96,7 +96,8 @@ def calls_in(text):
 
 
 def is_pair(argument):
-    return bool(re.fullmatch(r"−?[A-Z]\d?", argument) or re.match(r"−?(T\[\d+\]$|[A-Z]+\[\w+\]$|T[0-2]$|LOG2$)", argument)) and not argument.startswith("LOGPOLY")
+    named = re.fullmatch(r"−?[A-Z]\d?", argument) or re.match(r"−?(T\[\d+\]$|[A-Z]+\[\w+\]$|T[0-2]$|LOG2$)", argument)
+    return bool(named) and not argument.startswith("LOGPOLY")
 
 
 def kind(argument):
@@ -158,9 +159,12 @@ def variants(text, known, block):
             yield new, what
 
 
+SIGNS = {"⊕": "+", "⊖": "-", "⊗": "*", "⊘": "/", "×": "*", "−": "-", "≤": "<=", "≥": ">=", "⟨": "Pair{", "⟩": "}"}
+
+
 def cpp(text):
     """An expression or a test of the paper as C++."""
-    for sign, other in (("⊕", "+"), ("⊖", "-"), ("⊗", "*"), ("⊘", "/"), ("×", "*"), ("−", "-"), ("≤", "<="), ("≥", ">="), ("⟨", "Pair{"), ("⟩", "}")):
+    for sign, other in SIGNS.items():
         text = text.replace(sign, other)
     text = re.sub(r"\bdouble\(", "as_double(", text)
     return re.sub(r"\bshort\b", "short_", re.sub(r" = ", " == ", text))
@@ -262,7 +266,8 @@ def rows_of(text):
         elif head[0] == "form" and "refusal" not in cells[3] and cells[0].isdigit():
             times = [int(word) for word in cells[1].split(", ")]
             n, s, q = len(times), sum(times), sum(t * t for t in times)
-            yield f"limit of {cells[1]} at {cells[2]}, form {cells[0]}", f"shown(limitOf({cells[0]}, {n}, {s}, {n * q - s * s}, {cells[2]}))", cells[3].split()[3]
+            asked = f"shown(limitOf({cells[0]}, {n}, {s}, {n * q - s * s}, {cells[2]}))"
+            yield f"limit of {cells[1]} at {cells[2]}, form {cells[0]}", asked, cells[3].split()[3]
         elif head[:2] == ["times", "share"] and len(cells) == 4 and "refusal" not in cells[2] and cells[1].isdigit():
             times = [int(word) for word in cells[0].split(", ")]
             n, s, q = len(times), sum(times), sum(t * t for t in times)
