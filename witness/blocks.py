@@ -3,8 +3,13 @@
 
 So what stands in Quantile.v, set down by a reader, is what the paper's text says: a sign or an operand changed in the paper is refused.
 """
+import pathlib
 import re
 import sys
+
+# What Quantile.v defines of the paper's sentences and not of its blocks.
+SENTENCES = """turned significand indexOf reduction quantile inverse inRange count sum squares deviation timesInRange mean spread chanceQuantile limit band
+quantileBits inverseBits rootBits"""
 
 HEAD = """(* Made by blocks.py of the blocks of docs/DEFINITION.md. *)
 From Coq Require Import ZArith List Bool.
@@ -148,19 +153,23 @@ def body_of(lines, whole):
 def main():
     text = open(sys.argv[1], encoding="utf-8").read()
     print(HEAD)
-    count = 0
+    names = []
     for fenced in re.findall(r"^```\n(\w+\(.*?)^```", text, flags=re.S | re.M):
         for block in fenced.strip().split("\n\n"):
             head, *lines = block.splitlines()
             name, words = re.fullmatch(r"(\w+)\((.*)\):", head).groups()
             whole = name == "divisor"
             arguments = " ".join(f"({word} : {kind_of(word, name)})" for word in words.split(", "))
-            names = " ".join(words.split(", "))
+            given = " ".join(words.split(", "))
             print(f"Definition the_{name} {arguments} :=\n{body_of(lines, whole)}.")
-            print(f"Lemma {name}_as_written {arguments} : the_{name} {names} = {name} {names}. Proof. reflexivity. Qed.\n")
-            count += 1
+            print(f"Lemma {name}_as_written {arguments} : the_{name} {given} = {name} {given}. Proof. reflexivity. Qed.\n")
+            names.append(name)
     print("End Paper.")
-    print(f"{count} blocks", file=sys.stderr)
+    defined = re.findall(r"^Definition (\w+)", (pathlib.Path(__file__).parent / "Quantile.v").read_text(encoding="utf-8"), flags=re.M)
+    missing = sorted(set(defined) - set(SENTENCES.split()) ^ set(names))
+    if missing or len(set(names)) != len(names):
+        sys.exit(f"sections 5 to 8: {', '.join(missing) or 'a block twice'}: not the blocks of Quantile.v")
+    print(f"{len(names)} blocks", file=sys.stderr)
 
 
 main()

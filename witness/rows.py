@@ -67,6 +67,8 @@ def section_13(text):
             add("limits", f"limit (arith := flocq) {cells[0]} {times(cells[1])} {cells[2]}", answer("Answer", "Refusal", cells[3]))
         elif head[:2] == ["times", "share"]:
             add("bands", f"band (arith := flocq) {times(cells[0])} {cells[1]}", answer("Ends", "RefusedBand", *cells[2:]))
+    if not all(questions for questions, _ in found.values()):
+        sys.exit("section 13: a table is missing")
     return [theorem(name, *both) for name, both in found.items()]
 
 
