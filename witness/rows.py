@@ -10,7 +10,10 @@ Import ListNotations.
 Open Scope Z_scope.
 
 Definition at_ (b : Z) : number flocq := of_pattern flocq b.
-Definition shown (x : number flocq) : Z := pattern flocq x."""
+Definition shown (x : number flocq) : Z := pattern flocq x.
+
+(* Both sides are computed once, when the proof is checked. *)
+Ltac by_computing := match goal with |- _ = ?said => vm_cast_no_check (eq_refl said) end."""
 
 PATTERN = r"([0-9a-f]{16})"
 
@@ -34,7 +37,7 @@ def listed(entries):
 
 
 def theorem(name, questions, answers):
-    print(f"\nTheorem {name} :\n  {listed(questions)}\n  = {listed(answers)}.\nProof. vm_compute. reflexivity. Qed.")
+    print(f"\nTheorem {name} :\n  {listed(questions)}\n  = {listed(answers)}.\nProof. by_computing. Qed.")
     return f"{len(questions)} {name}"
 
 
@@ -94,7 +97,7 @@ def section_12(text):
     if left:
         raise SystemExit(f"section 12: {left[0]} names no line that it would change")
     for name, form, lines in (("worked", "SAMPLE_FORM", sample), ("worked_plain", "PLAIN_FORM", other)):
-        print(f"\nTheorem {name} : lines {form} =\n  {write(lines)}.\nProof. vm_compute. reflexivity. Qed.")
+        print(f"\nTheorem {name} : lines {form} =\n  {write(lines)}.\nProof. by_computing. Qed.")
     return [f"{len(sample)} lines", f"{len(plain)} of the other form"]
 
 
