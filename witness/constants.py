@@ -11,6 +11,12 @@ from fractions import Fraction
 
 getcontext().prec = 120
 SQUARED = 7  # T0 to T6
+# Doubles that are a number exactly, and doubles nearest to a decimal.
+NUMBERS = {
+    "ZERO": "0", "HALF": "1/2", "ONE": "1", "TWO": "2", "FOUR": "4", "SPLITTER": "134217729", "LARGE": str(2**1022), "CENTRE": "0.5625",
+    "ERROR_1": f"1/{2**56}", "ERROR_2": f"1/{2**59}", "TENTH": "0.1", "SHORT_FROM": "0.0001", "CUT_1": "0.0095", "CUT_2": "0.06", "CUT_3": "0.75",
+    "CUT_4": "0.9999",
+}
 
 
 def tables(text):
@@ -93,8 +99,8 @@ def reduced(i, root_at):
     return Fraction(least, unit), Fraction(most, unit)
 
 
-def main():
-    text = open(sys.argv[1], encoding="utf-8").read()
+def faults(text):
+    """What stands in sections 14 and 15 and is not so."""
     named, lists, sums = read(text[text.index("\n## 14. ") : text.index("\n## 16. ")])
     wrong = []
 
@@ -116,8 +122,10 @@ def main():
         same(f"T{k}", stands, parts(coefficient) if isinstance(stands, tuple) else nearest(coefficient))
     same("ROOT_TWO", named["ROOT_TWO"], nearest(Fraction(Decimal(2).sqrt())))
     same("ROOT_AT", named["ROOT_AT"], int(Decimal(2).sqrt() * 2**52) + 1)
-    for name, decimal in (("TENTH", "0.1"), ("SHORT_FROM", "0.0001"), ("CUT_1", "0.0095"), ("CUT_2", "0.06"), ("CUT_3", "0.75"), ("CUT_4", "0.9999")):
-        same(name, named[name], nearest(Fraction(decimal)))
+    for name, number in NUMBERS.items():
+        same(name, named[name], nearest(Fraction(number)))
+    tried = {"LOG2", "ROOT_TWO", *NUMBERS, *(f"T{k}" for k in range(SQUARED))}
+    same("the names of section 14's doubles", sorted(doubles(text)), sorted(tried))
     names = sorted({re.sub(r" (low|high)$", "", name) for name in lists} - {"entries"})
     same("the names of the sums", sorted(sums), names)
     for name in names:
@@ -126,7 +134,18 @@ def main():
         for part, column, total in zip(("low", "high"), columns, sums.get(name, (0, 0))):
             if column:
                 same(f"the sum of {name}, {part}", total, sum(column) % 2**64)
-    print("\n".join(wrong) or f"constants: {len(reciprocal)} logarithms and {SQUARED} coefficients as said, {len(names)} lists add up")
+    return wrong
+
+
+def doubles(text):
+    """The names of section 14's doubles and pairs."""
+    section = text[text.index("\n## 14. ") : text.index("\n## 15. ")]
+    return [cells[0] for head, cells in tables(section) if head[1] in ("bits", "low")]
+
+
+def main():
+    wrong = faults(open(sys.argv[1], encoding="utf-8").read())
+    print("\n".join(wrong) or "constants: sections 14 and 15 hold what they say, and the lists add up")
     sys.exit(1 if wrong else 0)
 
 
