@@ -65,7 +65,7 @@ static void append(void) { awaqlla_append(VOLUME, OFFER, TIMES, now.words); }
 static void append_upto(void) { awaqlla_append_upto(VOLUME, OFFER, TIMES, 180, now.words); }
 static void append_with(void) { awaqlla_append_with(VOLUME, OFFER, TIMES, ROOM, INDEX, OPTIONS, now.words); }
 static void append_log(void) { awaqlla_append_log(VOLUME, OFFER, LOG, now.words); }
-static void append_log_upto(void) { awaqlla_append_log_upto(VOLUME, OFFER, LOG, 80, now.words); }
+static void append_log_upto(void) { awaqlla_append_log_upto(VOLUME, OFFER, LOG, 70, now.words); }
 static void append_log_with(void) { awaqlla_append_log_with(VOLUME, OFFER, LOG, ROOM, INDEX, OPTIONS, now.words); }
 static void make_index(void) { awaqlla_index(VOLUME, now.merged, ROOM, now.words); }
 static void merge(void) { awaqlla_merge(VOLUME, PROFILE, now.merged, ROOM, now.words); }
