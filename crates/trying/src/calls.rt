@@ -7,12 +7,14 @@ ghost use Rattle.trying.specs.Answers.{answeredBy, refusedUnless, startO
 ghost use Rattle.trying.specs.Owning.{Owned};
 use crate::counting::count_links;
 use crate::leaf::Answer;
+use crate::leaf::LINE_REFUSAL;
 use crate::leaf::Trial;
 use crate::leaf::try_leaf;
 use entries::entry_place;
 use entries::start_at;
 use indexing::Checked;
 use indexing::check_index;
+use journal::Fault;
 use journal::number_in;
 
 // Document 02's number for an index that is not the journal's, and for a position that it does not have.
@@ -60,7 +62,10 @@ fn refuse(log: &[u8], answer: Answer) -> Trial
     let c = count_links(log, b"", b"");
     if c.unread {
         return Trial {
-            answer: Answer::Unread(c.place),
+            answer: Answer::DeclinedAt(Fault {
+                number: LINE_REFUSAL,
+                place: c.place,
+            }),
             overs: [0; 8],
         };
     }

@@ -7,17 +7,18 @@ ghost use Rattle.trying.specs.Owning.{Owned};
 ghost use Rattle.trying.specs.Strangers.{unknownBy, unknownUnless};
 use crate::calls::INDEX_REFUSAL;
 use crate::counting::count_links;
+use crate::leaf::LINE_REFUSAL;
 use crate::unknown::count_unknown;
 use indexing::Checked;
 use indexing::check_index;
 use journal::Fault;
 
-// The lines; or 14; the journal's fault; or 11, the place of the log's line.
+// The lines; or a refusal with its number: 14; the journal's fault; or 11 with the place of the log's line.
 pub enum Unknown {
     Lines(u64),
     Declined(u32),
     Damaged(Fault),
-    Unread(usize),
+    DeclinedAt(Fault),
 }
 
 // The lines with unknown names.
@@ -39,7 +40,10 @@ fn own_unknown(log: &[u8], v: &[u8], len: usize, index: &[u8]) -> Unknown
 {
     let u = count_unknown(log, index);
     if u.unread {
-        return Unknown::Unread(u.place);
+        return Unknown::DeclinedAt(Fault {
+            number: LINE_REFUSAL,
+            place: u.place,
+        });
     }
     Unknown::Lines(u.lines)
 }
@@ -50,7 +54,10 @@ fn refuse_unknown(log: &[u8], answer: Unknown) -> Unknown
 {
     let c = count_links(log, b"", b"");
     if c.unread {
-        return Unknown::Unread(c.place);
+        return Unknown::DeclinedAt(Fault {
+            number: LINE_REFUSAL,
+            place: c.place,
+        });
     }
     answer
 }
