@@ -17,9 +17,7 @@ use indexing::check_index;
 use journal::Fault;
 use journal::number_in;
 
-// Document 02's number for an index that is not the journal's, and for a position that it does not have.
-pub(crate) const INDEX_REFUSAL: u32 = 14;
-
+// Document 02's number for a position that the index does not have.
 const ABSENT_REFUSAL: u32 = 10;
 
 // The trial at a position of the index.
@@ -29,7 +27,7 @@ pub fn try_entry(log: &[u8], v: &[u8], len: usize, index: &[u8], position: usize
     let s = check_index(v, len, index);
     match s {
         Checked::Own => own_trial(log, v, len, index, position),
-        Checked::Other => refuse(log, Answer::Declined(INDEX_REFUSAL)),
+        Checked::Declined(number) => refuse(log, Answer::Declined(number)),
         Checked::Damaged(fault) => refuse(log, Answer::Damaged(fault)),
     }
 }

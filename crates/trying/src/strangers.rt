@@ -5,7 +5,6 @@ ghost use Rattle.trial_spec.specs.Links.{logOf};
 ghost use Rattle.trial_spec.specs.Trial.{tryUnknown};
 ghost use Rattle.trying.specs.Owning.{Owned};
 ghost use Rattle.trying.specs.Strangers.{unknownBy, unknownUnless};
-use crate::calls::INDEX_REFUSAL;
 use crate::counting::count_links;
 use crate::leaf::LINE_REFUSAL;
 use crate::unknown::count_unknown;
@@ -28,7 +27,7 @@ pub fn try_unknown(log: &[u8], v: &[u8], len: usize, index: &[u8]) -> Unknown
     let s = check_index(v, len, index);
     match s {
         Checked::Own => own_unknown(log, v, len, index),
-        Checked::Other => refuse_unknown(log, Unknown::Declined(INDEX_REFUSAL)),
+        Checked::Declined(number) => refuse_unknown(log, Unknown::Declined(number)),
         Checked::Damaged(fault) => refuse_unknown(log, Unknown::Damaged(fault)),
     }
 }
