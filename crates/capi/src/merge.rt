@@ -32,17 +32,17 @@ fn put_merged(m: Merged, out: &mut [u64; 4])
         Merged::Length(n) => {
             *out = [0, n as u64, 0, 0];
         }
-        Merged::NoRoom => {
-            *out = [1, 9, 0, 0];
+        Merged::Declined(number) => {
+            *out = [1, number as u64, 0, 0];
         }
-        Merged::Falls(place) => {
-            *out = [1, 13, place as u64, 0];
+        Merged::DeclinedAt(fault) => {
+            *out = [1, fault.number as u64, fault.place as u64, 0];
         }
         Merged::Damaged { whose, fault } => {
             *out = [2, fault.number as u64, fault.place as u64, word_of(whose)];
         }
-        Merged::Torn(whose) => {
-            *out = [3, 16, 0, word_of(whose)];
+        Merged::DeclinedOf { whose, number } => {
+            *out = [3, number as u64, 0, word_of(whose)];
         }
     }
 }

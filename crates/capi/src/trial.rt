@@ -5,7 +5,6 @@ ghost use mathlib.Core.List.{_∷_, replicate};
 ghost use Rattle.trial_spec.specs.Trial.{tryEntry, tryUnknown};
 ghost use Rattle.capi.specs.Trial.{trialWords, wordsOf, unknownWords, wordsOfUnknown};
 use trying::Answer;
-use trying::LINE_REFUSAL;
 use trying::Trial;
 use trying::Unknown;
 
@@ -69,7 +68,7 @@ fn put_trial(t: Trial, out: &mut [u64; 12])
         }
         Answer::Declined(n) => put_refusal(out, 1, n, 0),
         Answer::Damaged(f) => put_refusal(out, 2, f.number, f.place),
-        Answer::Unread(place) => put_refusal(out, 3, LINE_REFUSAL, place),
+        Answer::DeclinedAt(f) => put_refusal(out, 3, f.number, f.place),
     }
 }
 
@@ -94,8 +93,8 @@ fn put_unknown(u: Unknown, out: &mut [u64; 3])
         Unknown::Damaged(f) => {
             *out = [2, f.number as u64, f.place as u64];
         }
-        Unknown::Unread(place) => {
-            *out = [3, LINE_REFUSAL as u64, place as u64];
+        Unknown::DeclinedAt(f) => {
+            *out = [3, f.number as u64, f.place as u64];
         }
     }
 }

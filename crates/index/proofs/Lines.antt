@@ -1,7 +1,7 @@
 -- What is said of an index, by equal parts.
 -- Assumes nothing.
 use mathlib.Core.Path.{_≡_}
-use Rattle.journal_spec.specs.MakeIndex.{IndexCheck}
+use Rattle.journal_spec.specs.CheckIndex.{IndexCheck}
 use Rattle.entries.specs.declared.walking.End.{End}
 use Rattle.index.specs.Verdict.{checkedLine}
 

@@ -2,7 +2,7 @@
 // Its words and numbers are put as the listing puts its own.
 ghost use lib.ListN.{length};
 ghost use Rattle.hex.specs.Text.{Put};
-ghost use Rattle.journal_spec.specs.MakeIndex.{checkIndexOf};
+ghost use Rattle.journal_spec.specs.CheckIndex.{checkIndexOf};
 ghost use Rattle.entries.specs.Entries.{entriesIn};
 ghost use Rattle.entries.specs.Places.{endOf};
 ghost use Rattle.indexing.specs.Checked.{checkMeaning};
@@ -42,7 +42,7 @@ fn said_line(answer: Checked, size: usize, out: &mut [u8]) -> usize
 {
     match answer {
         Checked::Own => put_word(out, b"own", size as u64),
-        Checked::Other => put_word(out, b"declined", 14),
+        Checked::Declined(n) => put_word(out, b"declined", n as u64),
         Checked::Damaged(f) => put_words(out, b"damaged", f.number as u64, f.place as u64),
     }
 }

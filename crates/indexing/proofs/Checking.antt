@@ -10,7 +10,7 @@ use Rattle.journal_spec.specs.Scan.{Placed, standing, faulty, contentsOf}
 use Rattle.journal_spec.specs.Scan as Scan
 use Rattle.journal_spec.specs.Index.{indexBytes, inFront, indexOf}
 use Rattle.journal_spec.specs.Request.{Journal}
-use Rattle.journal_spec.specs.MakeIndex.{IndexCheck, own, notOwn, faulted, checkFrom, checkIndexOf}
+use Rattle.journal_spec.specs.CheckIndex.{IndexCheck, own, declined, damaged, checkFrom, checkIndexOf}
 use Rattle.journal_spec.proofs.Numbers.{are-bytes}
 use Rattle.journal_spec.proofs.Whole.{WholeBytes, Committed, committed-bytes}
 use Rattle.journal.specs.declared.Fault.{Fault}
@@ -32,13 +32,13 @@ use Rattle.indexing.specs.declared.own.Checked.the-variants as K
 
 abbrev answerOf : IndexCheck → Checked
 answerOf own = K.Own
-answerOf notOwn = K.Other
-answerOf (faulted n p) = K.Damaged (record { number = n; place = p })
+answerOf (declined n) = K.Declined n
+answerOf (damaged n p) = K.Damaged (record { number = n; place = p })
 
 meaning-back : (r : Checked) → answerOf (checkMeaning r) ≡ r
 unfolding checkMeaning
 meaning-back K.Own = refl
-meaning-back K.Other = refl
+meaning-back (K.Declined n) = refl
 meaning-back (K.Damaged f) = refl
 
 answer-is : (k : Scan.Contents) (index : List ℕ) → answerOf (checkFrom k index) ≡ checkedOf k index
@@ -46,7 +46,7 @@ unfolding checkFrom checkedOf
 answer-is (faulty n p) index = refl
 answer-is (standing ps committed) index = either (inFront (indexBytes (indexOf ps)) index)
   where
-    either : (t : Bool) → answerOf (cond t own notOwn) ≡ cond t K.Own K.Other
+    either : (t : Bool) → answerOf (cond t own (declined 14)) ≡ cond t K.Own (K.Declined 14)
     either true = refl
     either false = refl
 
@@ -78,13 +78,13 @@ module _ (v : List ℕ) (len : ℕ) (index : List ℕ) (x : Contents) (read : x 
     stands-whole = committed-here .whole
 
     pub stands-checked : (t : Bool) → t ≡ inFront (indexBytes (indexIn (take committed v))) index
-        → cond t own notOwn ≡ checkIndexOf (record { slice = v; len = len }) index
+        → cond t own (declined 14) ≡ checkIndexOf (record { slice = v; len = len }) index
     unfolding checkIndexOf checkFrom indexIn
     stands-checked t e =
-        ap (λ (s : Bool). cond s own notOwn)
+        ap (λ (s : Bool). cond s own (declined 14))
         (e ∙ ap (λ (ps : List Placed). inFront (indexBytes (indexOf ps)) index) (sym (committed-here .places)))
         ∙ ap (λ (k : Scan.Contents). checkFrom k index) (sym (stood-here .is))
 
-  pub damaged-checked : (f : Fault) → x ≡ C.Damaged f → faulted (f .number) (f .place) ≡ checkIndexOf (record { slice = v; len = len }) index
+  pub damaged-checked : (f : Fault) → x ≡ C.Damaged f → damaged (f .number) (f .place) ≡ checkIndexOf (record { slice = v; len = len }) index
   unfolding checkIndexOf checkFrom
   damaged-checked f told = ap (λ (k : Scan.Contents). checkFrom k index) (sym (Answering.faulted plain v len 0 x plain-read f told))

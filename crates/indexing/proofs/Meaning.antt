@@ -6,7 +6,9 @@ use mathlib.Core.List.{List}
 use mathlib.Core.Option.{some}
 use Rattle.limit.proofs.Meaning.{injective-by}
 use Rattle.journal_spec.specs.Request.{Outcome}
-use Rattle.journal_spec.specs.MakeIndex.{IndexResult, made, declined, damaged, Made, IndexCheck, own, notOwn, faulted}
+use Rattle.journal_spec.specs.MakeIndex.{IndexResult, made, declined, damaged, Made}
+use Rattle.journal_spec.specs.CheckIndex.{IndexCheck, own}
+use Rattle.journal_spec.specs.CheckIndex as Check
 use Rattle.journal.specs.declared.Appended.{Appended}
 use Rattle.journal.proofs.Meaning.{append-meaning-injective}
 use Rattle.indexing.specs.Made.{madeMeaning, madeOutcome}
@@ -37,8 +39,8 @@ made-injective a b v w e = (made-meaning-injective a b (ap (λ (m : Made). m .an
 
 ofCheck : IndexCheck → Checked
 ofCheck own = C.Own
-ofCheck notOwn = C.Other
-ofCheck (faulted n p) = C.Damaged (record { number = n; place = p })
+ofCheck (Check.declined n) = C.Declined n
+ofCheck (Check.damaged n p) = C.Damaged (record { number = n; place = p })
 
 pub check-injective : (a b : Checked) → checkMeaning a ≡ checkMeaning b → a ≡ b
 unfolding checkMeaning ofCheck
@@ -46,7 +48,7 @@ check-injective = injective-by checkMeaning ofCheck back
   where
     back : (a : Checked) → ofCheck (checkMeaning a) ≡ a
     back C.Own = refl
-    back C.Other = refl
+    back (C.Declined n) = refl
     back (C.Damaged f) = refl
 
 pub indexed-injective : (len : ℕ) (a b : Appended) (v w i j : List ℕ) → indexedOutcome len a v i ≡ indexedOutcome len b w j → (a ≡ b) × (v ≡ w) × (i ≡ j)

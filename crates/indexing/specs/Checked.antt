@@ -3,18 +3,19 @@
 use Prim.Native.Nat.{ℕ}
 use mathlib.Core.List.{List}
 use mathlib.Core.Bool.{cond}
+use Rattle.journal_spec.specs.Refusals.{indexRefusal}
 use Rattle.journal_spec.specs.Scan.{Contents, standing, faulty}
 use Rattle.journal_spec.specs.Index.{indexBytes, inFront, indexOf}
-use Rattle.journal_spec.specs.MakeIndex.{IndexCheck, own, notOwn, faulted}
+use Rattle.journal_spec.specs.CheckIndex.{IndexCheck, own, declined, damaged}
 use Rattle.indexing.specs.declared.own.Checked.{Checked}
 use Rattle.indexing.specs.declared.own.Checked.the-variants as C
 
 unfoldable pub checkMeaning : Checked → IndexCheck
 checkMeaning C.Own = own
-checkMeaning C.Other = notOwn
-checkMeaning (C.Damaged f) = faulted (f .number) (f .place)
+checkMeaning (C.Declined n) = declined n
+checkMeaning (C.Damaged f) = damaged (f .number) (f .place)
 
 -- for callers that go on by the answer
 unfoldable pub checkedOf : Contents → List ℕ → Checked
 checkedOf (faulty n p) index = C.Damaged (record { number = n; place = p })
-checkedOf (standing ps committed) index = cond (inFront (indexBytes (indexOf ps)) index) C.Own C.Other
+checkedOf (standing ps committed) index = cond (inFront (indexBytes (indexOf ps)) index) C.Own (C.Declined indexRefusal)

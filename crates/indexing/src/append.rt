@@ -20,6 +20,8 @@ ghost use Rattle.journal.specs.Handed.{asBudget, asRule};
 ghost use Rattle.journal.specs.Answers.{appendMeaning};
 ghost use Rattle.indexing.specs.Outcome.{indexedOutcome};
 ghost use Rattle.indexing.specs.Standing.{placedIn, indexIn, Stands, requestWith, refusalIn};
+use crate::make::INDEX_ROOM_REFUSAL;
+use crate::own::INDEX_REFUSAL;
 use crate::own::is_own;
 use entries::amend;
 use entries::has_room;
@@ -31,11 +33,6 @@ use journal::Head;
 use journal::Rule;
 use journal::contents_of;
 use journal::extend_by;
-
-// The index is not the journal's; its buffer cannot hold the one with the record finished.
-const INDEX_REFUSAL: u32 = 14;
-
-const INDEX_ROOM_REFUSAL: u32 = 15;
 
 // Append by a budget and a rule, with an index in a buffer of its own.
 pub fn append_indexed(

@@ -2,7 +2,7 @@
 // the buffer must be an index with the entries of these.
 ghost use mathlib.Core.Path.{_≡_};
 ghost use Rattle.journal_spec.specs.Index.{indexBytes, inFront};
-ghost use Rattle.journal_spec.specs.MakeIndex.{checkIndexOf};
+ghost use Rattle.journal_spec.specs.CheckIndex.{checkIndexOf};
 ghost use Rattle.journal_spec.proofs.Whole.{WholeBytes};
 ghost use Rattle.entries.specs.Entries.{entriesIn};
 ghost use Rattle.indexing.specs.Standing.{indexIn};
@@ -22,10 +22,13 @@ use journal_order::key_at;
 use journal_order::latest_of;
 use journal_order::wide;
 
-// The buffer begins with the journal's index; or it does not, number 14; or the journal's first fault.
+// Document 02's number for an index that is not the journal's.
+pub(crate) const INDEX_REFUSAL: u32 = 14;
+
+// The buffer begins with the journal's index; or declined, with the refusal's number; or damaged, with the journal's first fault.
 pub enum Checked {
     Own,
-    Other,
+    Declined(u32),
     Damaged(Fault),
 }
 
@@ -44,7 +47,7 @@ pub fn check_index(v: &[u8], len: usize, index: &[u8]) -> Checked
             if is_own(&v[..committed], index) {
                 return Checked::Own;
             }
-            Checked::Other
+            Checked::Declined(INDEX_REFUSAL)
         }
         Contents::Damaged(fault) => Checked::Damaged(fault),
     }

@@ -20,6 +20,7 @@ pub mod Read
 pub mod Request
 pub mod Append
 pub mod MakeIndex
+pub mod CheckIndex
 -- demand 3: the list of calls, the model, the ranges, the statement, and the words of its sentence
 pub mod Calls
 pub mod Model

@@ -46,9 +46,12 @@ fn size_of(m: Merged) -> usize
     match m {
         Merged::Length(n) => n,
         Merged::Damaged { whose: _, fault: _ } => 0,
-        Merged::Torn(_) => 0,
-        Merged::Falls(_) => 0,
-        Merged::NoRoom => 0,
+        Merged::DeclinedOf {
+            whose: _,
+            number: _,
+        } => 0,
+        Merged::DeclinedAt(_) => 0,
+        Merged::Declined(_) => 0,
     }
 }
 
@@ -59,8 +62,11 @@ fn is_length(m: Merged) -> bool
     match m {
         Merged::Length(_) => true,
         Merged::Damaged { whose: _, fault: _ } => false,
-        Merged::Torn(_) => false,
-        Merged::Falls(_) => false,
-        Merged::NoRoom => false,
+        Merged::DeclinedOf {
+            whose: _,
+            number: _,
+        } => false,
+        Merged::DeclinedAt(_) => false,
+        Merged::Declined(_) => false,
     }
 }

@@ -26,8 +26,7 @@ use Rattle.merge_spec.proofs.Tally.{tally}
 use Rattle.merge_spec.proofs.Dropping.{tally-undropped, length-undropped}
 use Rattle.merge_spec.proofs.ByDay.{DaysFrom, Stable, tally-by-day, length-by-day, sorted, stable}
 use Rattle.merge_spec.proofs.Following.{FormsFrom, follow-days, following, select-good, select-days, by-day-good}
-use Rattle.merge_spec.proofs.Falls.{no-fall}
-use Rattle.merge_spec.proofs.Rows.{accepted}
+use Rattle.merge_spec.proofs.Answers.{answered}
 use Rattle.merge_spec.proofs.Inputs.{Whole, whole-scanned}
 
 -- ---- the records of the result
@@ -127,24 +126,23 @@ module _ (slice₁ : List ℕ) (len₁ : ℕ) (slice₂ : List ℕ) (len₂ : �
   -- THE THEOREM: where the merge answers a length, the buffer holds the merged journal
   module _ (b₁ : AreBytes slice₁) (b₂ : AreBytes slice₂) (n : ℕ) (h : mergeOf slice₁ len₁ slice₂ len₂ buffer .answer ≡ merged n) where
     pub merged-journal : MergedJournal n
-    unfolding mergeOf
     merged-journal =
-        let a = accepted (mergedOf firsts seconds) buffer (scanOf plain slice₁ len₁) (scanOf plain slice₂ len₂) n h in
-        let x = a .0 in
-        let w = whole-scanned slice₁ len₁ (x .first .0) (x .first .1) b₁ (x .first .2) in
-        let v = whole-scanned slice₂ len₂ (x .second .0) (x .second .1) b₂ (x .second .2) in
-        let r = no-fall 0 0 (mergedOf firsts seconds) (x .rises) in
-        let f = merged-follow firsts seconds (w .follow) (v .follow) r in
-        let e : after ≡ written buffer 0 (recordsBytes (mergedOf firsts seconds)) = ap (λ (o : MergeOutcome). o .buffer) (x .outcome) in
+        let a = answered slice₁ len₁ slice₂ len₂ buffer (merged n) h in
+        let d = a .0 in
+        let w = whole-scanned slice₁ len₁ (d .1 .0) (d .1 .1) b₁ (d .1 .2) in
+        let v = whole-scanned slice₂ len₂ (d .2 .0) (d .2 .1) b₂ (d .2 .2) in
+        let f = merged-follow firsts seconds (w .follow) (v .follow) (d .3) in
+        let room : lengthsOf (mergedOf firsts seconds) ≤ min (length buffer) maxLength = omega (arith, d .4 .0, d .4 .1) in
+        let e : after ≡ written buffer 0 (recordsBytes (mergedOf firsts seconds)) = ap (λ (o : MergeOutcome). o .buffer) (a .1) in
         record {
           first = w;
           second = v;
-          length′ = a .1;
-          rises = r;
-          bytes = rw (e, a .1) (put-bytes (mergedOf firsts seconds) buffer f (x .room));
-          beyond = rw (e, a .1) (put-beyond (mergedOf firsts seconds) buffer f (x .room));
-          holds = rw (e, a .1) (put-holds (mergedOf firsts seconds) buffer f (x .room));
-          scan = rw (e, a .1) (put-scan (mergedOf firsts seconds) buffer f (x .room));
+          length′ = d .0;
+          rises = d .3;
+          bytes = rw (e, d .0) (put-bytes (mergedOf firsts seconds) buffer f room);
+          beyond = rw (e, d .0) (put-beyond (mergedOf firsts seconds) buffer f room);
+          holds = rw (e, d .0) (put-holds (mergedOf firsts seconds) buffer f room);
+          scan = rw (e, d .0) (put-scan (mergedOf firsts seconds) buffer f room);
           count = merged-count firsts seconds;
         }
 

@@ -25,10 +25,10 @@ use Rattle.journal_spec.proofs.EvenChance.{worked-plain}
 use Rattle.journal_spec.proofs.Format.{whole-scan}
 use Rattle.journal_spec.proofs.Whole.{whole-records}
 use Rattle.merge_spec.specs.Records.{isAmong, select, undropped, before, from, byDay, mergedOf}
-use Rattle.merge_spec.specs.Merge.{merged, falls, noRoom, numberOf, MergeOutcome, mergeOf}
+use Rattle.merge_spec.specs.Merge.{merged, declinedAt, declined, mergeOf}
 use Rattle.merge_spec.proofs.Falls.{FirstFall}
 use Rattle.merge_spec.proofs.Rows.{refused}
-use Rattle.merge_spec.proofs.Answers.{answered-exactly, forms-fall, too-long, fall-number, room-number}
+use Rattle.merge_spec.proofs.Answers.{answered-exactly, forms-fall, too-long}
 
 -- document 01's leaf under a form
 unfoldable pub leafOf : ℕ → Record
@@ -141,26 +141,21 @@ the-fall = record {
 }
 
 -- form 2 in the first volume and form 1 in the second: 13 behind 33 bytes, and nothing is written
-pub fall-there : (buffer : List ℕ) → mergeOf (office 2) 33 (office 1) 33 buffer ≡ refused (falls 33) buffer
+pub fall-there : (buffer : List ℕ) → mergeOf (office 2) 33 (office 1) 33 buffer ≡ refused (declinedAt 13 33) buffer
 fall-there buffer =
     forms-fall (office 2) 33 (office 1) 33 buffer 1 33 1 33 (new .scan) (old .scan) 33 (rw (new .records, old .records, in-turn) the-fall)
 
-pub thirteen-there : (buffer : List ℕ) → numberOf (mergeOf (office 2) 33 (office 1) 33 buffer .answer) ≡ 13
-thirteen-there buffer = ap (λ (o : MergeOutcome). numberOf (o .answer)) (fall-there buffer) ∙ fall-number 33
-
 -- 33 bytes into a third buffer of 32: 9, and nothing is written
-pub no-room-there : mergeOf (office 1) 33 (office 1) 33 (replicate 32 0) ≡ refused noRoom (replicate 32 0)
+pub no-room-there : mergeOf (office 1) 33 (office 1) 33 (replicate 32 0) ≡ refused (declined 9) (replicate 32 0)
 unfolding leafOf
 no-room-there =
     too-long (office 1) 33 (office 1) 33 (replicate 32 0) 1 33 1 33 (old .scan) (old .scan)
     (rw (old .records, only-once) (omega arith, tt)) (rw (old .records, only-once) (inl (omega (arith, one-length))))
-
-pub nine-there : numberOf (mergeOf (office 1) 33 (office 1) 33 (replicate 32 0) .answer) ≡ 9
-nine-there = ap (λ (o : MergeOutcome). numberOf (o .answer)) no-room-there ∙ room-number
 
 -- into 33 or more: the leaf once, and its length is answered
 pub once-there : (buffer : List ℕ) → 33 ≤ length buffer → mergeOf (office 1) 33 (office 1) 33 buffer .answer ≡ merged 33
 unfolding leafOf
 once-there buffer h =
     answered-exactly (office 1) 33 (office 1) 33 buffer (merged 33) .1
-    (rw (old .records, only-once) ((1, 33, old .scan), (1, 33, old .scan), (omega arith, tt), (omega (arith, one-length), omega (arith, one-length)), sym one-length))
+    (rw (old .records, only-once)
+    (sym one-length, (1, 33, old .scan), (1, 33, old .scan), (omega arith, tt), (omega (arith, one-length), omega (arith, one-length))))

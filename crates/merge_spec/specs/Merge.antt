@@ -25,22 +25,14 @@ pub data Whose : Type 0 where
   ofFirst : Whose
   ofSecond : Whose
 
--- The answer: the result's length; whose fault it is, with its number and place as scan's; whose end is torn; the place in the result of a
--- form 1 after form 2, which is the record's first byte; or that there is no room.
+-- The answer: the result's length; whose fault it is, with its number and place as scan's; or declined, by the papers' number, with whose end is
+-- torn (16), with the place in the result of a form 1 after form 2, which is the record's first byte (13), or alone (9).
 pub data MergeResult : Type 0 where
   merged : ℕ → MergeResult
   damaged : Whose → ℕ → ℕ → MergeResult
-  endsTorn : Whose → MergeResult
-  falls : ℕ → MergeResult
-  noRoom : MergeResult
-
--- the papers' number of an answer, 0 for the result's length
-unfoldable pub numberOf : MergeResult → ℕ
-numberOf (merged n) = 0
-numberOf (damaged w n p) = n
-numberOf (endsTorn w) = tornRefusal
-numberOf (falls p) = oldFormRefusal
-numberOf noRoom = roomRefusal
+  declinedOf : Whose → ℕ → MergeResult
+  declinedAt : ℕ → ℕ → MergeResult
+  declined : ℕ → MergeResult
 
 -- the answer, and the third buffer after the call
 pub record MergeOutcome : Type 0 where
@@ -58,16 +50,16 @@ faultOf w (Scan.damaged n p) = some (damaged w n p)
 -- 16
 unfoldable pub tornOf : Whose → ScanResult → Option MergeResult
 tornOf w (whole n c) = none
-tornOf w (torn n c) = some (endsTorn w)
+tornOf w (torn n c) = some (declinedOf w tornRefusal)
 tornOf w (Scan.damaged n p) = none
 
 -- 13, at the first such place in the result
 unfoldable pub fallOf : List Record → Option MergeResult
-fallOf rs = elim (fallFrom 0 0 rs) [ none ↦ none | some p ↦ some (falls p) ]
+fallOf rs = elim (fallFrom 0 0 rs) [ none ↦ none | some p ↦ some (declinedAt oldFormRefusal p) ]
 
 -- 9: the result is longer than the third buffer or the longest journal
 unfoldable pub roomOf : List ℕ → List Record → Option MergeResult
-roomOf buffer rs = cond (leb (lengthsOf rs) (min (length buffer) maxLength)) none (some noRoom)
+roomOf buffer rs = cond (leb (lengthsOf rs) (min (length buffer) maxLength)) none (some (declined roomRefusal))
 
 -- the request's order, by both scans' answers and the records of the result
 unfoldable pub mergeRefusals : ScanResult → ScanResult → List Record → List ℕ → List (Option MergeResult)

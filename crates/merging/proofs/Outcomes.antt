@@ -54,7 +54,7 @@ measured-length rs n h = go (fallFrom 0 0 rs) h
     go (some q) h = unfold measuredBy in let z : _≡_ {A = ℕ} 0 1 = cc in absurd (omega arith)
 
 module _ (rs : List Record) (buffer : List ℕ) where
-  pub outcome-falls : (p : ℕ) → measuredOf rs ≡ M.Falls p → outcomeOf (MV.Falls p) buffer ≡ wholeOutcome rs buffer
+  pub outcome-falls : (p : ℕ) → measuredOf rs ≡ M.Falls p → outcomeOf (MV.DeclinedAt (record { number = 13; place = p })) buffer ≡ wholeOutcome rs buffer
   unfolding outcomeOf answerOf
   outcome-falls p h = sym (whole-falls rs buffer 0 0 0 0 p (measured-falls rs p h)) ∙ whole-rows 0 0 0 0 rs buffer
 
@@ -62,7 +62,7 @@ module _ (rs : List Record) (buffer : List ℕ) where
     pub outcome-length : lengthsOf rs ≡ n
     outcome-length = measured-length rs n h .1
 
-    pub outcome-no-room : min (length buffer) maxLength < n → outcomeOf MV.NoRoom buffer ≡ wholeOutcome rs buffer
+    pub outcome-no-room : min (length buffer) maxLength < n → outcomeOf (MV.Declined 9) buffer ≡ wholeOutcome rs buffer
     unfolding outcomeOf answerOf
     outcome-no-room k =
         sym (whole-long rs buffer 0 0 0 0 (measured-length rs n h .0) (omega (arith, outcome-length))) ∙ whole-rows 0 0 0 0 rs buffer
@@ -101,7 +101,7 @@ module _ (v : List ℕ) (len : ℕ) (u : List ℕ) (wlen : ℕ) (buffer : List �
   abbrev pub Means : Inputs → Type 0
   Means I.Whole = Ready
   Means (I.Damaged w f) = outcomeOf (MV.Damaged w f) buffer ≡ mergeOf v len u wlen buffer
-  Means (I.Torn w) = outcomeOf (MV.Torn w) buffer ≡ mergeOf v len u wlen buffer
+  Means (I.Torn w) = outcomeOf (MV.DeclinedOf w 16) buffer ≡ mergeOf v len u wlen buffer
 
   abbrev result : List Record
   result = mergedOf (recordsUpto v len) (recordsUpto u wlen)

@@ -5,7 +5,7 @@ use mathlib.Core.Bool.{Bool, true, false, cond}
 use mathlib.Core.List.{List}
 use Rattle.journal.specs.declared.Status.{Status}
 use Rattle.journal.specs.declared.Status.the-variants as J
-use Rattle.merge_spec.specs.Merge.{Whose, ofFirst, ofSecond, MergeResult, merged, damaged, endsTorn, falls, noRoom, numberOf, MergeOutcome}
+use Rattle.merge_spec.specs.Merge.{Whose, ofFirst, ofSecond, MergeResult, merged, damaged, declinedOf, declinedAt, declined, MergeOutcome}
 use Rattle.merging.specs.declared.Whose as W
 use Rattle.merging.specs.declared.Whose.the-variants as WV
 use Rattle.merging.specs.declared.Merged as M
@@ -20,13 +20,9 @@ whoseOf WV.Second = ofSecond
 unfoldable pub answerOf : M.Merged → MergeResult
 answerOf (MV.Length n) = merged n
 answerOf (MV.Damaged w f) = damaged (whoseOf w) (f .number) (f .place)
-answerOf (MV.Torn w) = endsTorn (whoseOf w)
-answerOf (MV.Falls p) = falls p
-answerOf MV.NoRoom = noRoom
-
--- the papers' number of each, 0 for the result's length
-unfoldable pub numberSaid : M.Merged → ℕ
-numberSaid r = numberOf (answerOf r)
+answerOf (MV.DeclinedOf w n) = declinedOf (whoseOf w) n
+answerOf (MV.DeclinedAt f) = declinedAt (f .number) (f .place)
+answerOf (MV.Declined n) = declined n
 
 -- with the third buffer after the call
 unfoldable pub outcomeOf : M.Merged → List ℕ → MergeOutcome

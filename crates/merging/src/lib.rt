@@ -30,19 +30,27 @@ mod stepping;
 // The longest journal, in bytes.
 const MAX_LENGTH: usize = 65_536;
 
+// Document 02's numbers: an input ends torn; form 1 after form 2 in the result; no room for it.
+const TORN_REFUSAL: u32 = 16;
+
+const OLD_FORM_REFUSAL: u32 = 13;
+
+const ROOM_REFUSAL: u32 = 9;
+
 // Whose: the first journal's or the second's.
 pub enum Whose {
     First,
     Second,
 }
 
-// The result's length; a journal's fault, as scan's; 16, whose end is torn; 13, the place in the result of a form 1 after form 2; 9, no room.
+// The result's length; a journal's fault, as scan's; or declined, with the refusal's number: 16 and whose end is torn, 13 and its place in the
+// result, or 9.
 pub enum Merged {
     Length(usize),
     Damaged { whose: Whose, fault: Fault },
-    Torn(Whose),
-    Falls(usize),
-    NoRoom,
+    DeclinedOf { whose: Whose, number: u32 },
+    DeclinedAt(Fault),
+    Declined(u32),
 }
 
 // The journals of two lengths in two slices, merged into a third buffer.
@@ -55,7 +63,10 @@ pub fn merge(v: &[u8], len: usize, w: &[u8], wlen: usize, out: &mut [u8]) -> Mer
     match s {
         Inputs::Whole => merge_whole(&v[..len], &w[..wlen], out),
         Inputs::Damaged { whose, fault } => Merged::Damaged { whose, fault },
-        Inputs::Torn(whose) => Merged::Torn(whose),
+        Inputs::Torn(whose) => Merged::DeclinedOf {
+            whose,
+            number: TORN_REFUSAL,
+        },
     }
 }
 
@@ -80,14 +91,17 @@ fn merge_sorted(a: &[u8], b: &[u8], sorted: &[u16], out: &mut [u8]) -> Merged
     match m {
         Measured::Length(n) => {
             if out.len() < n {
-                return Merged::NoRoom;
+                return Merged::Declined(ROOM_REFUSAL);
             }
             if MAX_LENGTH < n {
-                return Merged::NoRoom;
+                return Merged::Declined(ROOM_REFUSAL);
             }
             copy(a, b, sorted, out);
             Merged::Length(n)
         }
-        Measured::Falls(p) => Merged::Falls(p),
+        Measured::Falls(place) => Merged::DeclinedAt(Fault {
+            number: OLD_FORM_REFUSAL,
+            place,
+        }),
     }
 }

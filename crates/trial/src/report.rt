@@ -14,7 +14,6 @@ use crate::text::put_head;
 use arguments::Gathered;
 use hex::put;
 use journal::number_in;
-use trying::LINE_REFUSAL;
 use trying::Unknown;
 
 // Room for the longest index: an entry is shorter than its record.
@@ -46,7 +45,7 @@ pub(crate) fn try_log(fd: i32, v: &[u8]) {
         Unknown::Lines(n) => print_all(v, &index, &table, n),
         Unknown::Declined(n) => print_refusal(b"declined", n, 0),
         Unknown::Damaged(f) => print_refusal(b"damaged", f.number, f.place),
-        Unknown::Unread(place) => print_refusal(b"log", LINE_REFUSAL, place),
+        Unknown::DeclinedAt(f) => print_refusal(b"log", f.number, f.place),
     }
 }
 

@@ -10,11 +10,11 @@ use Rattle.journal_spec.specs.Profile.{plain}
 use Rattle.journal_spec.specs.Scan.{Placed, Contents, standing, faulty, contentsOf}
 use Rattle.journal_spec.specs.Index.{indexBytes, inFront, indexOf}
 use Rattle.trial_spec.specs.Links.{Link, LogRead, read, misread, logOf}
-use Rattle.trial_spec.specs.Trial.{unread, damaged, declined, Ready, ready, refused, readyOf}
+use Rattle.trial_spec.specs.Trial.{declinedAt, damaged, declined, Ready, ready, refused, readyOf}
 
 module _ (index : List ℕ) where
   -- 11 comes first, whatever the journal and the index hold
-  pub first-unread : (p : ℕ) (c : Contents) → readyOf (misread p) c index ≡ refused (unread p)
+  pub first-unread : (p : ℕ) (c : Contents) → readyOf (misread p) c index ≡ refused (declinedAt 11 p)
   unfolding readyOf
   first-unread p c = refl
 
@@ -25,7 +25,7 @@ module _ (index : List ℕ) where
 
   -- then 14, exactly where the index is not at the buffer's front
   module _ (ls : List Link) (ps : List Placed) (committed : ℕ) where
-    pub then-declined : inFront (indexBytes (indexOf ps)) index ≡ false → readyOf (read ls) (standing ps committed) index ≡ refused (declined indexRefusal)
+    pub then-declined : inFront (indexBytes (indexOf ps)) index ≡ false → readyOf (read ls) (standing ps committed) index ≡ refused (declined 14)
     unfolding readyOf
     then-declined h = rw h refl
 

@@ -1,5 +1,4 @@
--- The laws for the trial's code: the line at a place, a pass over the log's lines, what is counted in it, and the index's entries; and `Numbers`,
--- the papers' number of each answer.
+-- The laws for the trial's code: the line at a place, a pass over the log's lines, what is counted in it, and the index's entries.
 -- Assumes nothing.
 pub mod ByBytes
 pub mod Passes
@@ -15,4 +14,3 @@ pub mod Deciding
 pub mod NotIndexed
 pub mod Tabled
 pub mod InPieces
-pub mod Numbers

@@ -12,6 +12,7 @@ use crate::leaf::Answer;
 use crate::leaf::Trial;
 use crate::strangers::Unknown;
 use crate::strangers::try_unknown;
+use journal::Fault;
 use journal::number_in;
 
 // The numbers of a position.
@@ -98,7 +99,7 @@ fn links_of(answer: Answer) -> u64
         } => links,
         Answer::Declined(_) => 0,
         Answer::Damaged(_) => 0,
-        Answer::Unread(_) => 0,
+        Answer::DeclinedAt(_) => 0,
     }
 }
 
@@ -111,7 +112,10 @@ fn answer_after(before: Unknown, place: usize, here: Unknown) -> Unknown
         Unknown::Lines(n) => Unknown::Lines(std::num::wrapping_add_u64(lines, n)),
         Unknown::Declined(n) => Unknown::Declined(n),
         Unknown::Damaged(f) => Unknown::Damaged(f),
-        Unknown::Unread(p) => Unknown::Unread(std::num::wrapping_add_usize(place, p)),
+        Unknown::DeclinedAt(f) => Unknown::DeclinedAt(Fault {
+            number: f.number,
+            place: std::num::wrapping_add_usize(place, f.place),
+        }),
     }
 }
 
@@ -123,6 +127,6 @@ fn lines_of(answer: Unknown) -> u64
         Unknown::Lines(n) => n,
         Unknown::Declined(_) => 0,
         Unknown::Damaged(_) => 0,
-        Unknown::Unread(_) => 0,
+        Unknown::DeclinedAt(_) => 0,
     }
 }

@@ -7,17 +7,17 @@ ghost use Rattle.trying.specs.Answers.{answeredBy, refusedUnless, startO
 ghost use Rattle.trying.specs.Owning.{Owned};
 use crate::counting::count_links;
 use crate::leaf::Answer;
+use crate::leaf::LINE_REFUSAL;
 use crate::leaf::Trial;
 use crate::leaf::try_leaf;
 use entries::entry_place;
 use entries::start_at;
 use indexing::Checked;
 use indexing::check_index;
+use journal::Fault;
 use journal::number_in;
 
-// Document 02's number for an index that is not the journal's, and for a position that it does not have.
-pub(crate) const INDEX_REFUSAL: u32 = 14;
-
+// Document 02's number for a position that the index does not have.
 const ABSENT_REFUSAL: u32 = 10;
 
 // The trial at a position of the index.
@@ -27,7 +27,7 @@ pub fn try_entry(log: &[u8], v: &[u8], len: usize, index: &[u8], position: usize
     let s = check_index(v, len, index);
     match s {
         Checked::Own => own_trial(log, v, len, index, position),
-        Checked::Other => refuse(log, Answer::Declined(INDEX_REFUSAL)),
+        Checked::Declined(number) => refuse(log, Answer::Declined(number)),
         Checked::Damaged(fault) => refuse(log, Answer::Damaged(fault)),
     }
 }
@@ -60,7 +60,10 @@ fn refuse(log: &[u8], answer: Answer) -> Trial
     let c = count_links(log, b"", b"");
     if c.unread {
         return Trial {
-            answer: Answer::Unread(c.place),
+            answer: Answer::DeclinedAt(Fault {
+                number: LINE_REFUSAL,
+                place: c.place,
+            }),
             overs: [0; 8],
         };
     }

@@ -11,11 +11,11 @@ use crate::lowest::lowest;
 use journal::Fault;
 use journal::number_in;
 
-// Document 02's number for a line of the log that is refused: that of every `Unread`.
-pub const LINE_REFUSAL: u32 = 11;
+// Document 02's number for a line of the log that is refused.
+pub(crate) const LINE_REFUSAL: u32 = 11;
 
-// The links, how many chances there are, and the lowest that was overrun, 0 for none; or a refusal: 14 or 10; the journal's fault; or 11, the
-// place of the log's line.
+// The links, how many chances there are, and the lowest that was overrun, 0 for none; or a refusal with its number: 14 or 10; the journal's fault;
+// or 11 with the place of the log's line.
 pub enum Answer {
     Tried {
         links: u64,
@@ -24,7 +24,7 @@ pub enum Answer {
     },
     Declined(u32),
     Damaged(Fault),
-    Unread(usize),
+    DeclinedAt(Fault),
 }
 
 // The answer, and the overs at each chance, 0 where there is none.
@@ -59,7 +59,10 @@ fn finish(c: Counts, count: usize, chances: &[u8]) -> Trial
     let overs = c.overs;
     if c.unread {
         return Trial {
-            answer: Answer::Unread(c.place),
+            answer: Answer::DeclinedAt(Fault {
+                number: LINE_REFUSAL,
+                place: c.place,
+            }),
             overs,
         };
     }

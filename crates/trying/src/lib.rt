@@ -15,7 +15,6 @@ pub use calls::try_entry;
 pub use counting::Counts;
 pub use counting::count_links;
 pub use leaf::Answer;
-pub use leaf::LINE_REFUSAL;
 pub use leaf::Trial;
 pub use lowest::exceeds;
 pub use strangers::Unknown;

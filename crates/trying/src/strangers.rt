@@ -5,19 +5,19 @@ ghost use Rattle.trial_spec.specs.Links.{logOf};
 ghost use Rattle.trial_spec.specs.Trial.{tryUnknown};
 ghost use Rattle.trying.specs.Owning.{Owned};
 ghost use Rattle.trying.specs.Strangers.{unknownBy, unknownUnless};
-use crate::calls::INDEX_REFUSAL;
 use crate::counting::count_links;
+use crate::leaf::LINE_REFUSAL;
 use crate::unknown::count_unknown;
 use indexing::Checked;
 use indexing::check_index;
 use journal::Fault;
 
-// The lines; or 14; the journal's fault; or 11, the place of the log's line.
+// The lines; or a refusal with its number: 14; the journal's fault; or 11 with the place of the log's line.
 pub enum Unknown {
     Lines(u64),
     Declined(u32),
     Damaged(Fault),
-    Unread(usize),
+    DeclinedAt(Fault),
 }
 
 // The lines with unknown names.
@@ -27,7 +27,7 @@ pub fn try_unknown(log: &[u8], v: &[u8], len: usize, index: &[u8]) -> Unknown
     let s = check_index(v, len, index);
     match s {
         Checked::Own => own_unknown(log, v, len, index),
-        Checked::Other => refuse_unknown(log, Unknown::Declined(INDEX_REFUSAL)),
+        Checked::Declined(number) => refuse_unknown(log, Unknown::Declined(number)),
         Checked::Damaged(fault) => refuse_unknown(log, Unknown::Damaged(fault)),
     }
 }
@@ -39,7 +39,10 @@ fn own_unknown(log: &[u8], v: &[u8], len: usize, index: &[u8]) -> Unknown
 {
     let u = count_unknown(log, index);
     if u.unread {
-        return Unknown::Unread(u.place);
+        return Unknown::DeclinedAt(Fault {
+            number: LINE_REFUSAL,
+            place: u.place,
+        });
     }
     Unknown::Lines(u.lines)
 }
@@ -50,7 +53,10 @@ fn refuse_unknown(log: &[u8], answer: Unknown) -> Unknown
 {
     let c = count_links(log, b"", b"");
     if c.unread {
-        return Unknown::Unread(c.place);
+        return Unknown::DeclinedAt(Fault {
+            number: LINE_REFUSAL,
+            place: c.place,
+        });
     }
     answer
 }

@@ -9,7 +9,7 @@ use borrow.Author.Needs.{needs}
 use lib.ListN.{length, take, getD}
 use lib.Seq.{length-take-le}
 use denote.Ref.{now}
-use Rattle.journal_spec.specs.MakeIndex.{own, notOwn, checkIndexOf}
+use Rattle.journal_spec.specs.CheckIndex.{own, declined, checkIndexOf}
 use Rattle.journal_spec.proofs.Whole.{WholeBytes}
 use Rattle.indexing.specs.Checked.{checkMeaning}
 use Rattle.indexing.proofs.Checking.{stands-fits, stands-whole, stands-checked, damaged-checked}
@@ -37,7 +37,7 @@ whole c =
 
 told : (c : tie.After-is-own)
     → let a = c .before .before .before .before .before .before .before .before .args in
-    cond (c .is-own .result) own notOwn ≡ checkIndexOf (record { slice = now (a .v); len = a .len }) (now (a .index))
+    cond (c .is-own .result) own (declined 14) ≡ checkIndexOf (record { slice = now (a .v); len = a .len }) (now (a .index))
 told c =
     let x = c .before .before .before .x .given in
     let read = c .before .before .before .before .before .contents-of .ensures in
@@ -45,11 +45,11 @@ told c =
 
 returns : tie.Need-returns
 unfolding checkMeaning
-returns c = ap (λ (t : Bool). cond t own notOwn) (sym (c .if1 .taken)) ∙ told (c .before)
+returns c = ap (λ (t : Bool). cond t own (declined 14)) (sym (c .if1 .taken)) ∙ told (c .before)
 
 returns-2 : tie.Need-returns-2
 unfolding checkMeaning
-returns-2 c = ap (λ (t : Bool). cond t own notOwn) (sym (c .if1 .left)) ∙ told (c .before)
+returns-2 c = ap (λ (t : Bool). cond t own (declined 14)) (sym (c .if1 .left)) ∙ told (c .before)
 
 returns-3 : tie.Need-returns-3
 unfolding checkMeaning
