@@ -3,4 +3,5 @@
 mod fraction;
 mod text;
 
+pub use text::MAX_TEXT;
 pub use text::put_exact;

@@ -19,7 +19,7 @@ pub use head::head_line;
 pub use width::name_width;
 
 // The longest line of a report at up to eight chances: law `report-fits`.
-pub const MAX_LINE: usize = 316;
+pub const MAX_LINE: usize = 204;
 
 // The line of an index's entry at a position from 0, at the front of the buffer, with the limits at the chances asked for, or with all where none
 // is. Answers how many bytes it takes. With the journal's own index it is that of the last standing record of that name.
