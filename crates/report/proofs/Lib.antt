@@ -1,2 +1,2 @@
--- How long the lines of a record's figures are.
-pub mod Fits
+-- The program's proofs need no law of its own.
+-- Assumes nothing.

@@ -1,2 +1,2 @@
--- The lines of a record's figures. The program is else thin over crates listing, calendar and ticks.
-pub mod Lines
+-- No definitions: the program is thin over crates listing, calendar and ticks.
+-- Assumes nothing.

@@ -1,8 +1,5 @@
 // The record's lines, each made in a buffer of its own and printed: every field in words, or the times alone.
-// The texts of dates, ticks and numbers are those of crates calendar, ticks and hex. No other line is as long as a limit's.
-use crate::figures::MAX_LINE;
-use crate::figures::limit_line;
-use crate::figures::moment_line;
+// The texts of dates, ticks and numbers are those of crates calendar, ticks and hex. No line is longer than a limit's may be.
 use calendar::put_date;
 use hex::put;
 use hex::put_decimal;
@@ -13,6 +10,9 @@ use listing::moments::mean_bits;
 use listing::moments::moments_in;
 use listing::moments::spread_bits;
 use listing::spans::spans_at;
+use slotting::MAX_FIGURE;
+use slotting::limit_line;
+use slotting::moment_line;
 use ticks::put_milliseconds;
 
 // Every field of the record at a place.
@@ -87,7 +87,7 @@ fn limit_at(v: &[u8], first: usize, i: usize) -> u64 {
 
 // `record 2 of 5`: the position, counted from 0, and how many records stand.
 fn print_position(i: usize, records: usize) -> bool {
-    let mut out = [0u8; MAX_LINE];
+    let mut out = [0u8; MAX_FIGURE];
     let p = put_number(&mut out, 0, b"record ", i as u64);
     let q = put_number(&mut out, p, b" of ", records as u64);
     print_line(&mut out, q, b"\n")
@@ -102,7 +102,7 @@ fn print_name(v: &[u8], first: usize, count: usize) -> bool {
         return false;
     }
     let last = first + count;
-    let mut out = [0u8; MAX_LINE];
+    let mut out = [0u8; MAX_FIGURE];
     let p = put(&mut out, 0, b"name ");
     let end = put(&mut out, p, &v[first..last]);
     print_line(&mut out, end, b"\n")
@@ -110,7 +110,7 @@ fn print_name(v: &[u8], first: usize, count: usize) -> bool {
 
 // The form, and what D is divided by.
 fn print_form(form: u64) -> bool {
-    let mut out = [0u8; MAX_LINE];
+    let mut out = [0u8; MAX_FIGURE];
     let p = put_number(&mut out, 0, b"form ", form);
     if form == 1 {
         return print_line(&mut out, p, b": the spread divides D by n * n\n");
@@ -120,7 +120,7 @@ fn print_form(form: u64) -> bool {
 
 // The date and the day.
 fn print_day(day: u16) -> bool {
-    let mut out = [0u8; MAX_LINE];
+    let mut out = [0u8; MAX_FIGURE];
     let p = put(&mut out, 0, b"date ");
     let q = put_date(&mut out, p, day);
     let end = put_number(&mut out, q, b", day ", day as u64);
@@ -164,7 +164,7 @@ fn print_ticks(v: &[u8], first: usize, count: usize) -> bool {
 
 // A number behind a text.
 fn print_count(what: &[u8], count: u64) -> bool {
-    let mut out = [0u8; MAX_LINE];
+    let mut out = [0u8; MAX_FIGURE];
     let end = put_number(&mut out, 0, what, count);
     print_line(&mut out, end, b"\n")
 }
@@ -176,7 +176,7 @@ fn put_number(out: &mut [u8], place: usize, what: &[u8], n: u64) -> usize {
 }
 
 fn print_tick(t: u64) -> bool {
-    let mut out = [0u8; MAX_LINE];
+    let mut out = [0u8; MAX_FIGURE];
     let p = put_number(&mut out, 0, b"time ", t);
     let q = put(&mut out, p, b" ticks, ");
     let count = ticks::Count {
@@ -202,14 +202,14 @@ fn print_limits(v: &[u8], chances: usize, limits: usize, count: usize) {
 
 // Its bits, its exact decimal, and what it is rounded up to.
 fn print_limit(chance: u64, limit: u64) -> bool {
-    let mut out = [0u8; MAX_LINE];
+    let mut out = [0u8; MAX_FIGURE];
     let size = limit_line(&mut out, chance, limit);
     print_text(&out, size)
 }
 
 // The mean or the spread: its bits, its exact decimal, and the nearest tick.
 fn print_moment(what: &[u8], bits: u64) -> bool {
-    let mut out = [0u8; MAX_LINE];
+    let mut out = [0u8; MAX_FIGURE];
     let size = moment_line(&mut out, what, bits);
     print_text(&out, size)
 }

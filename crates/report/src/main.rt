@@ -1,6 +1,5 @@
 // Prints what planners and the records office read of a journal, document 01's volume, that it reads from standard input: `report slots`, for each name its
 // last record with every limit in milliseconds, and `report record`, one record with every field in words, or its times alone.
-mod figures;
 mod find;
 mod input;
 mod lines;

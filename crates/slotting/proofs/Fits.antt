@@ -85,15 +85,16 @@ no-limit-short : ShortLimit noLimit
 unfolding ofBits inRange wholeBy ticksUp ticksText
 no-limit-short = leb→le 1 maxSlot tt
 
+either-short : (l m : ℕ) (t : Bool) → ShortLimit l → ShortLimit m → ShortLimit (cond t l m)
+either-short l m true h k = h
+either-short l m false h k = k
+
 limit-for-short : (cs ls : List ℕ) → ShortLimits ls → (c : ℕ) → ShortLimit (limitFor c (quotesOf cs ls))
 unfolding limitFor quotesOf
 limit-for-short [] ls short c = no-limit-short
 limit-for-short (d ∷ cs) [] short c = no-limit-short
-limit-for-short (d ∷ cs) (l ∷ ls) short c = go (eqb d c)
-  where
-    go : (t : Bool) → ShortLimit (cond t l (limitFor c (quotesOf cs ls)))
-    go true = short 0 (omega arith)
-    go false = limit-for-short cs ls (λ i k. short (suc i) (omega arith)) c
+limit-for-short (d ∷ cs) (l ∷ ls) short c =
+    either-short l (limitFor c (quotesOf cs ls)) (eqb d c) (short 0 (omega arith)) (limit-for-short cs ls (λ i k. short (suc i) (omega arith)) c)
 
 asked-most : (tabs : Bool) (cs : List ℕ) (qs : List Quote) → Each 0 999_999 cs → ((c : ℕ) → ShortLimit (limitFor c qs))
     → length (askedColumns tabs cs qs) ≤ 17 * length cs

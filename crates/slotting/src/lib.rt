@@ -1,5 +1,5 @@
 // The planner's report of a journal, a line for each name, by the journal's index (request 2026-08): the width of the names' column, the head, and the
-// line of the entry at a position. Nothing is assumed of the bytes, and no record is searched for.
+// line of the entry at a position. Nothing is assumed of the bytes, and no record is searched for. And the lines of one record's figures.
 ghost use mathlib.Core.Path.{_≡_};
 ghost use Rattle.entries.specs.Entries.{entriesIn};
 ghost use Rattle.entries.specs.Answers.{startMeaning};
@@ -12,9 +12,13 @@ use journal::number_in;
 use planning::Layout;
 use planning::slot_line;
 
+mod figures;
 mod head;
 mod width;
 
+pub use figures::MAX_FIGURE;
+pub use figures::limit_line;
+pub use figures::moment_line;
 pub use head::head_line;
 pub use width::name_width;
 

@@ -2,7 +2,7 @@
 // What has no room is left out, as in crate hex.
 ghost use mathlib.Core.Path.{_≡_};
 ghost use Rattle.hex.specs.Text.{Put};
-ghost use Rattle.report.specs.Lines.{doubleText, limitLine, momentLine};
+ghost use Rattle.slotting.specs.Figures.{doubleText, limitLine, momentLine};
 use decimal::put_exact;
 use hex::put;
 use hex::put_decimal;
@@ -10,11 +10,11 @@ use ticks::put_ticks;
 use ticks::ticks_near;
 use ticks::ticks_up;
 
-// The most bytes that such a line takes, of a record that may stand: law `lines-fit`.
-pub(crate) const MAX_LINE: usize = 156;
+// The most bytes that such a line takes, of a record that may stand: law `figures-fit`.
+pub const MAX_FIGURE: usize = 156;
 
 // The line of a limit with its chance, and how many bytes it takes.
-pub(crate) fn limit_line(out: &mut [u8], chance: u64, limit: u64) -> usize
+pub fn limit_line(out: &mut [u8], chance: u64, limit: u64) -> usize
     ensures { λ r. ⌜ Put (now (out .entry)) 0 (limitLine chance limit) (now (out .exit)) r ⌝ }
 {
     let p = put(out, 0, b"limit at ");
@@ -26,7 +26,7 @@ pub(crate) fn limit_line(out: &mut [u8], chance: u64, limit: u64) -> usize
 }
 
 // The line of a mean or a spread, behind its words, and how many bytes it takes.
-pub(crate) fn moment_line(out: &mut [u8], what: &[u8], bits: u64) -> usize
+pub fn moment_line(out: &mut [u8], what: &[u8], bits: u64) -> usize
     ensures { λ r. ⌜ Put (now (out .entry)) 0 (momentLine (now (what .entry)) bits) (now (out .exit)) r ⌝ }
 {
     let p = put_double(out, 0, what, bits);

@@ -1,4 +1,4 @@
--- How long the lines of a record's figures are: for every record that may stand, a buffer of `maxLine` bytes holds them. A limit whose exact decimal takes
+-- How long the lines of a record's figures are: for every record that may stand, a buffer of `maxFigure` bytes holds them. A limit whose exact decimal takes
 -- all of its 63 bytes is below 2 ^ -7 in size and has fewer in milliseconds than the nine reckoned here: no line takes all 156. Assumes nothing.
 use Prim.Native.Nat.{ℕ, _+_, _≤_, _<_}
 use mathlib.Core.Path.{_≡_, subst}
@@ -20,7 +20,8 @@ use Rattle.journal_spec.specs.Record.{Record, Last}
 use Rattle.journal_spec.specs.Ranges.{RecordRanges}
 use Rattle.shown.specs.Shown.{maxMoment, maxSlot}
 use Rattle.shown.proofs.Records.{shown-record}
-use Rattle.report.specs.Lines.{limitWord, chanceWord, meanWord, spreadWord, exactWord, upWord, nearWord, lastWord, doubleText, limitLine, momentLine, maxLine}
+use Rattle.slotting.specs.Figures.{limitWord, chanceWord, meanWord, spreadWord, exactWord, upWord, nearWord, lastWord}
+use Rattle.slotting.specs.Figures.{doubleText, limitLine, momentLine, maxFigure}
 
 double-most : (what : List ℕ) (bits : ℕ) → length (doubleText what bits) ≤ length what + 89
 unfolding doubleText
@@ -32,9 +33,9 @@ double-most what bits =
     )
     (omega (arith, length-digits 16 16 bits, exact-text-most (ofBits binary64 bits) (ofBits-fits binary64 bits)))
 
-limit-most : (c l : ℕ) → c ≤ 999_999 → length (ticksText (ticksUp (ofBits binary64 l))) ≤ maxSlot → length (limitLine c l) ≤ maxLine
+limit-line-most : (c l : ℕ) → c ≤ 999_999 → length (ticksText (ticksUp (ofBits binary64 l))) ≤ maxSlot → length (limitLine c l) ≤ maxFigure
 unfolding limitLine
-limit-most c l h s =
+limit-line-most c l h s =
     let first : List ℕ = limitWord ++ decimalDigits c in
     let second : List ℕ = doubleText chanceWord l in
     let third : List ℕ = ticksText (ticksUp (ofBits binary64 l)) in
@@ -46,10 +47,10 @@ limit-most c l h s =
     )
     (omega (arith, decimal-most 6 c (omega arith) (omega arith), double-most chanceWord l, s))
 
-moment-most : (what : List ℕ) (b : ℕ) → length what ≤ 12 → length (ticksText (ticksNear (ofBits binary64 b))) ≤ maxMoment
-    → length (momentLine what b) ≤ maxLine
+moment-line-most : (what : List ℕ) (b : ℕ) → length what ≤ 12 → length (ticksText (ticksNear (ofBits binary64 b))) ≤ maxMoment
+    → length (momentLine what b) ≤ maxFigure
 unfolding momentLine
-moment-most what b h s =
+moment-line-most what b h s =
     let third : List ℕ = ticksText (ticksNear (ofBits binary64 b)) in
     rw (
       length-append (doubleText what b ++ nearWord ++ third),
@@ -59,16 +60,16 @@ moment-most what b h s =
     (omega (arith, double-most what b, s))
 
 -- of a record that may stand
-pub record LinesFit (r : Record) : Type 0 where
-  pub mean : length (momentLine meanWord (toBits binary64 (meanOf (length (r .times)) (sumOf (r .times))))) ≤ maxLine
-  pub spread : length (momentLine spreadWord (toBits binary64 (spreadOf (r .form) (length (r .times)) (sumOf (r .times)) (squaresOf (r .times))))) ≤ maxLine
-  pub limits : (i : ℕ) → i < length (r .limits) → length (limitLine (getD (r .chances) i 0) (getD (r .limits) i 0)) ≤ maxLine
+pub record FiguresFit (r : Record) : Type 0 where
+  pub mean : length (momentLine meanWord (toBits binary64 (meanOf (length (r .times)) (sumOf (r .times))))) ≤ maxFigure
+  pub spread : length (momentLine spreadWord (toBits binary64 (spreadOf (r .form) (length (r .times)) (sumOf (r .times)) (squaresOf (r .times))))) ≤ maxFigure
+  pub limits : (i : ℕ) → i < length (r .limits) → length (limitLine (getD (r .chances) i 0) (getD (r .limits) i 0)) ≤ maxFigure
 
-pub lines-fit : (last : Last) (r : Record) → RecordRanges last r → LinesFit r
-lines-fit last r k =
+pub figures-fit : (last : Last) (r : Record) → RecordRanges last r → FiguresFit r
+figures-fit last r k =
     let shown = shown-record last r k in
     record {
-      mean = moment-most meanWord _ (omega arith) (shown .mean .short);
-      spread = moment-most spreadWord _ (omega arith) (shown .spread .short);
-      limits = λ i h. limit-most _ _ (k .chances .range i (subst (λ (m : ℕ). i < m) (k .limitCount) h) .1) (shown .limits i h .short);
+      mean = moment-line-most meanWord _ (omega arith) (shown .mean .short);
+      spread = moment-line-most spreadWord _ (omega arith) (shown .spread .short);
+      limits = λ i h. limit-line-most _ _ (k .chances .range i (subst (λ (m : ℕ). i < m) (k .limitCount) h) .1) (shown .limits i h .short);
     }

@@ -55,6 +55,6 @@ limitLine chance limit =
 unfoldable pub momentLine : List ℕ → ℕ → List ℕ
 momentLine what bits = doubleText what bits ++ nearWord ++ ticksText (ticksNear (ofBits binary64 bits)) ++ lastWord
 
--- the most bytes of these lines
-abbrev pub maxLine : ℕ
-maxLine = 156
+-- the most bytes of these lines: nine and six of a limit's chance, twenty more words, 16 digits, ten, 63 of its decimal, 19, nine of its ticks and four
+abbrev pub maxFigure : ℕ
+maxFigure = 156
