@@ -3,5 +3,4 @@
 mod fraction;
 mod text;
 
-pub use text::MAX_TEXT;
 pub use text::put_exact;

@@ -17,9 +17,6 @@ const END: u64 = 0x4340_0000_0000_0000;
 
 const MOST: u64 = 60;
 
-// The most bytes that a text takes: law `exact-text-most`.
-pub const MAX_TEXT: usize = 63;
-
 // Puts the exact decimal of the double with the pattern b, or a dash, and answers the place behind it.
 pub fn put_exact(line: &mut [u8], place: usize, b: u64) -> usize
     ensures { λ r. ⌜ Put (now (line .entry)) place (exactText (ofBits binary64 b)) (now (line .exit)) r ⌝ }
