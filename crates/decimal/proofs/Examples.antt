@@ -2,10 +2,11 @@
 use mathlib.Core.Path.{_≡_, refl}
 use mathlib.Core.List.{[], _∷_, _++_}
 use lib.Count.{trailingZeros}
+use lib.ListN.{length}
 use lib.Ieee.{binary64, odd, ofFields, ofBits}
 use Rattle.hex.specs.Hex.{digits, glyphOf, orMore, placesIn, placesOf, decimalDigits}
 use Rattle.ticks.specs.Ticks.{inRange}
-use Rattle.decimal.specs.Decimal.{fractionText, signedText, isShown, exactText}
+use Rattle.decimal.specs.Decimal.{fractionText, signedText, isShown, exactText, maxText}
 
 -- 0, -0, 0.5, -2.5 and 100; 0.1, whose double has 55 digits behind the point; 143.70.., the paper's worked limit, with 44
 record Shown : Type 0 where
@@ -32,6 +33,7 @@ shown =
     }
 
 -- 2 ^ -60 is shown, 2 ^ -61 is not; 2 ^ 53 - 1 is shown, 2 ^ 53 is not; an infinity and a NaN are not
+-- -2 ^ -60 takes all the bytes that a text may have
 record Ends : Type 0 where
   last-place : exactText (ofBits binary64 0x3c30_0000_0000_0000) ≡ 48 ∷ 46 ∷ digits 10 60 867361737988403547205962240695953369140625
   beyond-it : exactText (ofBits binary64 0x3c20_0000_0000_0000) ≡ 45 ∷ []
@@ -39,7 +41,8 @@ record Ends : Type 0 where
   too-large : exactText (ofBits binary64 0x4340_0000_0000_0000) ≡ 45 ∷ []
   infinity : exactText (ofBits binary64 0x7ff0_0000_0000_0000) ≡ 45 ∷ []
   none : exactText (ofBits binary64 0x7ff8_0000_0000_0000) ≡ 45 ∷ []
+  longest : length (exactText (ofBits binary64 0xbc30_0000_0000_0000)) ≡ maxText
 
 ends : Ends
 unfolding trailingZeros odd ofFields ofBits digits glyphOf orMore placesIn placesOf decimalDigits inRange fractionText signedText isShown exactText
-ends = record { last-place = refl; beyond-it = refl; last-whole = refl; too-large = refl; infinity = refl; none = refl }
+ends = record { last-place = refl; beyond-it = refl; last-whole = refl; too-large = refl; infinity = refl; none = refl; longest = refl }

@@ -1,51 +1,67 @@
--- How long the text of a double is: 78 bytes hold a sign, 16 digits, a point and 60 digits. Assumes nothing.
+-- How long the text of a double is: 63 bytes hold it. It has at most 53 binary digits, so that with more than 45 of them behind the point at most three
+-- decimal ones are before it, and one with more than 58; -2 ^ -60 needs all 63 (`longest`, Examples). Assumes nothing.
 use mathlib.Core.Path.{_≡_, refl}
 use mathlib.Core.Bool.{Bool, true, false, cond}
 use mathlib.Core.List.{[], _∷_}
-use Prim.Native.Nat.{ℕ, zero, suc, _-_, _*_, _/_, _^_, _≤_, _<_}
-use native.Mathlib.Nat.{div-lt-iff-lt-mul}
+use Prim.Native.Nat.{ℕ, zero, suc, _+_, _-_, _*_, _/_, _^_, _≤_, _<_}
+use native.Mathlib.Nat.{div-lt-iff-lt-mul, mul-le-mul-left, pow-le-pow-right}
 use native.Mathlib.Omega.{arith}
+use lib.Dec.{T}
 use lib.ListN.{length, length-append}
 use lib.Pow.{pow-pos}
-use lib.Ieee.{Float}
+use lib.Ieee.{Float, binary64, fits}
 use lib.Ieee.Positive.{num}
 use Rattle.hex.specs.Hex.{digits, decimalDigits}
+use Rattle.hex.proofs.Cases.{split}
 use Rattle.hex.proofs.Counting.{decimal-most}
 use Rattle.hex.proofs.Writing.{length-digits}
 use Rattle.ticks.specs.Ticks.{minusOf}
 use Rattle.ticks.specs.Text.{minusSign, point}
-use Rattle.decimal.specs.Decimal.{placesBehind, fractionText, signedText, mostPlaces, isShown, exactText}
-use Rattle.decimal.proofs.LowestTerms.{places-den}
+use Rattle.decimal.specs.Decimal.{placesBehind, fractionText, signedText, mostPlaces, isShown, exactText, maxText}
+use Rattle.decimal.proofs.LowestTerms.{places-den, own-parts}
 use Rattle.decimal.proofs.Shown.{shown-in}
 
--- the most bytes of a text
-abbrev pub maxText : ℕ
-maxText = 78
+-- the digits before the point, with so many binary ones behind it
+before-most : (m k i j : ℕ) → 0 < j → m < 2 ^ 53 → 2 ^ 53 ≤ 10 ^ j * 2 ^ i → i ≤ k → length (decimalDigits (m / 2 ^ k)) ≤ j
+before-most m k i j pos h l b =
+    let power : 2 ^ i ≤ 2 ^ k = pow-le-pow-right (omega arith) b in
+    let more = mul-le-mul-left (10 ^ j) power in
+    decimal-most j (m / 2 ^ k) pos (div-lt-iff-lt-mul (pow-pos k) .1 (omega arith))
 
-fraction-most : (m k : ℕ) → m < 2 ^ 53 * 2 ^ k → k ≤ mostPlaces → length (fractionText m k) ≤ 77
+behind-most : (m k : ℕ) → m < 2 ^ 53 → k ≤ mostPlaces → length (decimalDigits (m / 2 ^ k)) + k ≤ 61
+behind-most m k h l =
+    split k 45 (λ a. omega (arith, before-most m k 0 16 (omega arith) h (omega arith) (omega arith)))
+    (λ a.
+    split k 58 (λ b. omega (arith, before-most m k 46 3 (omega arith) h (omega arith) a))
+    (λ b. omega (arith, before-most m k 59 1 (omega arith) h (omega arith) b)))
+
+fraction-most : (m k : ℕ) → m < 2 ^ 53 → k ≤ mostPlaces → length (fractionText m k) ≤ 62
 unfolding fractionText
 fraction-most m zero h l = omega (arith, decimal-most 16 m (omega arith) (omega arith))
 fraction-most m (suc k) h l =
-    let few : m / 2 ^ suc k < 2 ^ 53 = div-lt-iff-lt-mul (pow-pos (suc k)) .1 h in
-    let whole = decimal-most 16 (m / 2 ^ suc k) (omega arith) (omega arith) in
     rw (length-append (decimalDigits (m / 2 ^ suc k)) (point ∷ digits 10 (suc k) (m * 5 ^ suc k)))
-    (omega (arith, whole, length-digits 10 (suc k) (m * 5 ^ suc k)))
+    (omega (arith, behind-most m (suc k) h l, length-digits 10 (suc k) (m * 5 ^ suc k)))
 
-signed-most : (s : Bool) (m k : ℕ) → length (fractionText m k) ≤ 77 → length (signedText s m k) ≤ maxText
+signed-most : (s : Bool) (m k : ℕ) → length (fractionText m k) ≤ 62 → length (signedText s m k) ≤ maxText
 unfolding signedText
 signed-most true m k h = omega arith
 signed-most false m k h = omega arith
 
-shown-most : (x : Float) → isShown x ≡ true → length (signedText (minusOf x) (num x) (placesBehind x)) ≤ maxText
-shown-most x h =
+-- of a double below 2 ^ 53 that is a whole number the numerator is that number
+few-digits : (x : Float) (k : ℕ) → T (fits binary64 x) → placesBehind x ≡ k → num x < 2 ^ 53 * 2 ^ k → num x < 2 ^ 53
+few-digits x zero f e h = omega arith
+few-digits x (suc k) f e h = own-parts x f (omega arith) .1
+
+shown-most : (x : Float) → T (fits binary64 x) → isShown x ≡ true → length (signedText (minusOf x) (num x) (placesBehind x)) ≤ maxText
+shown-most x f h =
     let told = shown-in x h in
     signed-most (minusOf x) (num x) (placesBehind x)
-    (fraction-most (num x) (placesBehind x) (rw (places-den x) at (told .1)) (told .2))
+    (fraction-most (num x) (placesBehind x) (few-digits x (placesBehind x) f refl (rw (places-den x) at (told .1))) (told .2))
 
-pub exact-text-most : (x : Float) → length (exactText x) ≤ maxText
+pub exact-text-most : (x : Float) → T (fits binary64 x) → length (exactText x) ≤ maxText
 unfolding exactText
-exact-text-most x = go (isShown x) refl
+exact-text-most x f = go (isShown x) refl
   where
     go : (t : Bool) → isShown x ≡ t → length (cond t (signedText (minusOf x) (num x) (placesBehind x)) (minusSign ∷ [])) ≤ maxText
-    go true e = shown-most x e
+    go true e = shown-most x f e
     go false e = omega arith

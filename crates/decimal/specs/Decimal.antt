@@ -41,3 +41,7 @@ isShown x = inRange x && leb (placesBehind x) mostPlaces
 unfoldable pub exactText : Float → List ℕ
 unfolding signedText isShown
 exactText x = cond (isShown x) (signedText (minusOf x) (num x) (placesBehind x)) (minusSign ∷ [])
+
+-- the most bytes that a text has: a sign, a digit, a point and 60 digits. A double with more before the point has fewer behind it
+abbrev pub maxText : ℕ
+maxText = 63

@@ -1,5 +1,6 @@
 -- A stored x: f_erfcinv there and at 2 - x, and the tally of many lines. Definitions only.
-use Prim.Native.Nat.{ℕ}
+use Prim.Native.Nat.{ℕ, _≤_}
+use mathlib.Core.Path.{_≡_}
 use mathlib.Core.Bool.{true, false, cond}
 use mathlib.Core.List.{List, [], _∷_, _++_}
 use lib.Dec.{eqb}
@@ -9,7 +10,7 @@ use Rattle.lines.specs.Lines.{fieldOf, afterField, replayOf}
 use Rattle.lines.specs.Tally.{comparedMore, malformedMore}
 use Rattle.lines.specs.declared.tally.Tally.{Tally}
 use Rattle.pxfm.specs.Inverfc.{fErfcinvBits}
-use Rattle.mirror.specs.Mirror.{flipSign, mirrorBits}
+use Rattle.mirror.specs.Mirror.{flipSign, mirrorBits, firstMirrored, lastMirrored}
 use Rattle.mirror_vectors.specs.declared.line.Compared.{Compared}
 use Rattle.mirror_vectors.specs.declared.line.Compared.the-variants as C
 
@@ -18,6 +19,10 @@ unfoldable pub comparedAt : ℕ → Compared
 comparedAt x =
     let mirrored = flipSign (fErfcinvBits (mirrorBits x)) in
     cond (eqb (fErfcinvBits x) mirrored) C.Same (C.Differs x mirrored (fErfcinvBits x))
+
+-- at no x strictly between 1 and 2 do the two differ (document 02, 2026-13, which leaves those with 2 - x below 0.1 to this program)
+pub record NeverDiffers (x : ℕ) : Type 0 where
+  pub same : firstMirrored ≤ x → x ≤ lastMirrored → comparedAt x ≡ C.Same
 
 -- the x of a line, from its first byte on
 unfoldable pub comparedField : List ℕ → Compared

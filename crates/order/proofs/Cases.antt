@@ -55,6 +55,17 @@ pub record SignCases : Type 0 where
   pub after-one : fErfcinvBits 0x3ff0_0000_0000_0001 ≡ 0xbcac_5bf8_91b4_ef6b
   pub last : fErfcinvBits 0x3fff_ffff_ffff_ffff ≡ 0xc017_3856_d153_f081
 
+-- `QuantileEverywhere`: -0, 2, the double above it, the first one below zero, 1, both infinities and a NaN with another pattern than ours
+pub record EdgeCases : Type 0 where
+  pub minus-zero : fErfcinvBits 0x8000_0000_0000_0000 ≡ 0x7ff0_0000_0000_0000
+  pub two : fErfcinvBits 0x4000_0000_0000_0000 ≡ 0xfff0_0000_0000_0000
+  pub above-two : fErfcinvBits 0x4000_0000_0000_0001 ≡ 0x7ff8_0000_0000_0000
+  pub below-zero : fErfcinvBits 0x8000_0000_0000_0001 ≡ 0x7ff8_0000_0000_0000
+  pub one : fErfcinvBits 0x3ff0_0000_0000_0000 ≡ 0
+  pub infinity : fErfcinvBits 0x7ff0_0000_0000_0000 ≡ 0x7ff8_0000_0000_0000
+  pub minus-infinity : fErfcinvBits 0xfff0_0000_0000_0000 ≡ 0x7ff8_0000_0000_0000
+  pub none : fErfcinvBits 0xfff0_0000_0000_0001 ≡ 0x7ff8_0000_0000_0000
+
 -- `MeanInside` and `BandOrder`: about a mean of 100, the band of half the links, and that of all but one in a million
 pub record BandCases : Type 0 where
   pub low-half : HasBits (lowAt near 500_000) 0x4057_5053_996d_8d32
@@ -62,7 +73,7 @@ pub record BandCases : Type 0 where
   pub low-most : HasBits (lowAt near 999_999) 0x4049_8ab3_e77f_37c4
   pub high-most : HasBits (highAt near 999_999) 0x4062_9d53_0620_320f
 
-pub computed : EvenCases × OrderCases × SignCases × BandCases
+pub computed : EvenCases × OrderCases × SignCases × EdgeCases × BandCases
 unfolding leadingZeros ofBits toBits ofInt isNan eq lt le add sub mul div neg round isqrt roundRoot roundSqrt sqrtIn
     fromBitPair negOf splitOf fromExactMult fromExactAdd fromFullExactAdd fromFullExactSub fullAddF64 f64Add quickMult
     quickMultF64 mulAdd mulAddF64 mulF64Add divOf recipOf fastSqrt toF64 ddF64MulAdd log2Dd fFmla fPolyeval4 fPolyeval5
@@ -75,5 +86,15 @@ computed = (
   record { mean = refl; plain = refl; sample = refl; before = refl; after = refl },
   record { one = refl; ten = refl; thousand = refl },
   record { first = refl; before-one = refl; after-one = refl; last = refl },
+  record {
+    minus-zero = refl;
+    two = refl;
+    above-two = refl;
+    below-zero = refl;
+    one = refl;
+    infinity = refl;
+    minus-infinity = refl;
+    none = refl;
+  },
   record { low-half = refl; high-half = refl; low-most = refl; high-most = refl },
 )

@@ -314,7 +314,7 @@ module _ (y : Float) (h : Positive y) where
 -- ---- the law
 
 -- a double below 1 is below 2, and one above 1 above 0
-one-two : (x : Float) → fits binary64 x ≡ true → Below zero x → Below x one → Below x two
+pub one-two : (x : Float) → fits binary64 x ≡ true → Below zero x → Below x one → Below x two
 one-two nan f a b = absurd (unfold lt ofBits in true≢false (sym a))
 one-two (inf false) f a b = absurd (unfold lt ofBits in true≢false (sym b))
 one-two (inf true) f a b = absurd (unfold lt ofBits in true≢false (sym a))
@@ -333,7 +333,7 @@ one-two (fin false m e) f a b =
     plain : (k l : ℕ) → k + 0 < 1 * l + 0 → k + 0 < 1 * (2 * l) + 0
     plain k l p = omega arith
 
-one-zero : (x : Float) → fits binary64 x ≡ true → Below one x → Below x two → Below zero x
+pub one-zero : (x : Float) → fits binary64 x ≡ true → Below one x → Below x two → Below zero x
 one-zero nan f a b = absurd (unfold lt ofBits in true≢false (sym a))
 one-zero (inf false) f a b = absurd (unfold lt ofBits in true≢false (sym b))
 one-zero (inf true) f a b = absurd (unfold lt ofBits in true≢false (sym a))

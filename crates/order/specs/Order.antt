@@ -77,7 +77,7 @@ abbrev pub sixtyFour : Float
 sixtyFour = ofBits binary64 0x4050_0000_0000_0000
 
 -- Between 0 and 2 the quantile is a number. Below 1 it is above zero and at most 64, the sign bit clear; above 1 below zero and at least -64, the
--- sign bit set. At 1 it is +0.
+-- sign bit set. What it is at 1 and at every other double is `QuantileEverywhere`.
 pub record QuantileSign (x : Float) : Type 0 where
   pub number : Below zero x → Below x two → Finite (fErfcinv x)
   pub above : Below zero x → Below x one → Below zero (fErfcinv x)

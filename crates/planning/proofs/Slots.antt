@@ -11,8 +11,8 @@ use Rattle.hex.specs.Hex.{decimalDigits}
 use Rattle.hex.proofs.Counting.{decimal-most}
 use Rattle.ticks.specs.declared.whole.Ticks.{Ticks}
 use Rattle.ticks.specs.Ticks.{ticksUp, ticksNear}
-use Rattle.ticks.specs.Text.{ticksText}
-use Rattle.ticks.proofs.Longest.{maxText, up-text-most, near-text-most}
+use Rattle.ticks.specs.Text.{ticksText, maxText}
+use Rattle.ticks.proofs.Longest.{up-text-most, near-text-most}
 use Rattle.limit.specs.Answer.{MomentsResult}
 use Rattle.limit.specs.Limit.{momentsOfTimes}
 use Rattle.journal_spec.specs.Bytes.{numberAt, numbersIn}
@@ -42,19 +42,19 @@ pub slot-parts : (c l : ℕ) (t : Ticks) → t ≡ ticksUp (ofBits binary64 l) �
 unfolding slotText
 slot-parts c l t e = append-assoc (decimalDigits c) (0x3a ∷ []) (ticksText t) ∙ ap (λ (x : Ticks). decimalDigits c ++ (0x3a ∷ ticksText x)) e
 
--- it fits 64 bytes, and a mean 32
-pub slot-fits : (c l : ℕ) → c < 2 ^ 64 → length (slotText c l) ≤ 64
+-- of whatever chance and limit it fits 39 bytes: 20 digits, a colon and the ticks; a number fits 20
+pub slot-fits : (c l : ℕ) → c < 2 ^ 64 → length (slotText c l) ≤ 39
 unfolding slotText
 slot-fits c l h =
     rw (length-append (decimalDigits c) (0x3a ∷ ticksText (ticksUp (ofBits binary64 l))))
     (omega (arith, decimal-most 20 c (omega arith) (omega arith), up-text-most (ofBits binary64 l)))
 
-pub near-fits : (bits : ℕ) → length (nearText bits) ≤ 32
+pub near-fits : (bits : ℕ) → length (nearText bits) ≤ maxText
 unfolding nearText
-near-fits bits = omega (arith, near-text-most (ofBits binary64 bits))
+near-fits bits = near-text-most (ofBits binary64 bits)
 
-pub times-fit : (n : ℕ) → n < 2 ^ 64 → length (decimalDigits n) ≤ 32
-times-fit n h = omega (arith, decimal-most 20 n (omega arith) (omega arith))
+pub times-fit : (n : ℕ) → n < 2 ^ 64 → length (decimalDigits n) ≤ 20
+times-fit n h = decimal-most 20 n (omega arith) (omega arith)
 
 -- the name and what fills its column
 pub name-parts : (tabs : Bool) (w f n : ℕ) (b : List ℕ) → f + n * 1 ≤ length b

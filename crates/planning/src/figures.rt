@@ -20,6 +20,9 @@ const TIMES_WIDTH: usize = 3;
 
 const MOMENT_WIDTH: usize = 8;
 
+// The most digits of a number: law `times-fit`.
+const MAX_NUMBER: usize = 20;
+
 // Number of times, mean and spread of the record at a place.
 pub(crate) fn put_figures(
     v: &[u8],
@@ -45,7 +48,7 @@ pub(crate) fn put_figures(
 fn put_times(out: &mut [u8], place: usize, tabs: bool, count: u64) -> usize
     ensures { λ r. ⌜ Put (now (out .entry)) place (column tabs timesWidth (decimalDigits count)) (now (out .exit)) r ⌝ }
 {
-    let mut text = [0u8; 32];
+    let mut text = [0u8; MAX_NUMBER];
     let size = put_decimal(&mut text, 0, count);
     put_column(out, place, tabs, TIMES_WIDTH, &text[..size])
 }
@@ -54,7 +57,7 @@ fn put_times(out: &mut [u8], place: usize, tabs: bool, count: u64) -> usize
 fn put_near(out: &mut [u8], place: usize, tabs: bool, bits: u64) -> usize
     ensures { λ r. ⌜ Put (now (out .entry)) place (column tabs momentWidth (nearText bits)) (now (out .exit)) r ⌝ }
 {
-    let mut text = [0u8; 32];
+    let mut text = [0u8; ticks::MAX_TEXT];
     let size = put_ticks(&mut text, 0, ticks_near(bits));
     put_column(out, place, tabs, MOMENT_WIDTH, &text[..size])
 }

@@ -20,6 +20,9 @@ use ticks::ticks_up;
 // The width of a column.
 const LIMIT_WIDTH: usize = 16;
 
+// The most bytes of a quote, whatever its chance and its limit are: law `slot-fits`.
+const MAX_QUOTE: usize = 39;
+
 // A NaN's pattern, which has no whole ticks: a dash is printed.
 const NO_LIMIT: u64 = 0x7ff8_0000_0000_0000;
 
@@ -138,7 +141,7 @@ fn limit_for(v: &[u8], chances: usize, limits: usize, n: usize, wanted: u64) -> 
 fn put_limit(out: &mut [u8], place: usize, tabs: bool, chance: u64, limit: u64) -> usize
     ensures { λ r. ⌜ Put (now (out .entry)) place (column tabs limitWidth (slotText chance limit)) (now (out .exit)) r ⌝ }
 {
-    let mut text = [0u8; 64];
+    let mut text = [0u8; MAX_QUOTE];
     let size = put_quote(&mut text, chance, limit);
     put_column(out, place, tabs, LIMIT_WIDTH, &text[..size])
 }

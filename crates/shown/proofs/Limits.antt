@@ -3,12 +3,14 @@
 use mathlib.Core.Path.{_≡_}
 use mathlib.Core.Bool.{true, false}
 use mathlib.Core.List.{List}
-use Prim.Native.Nat.{ℕ, _*_, _^_}
+use Prim.Native.Nat.{ℕ, _*_, _^_, _≤_}
+use native.Mathlib.Omega.{arith}
 use native.Mathlib.Nat.{le-trans}
 use lib.Dec.{T, eqb, lit<, leb→le}
 use lib.Pow.{pow-pos}
 use lib.ListN.{length}
-use lib.Ieee.{Float, binary64, fits, ofBits, mul}
+use lib.Ieee.{Float, nan, inf, fin, binary64, fits, ofBits, mul}
+use lib.Ieee.Exact.{HasValue}
 use lib.Ieee.Fits.{div-fits, mul-fits, add-fits}
 use Rattle.limit.specs.declared.sums.Sums.{Sums}
 use Rattle.limit.specs.Times.{timesInRange, sumOf, squaresOf}
@@ -16,16 +18,19 @@ use Rattle.limit.specs.Sums.{sumsOf, isPlausible}
 use Rattle.limit.specs.Formula.{double, rootTwo, sampleForm, divisorOf, meanOf, scatterOf, spreadOf, quantileOf, limitFrom, formulaOf}
 use Rattle.limit.specs.Limit.{chanceInRange}
 use Rattle.limit.proofs.Plausible.{plausible-facts, times-plausible}
-use Rattle.bounds.specs.Interval.{In}
+use Rattle.bounds.specs.Interval.{In, SizeAtMost}
 use Rattle.bounds.specs.Ranges.{quantileB}
 use Rattle.bounds.proofs.Operations.{widen, counted}
 use Rattle.bounds.proofs.Estimate.{given, point, timesE}
 use Rattle.finite.specs.Finite.{maxSpread, maxLimit}
 use Rattle.finite.proofs.Formula.{meanB, spreadB, form-within, scatter-top}
 use Rattle.finite.proofs.Limits.{chance-quantile, small-under}
+use Rattle.ticks.specs.Ticks.{minusOf, ticksUp, ticksNear}
+use Rattle.ticks.specs.Text.{ticksText}
+use Rattle.ticks.proofs.Longest.{sign-place, up-text-within, near-text-within}
 use Rattle.ticks.proofs.Least.{rounds-up}
 use Rattle.ticks.proofs.Near.{rounds-near}
-use Rattle.shown.specs.Shown.{ShownUnder}
+use Rattle.shown.specs.Shown.{maxMoment, maxSlot, ShownUnder}
 use Rattle.shown.proofs.Multiples.{Multiple, multiple, in-range, exact-of}
 use Rattle.shown.proofs.Sum.{shareB, mean-sum}
 use Rattle.shown.proofs.Spread.{spread-fits, spread-multiple}
@@ -63,6 +68,29 @@ limit-multiple n s spread e h g q =
     mean-sum (meanOf n s) (mul binary64 (mul binary64 spread rootTwo) e) (mean-fits n s)
     (mul-fits binary64 (mul binary64 spread rootTwo) e) h (share-in spread e g q)
 
+-- ---- their texts, in milliseconds
+
+no-sign : (x : Float) (m c : ℕ) → HasValue x false m c → minusOf x ≡ false
+no-sign nan m c v = absurd v
+no-sign (inf s) m c v = absurd v
+no-sign (fin s m e) a c v = v .0
+
+-- a mean has no sign, and at most five digits before the point
+mean-short : (n s : ℕ) → In (meanOf n s) meanB → SizeAtMost (meanOf n s) (2 ^ 20) → length (ticksText (ticksNear (meanOf n s))) ≤ maxMoment
+mean-short n s h z =
+    let v = counted (2 ^ 1073) (2 ^ 20 * 2 ^ 1074) (pow-pos 1073) h in
+    let t = near-text-within (meanOf n s) (2 ^ 20) 5 (omega arith) (omega arith) (z .size) in
+    rw (no-sign (meanOf n s) (v .n) (2 ^ 1074) (v .val)) at t
+
+-- a spread has at most four
+spread-short : (x : Float) → SizeAtMost x maxSpread → length (ticksText (ticksNear x)) ≤ maxMoment
+spread-short x z =
+    omega (arith, sign-place (minusOf x), near-text-within x maxSpread 4 (omega arith) (omega arith) (z .size))
+
+limit-short : (x : Float) → SizeAtMost x maxLimit → length (ticksText (ticksUp x)) ≤ maxSlot
+limit-short x z =
+    omega (arith, sign-place (minusOf x), up-text-within x maxLimit 5 (omega arith) (omega arith) (z .size))
+
 -- ---- the sums of allowed times
 
 module _ (form : ℕ) (sums : Sums) (c : ℕ) (p : isPlausible sums ≡ true) (h : chanceInRange c ≡ true) where
@@ -94,11 +122,13 @@ module _ (form : ℕ) (sums : Sums) (c : ℕ) (p : isPlausible sums ≡ true) (h
             record {
               exact = exact-of (meanOf n s) (mean-fits n s) m (mean-multiple n s (w .mean-in));
               ticks = rounds-near (meanOf n s) m;
+              short = mean-short n s (w .mean-in) (z .mean);
             };
         spread =
             record {
               exact = exact-of (spreadOf form n s q) (spread-of-fits form n s q) d spread-shown;
               ticks = rounds-near (spreadOf form n s q) d;
+              short = spread-short (spreadOf form n s q) (z .spread);
             };
         limit =
             record {
@@ -106,6 +136,7 @@ module _ (form : ℕ) (sums : Sums) (c : ℕ) (p : isPlausible sums ≡ true) (h
                   exact-of (formulaOf form n s q c) (formula-fits form n s q c) l
                   (limit-multiple n s (spreadOf form n s q) (quantileOf c) (w .mean-in) (w .spread-in) (chance-quantile c h));
               ticks = rounds-up (formulaOf form n s q c) l;
+              short = limit-short (formulaOf form n s q c) (z .limit);
             };
       }
 

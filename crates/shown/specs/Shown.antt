@@ -1,11 +1,13 @@
 -- What a report prints of a double, its exact decimal and its whole ticks: neither is a dash. Definitions only.
-use Prim.Native.Nat.{ℕ, _<_}
+use Prim.Native.Nat.{ℕ, _≤_, _<_}
 use mathlib.Core.Path.{_≡_}
 use mathlib.Core.Bool.{true}
 use lib.ListN.{length, getD}
 use lib.Ieee.{Float, binary64, ofBits, toBits}
 use Rattle.limit.specs.Times.{sumOf, squaresOf}
 use Rattle.limit.specs.Formula.{meanOf, spreadOf, formulaOf}
+use Rattle.ticks.specs.Ticks.{ticksUp, ticksNear}
+use Rattle.ticks.specs.Text.{ticksText}
 use Rattle.ticks.specs.Meaning.{RoundsUp, RoundsNear}
 use Rattle.decimal.specs.Decimal.{isShown, exactText}
 use Rattle.decimal.specs.Meaning.{IsExact}
@@ -16,14 +18,23 @@ pub record Exact (x : Float) : Type 0 where
   pub shown : isShown x ≡ true
   pub exact : IsExact x (exactText x)
 
--- and it has a nearest tick, or a least one that is not below it
+-- the most bytes of a mean or a spread in milliseconds, as 10485.75, and of a limit, as -30001.56
+abbrev pub maxMoment : ℕ
+maxMoment = 8
+
+abbrev pub maxSlot : ℕ
+maxSlot = 9
+
+-- and it has a nearest tick, or a least one that is not below it, whose text is that short
 pub record ShownNear (x : Float) : Type 0 where
   pub exact : Exact x
   pub ticks : RoundsNear x
+  pub short : length (ticksText (ticksNear x)) ≤ maxMoment
 
 pub record ShownUp (x : Float) : Type 0 where
   pub exact : Exact x
   pub ticks : RoundsUp x
+  pub short : length (ticksText (ticksUp x)) ≤ maxSlot
 
 -- under a form, for n times with sum s and sum of squares q, at the chance c
 pub record ShownUnder (form n s q c : ℕ) : Type 0 where

@@ -4,5 +4,6 @@ pub mod Widths
 pub mod Shown
 pub mod Made
 pub mod Fits
+pub mod FiguresFit
 -- examples
 pub mod Examples

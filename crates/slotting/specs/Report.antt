@@ -36,10 +36,10 @@ reportLines tabs width asked (standing ps committed) =
     joined (map (λ (e : IndexEntry). lineOf tabs width asked (lastNamed (e .name) (recordsOf ps))) (indexOf ps))
 reportLines tabs width asked (faulty n p) = []
 
--- the longest line, in bytes: a name of 32, a date of 10, the mark, 3 digits of the number of times, mean and spread of 20 each, 8 pairs of a
--- chance of 6 digits and a limit of 20, and what separates them
+-- the longest line, in bytes: a name of 32, a date of 10, the mark, 3 digits of the number of times, mean and spread of 8 each, 8 pairs of a chance of
+-- 6 digits and a limit of 9, and what separates them
 abbrev pub maxLine : ℕ
-maxLine = 316
+maxLine = 204
 
 -- ---- the width of the names' column
 

@@ -1,5 +1,5 @@
 // The planner's report of a journal, a line for each name, by the journal's index (request 2026-08): the width of the names' column, the head, and the
-// line of the entry at a position. Nothing is assumed of the bytes, and no record is searched for.
+// line of the entry at a position. Nothing is assumed of the bytes, and no record is searched for. And the lines of one record's figures.
 ghost use mathlib.Core.Path.{_≡_};
 ghost use Rattle.entries.specs.Entries.{entriesIn};
 ghost use Rattle.entries.specs.Answers.{startMeaning};
@@ -12,14 +12,18 @@ use journal::number_in;
 use planning::Layout;
 use planning::slot_line;
 
+mod figures;
 mod head;
 mod width;
 
+pub use figures::MAX_FIGURE;
+pub use figures::limit_line;
+pub use figures::moment_line;
 pub use head::head_line;
 pub use width::name_width;
 
 // The longest line of a report at up to eight chances: law `report-fits`.
-pub const MAX_LINE: usize = 316;
+pub const MAX_LINE: usize = 204;
 
 // The line of an index's entry at a position from 0, at the front of the buffer, with the limits at the chances asked for, or with all where none
 // is. Answers how many bytes it takes. With the journal's own index it is that of the last standing record of that name.

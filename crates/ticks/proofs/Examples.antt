@@ -4,13 +4,14 @@ use mathlib.Core.Path.{_≡_, refl}
 use mathlib.Core.Bool.{true, false}
 use mathlib.Core.List.{[], _∷_}
 use lib.Count.{trailingZeros}
+use lib.ListN.{length}
 use lib.Ieee.{binary64, odd, ofFields, ofBits}
 use Rattle.hex.specs.Hex.{digits, glyphOf, orMore, placesIn, placesOf, decimalDigits}
 use Rattle.ticks.specs.declared.whole.Count.{Count}
 use Rattle.ticks.specs.declared.whole.Ticks.{Ticks}
 use Rattle.ticks.specs.declared.whole.Ticks.the-variants as T
 use Rattle.ticks.specs.Ticks.{counted, upSize, nearSize, inRange, wholeBy, ticksUp, ticksNear}
-use Rattle.ticks.specs.Text.{hundredths, countText, ticksText}
+use Rattle.ticks.specs.Text.{hundredths, countText, ticksText, maxText}
 
 -- rounded up: 100, the doubles beside it, and 143.70.., README's limit at 1,000 in a million
 record Up : Type 0 where
@@ -58,12 +59,14 @@ declined : Declined
 unfolding trailingZeros odd ofFields ofBits upSize nearSize inRange wholeBy ticksUp ticksNear
 declined = record { large = refl; infinity = refl; none = refl }
 
--- 1.44, -0.05 and a dash
+-- 1.44, -0.05 and a dash; and 1 - 2 ^ 53, which takes all the bytes that a text may have
 record Text : Type 0 where
   slot : ticksText (T.Whole (counted false 144)) ≡ 49 ∷ 46 ∷ 52 ∷ 52 ∷ []
   minus : ticksText (T.Whole (counted true 5)) ≡ 45 ∷ 48 ∷ 46 ∷ 48 ∷ 53 ∷ []
   dash : ticksText T.Declined ≡ 45 ∷ []
+  longest : length (ticksText (ticksUp (ofBits binary64 0xc33f_ffff_ffff_ffff))) ≡ maxText
 
 text : Text
-unfolding digits glyphOf orMore placesIn placesOf decimalDigits hundredths countText ticksText
-text = record { slot = refl; minus = refl; dash = refl }
+unfolding trailingZeros odd ofFields ofBits digits glyphOf orMore placesIn placesOf decimalDigits upSize inRange wholeBy ticksUp hundredths countText
+    ticksText
+text = record { slot = refl; minus = refl; dash = refl; longest = refl }

@@ -27,3 +27,7 @@ unfoldable pub ticksText : Ticks → List ℕ
 unfolding countText
 ticksText (T.Whole c) = countText c
 ticksText T.Declined = minusSign ∷ []
+
+-- the most bytes that a text has: a sign, 14 digits, a point and two digits
+abbrev pub maxText : ℕ
+maxText = 18

@@ -4,6 +4,7 @@ mod halves;
 mod text;
 mod whole;
 
+pub use text::MAX_TEXT;
 pub use text::put_milliseconds;
 pub use text::put_ticks;
 pub use whole::Count;

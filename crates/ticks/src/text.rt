@@ -9,6 +9,9 @@ use hex::decimal_into;
 use hex::put;
 use hex::put_decimal;
 
+// The most bytes that a text takes: laws `up-text-most`, `near-text-most`.
+pub const MAX_TEXT: usize = 18;
+
 // Puts the milliseconds of whole ticks, or a dash where they are declined, and answers the place behind them.
 pub fn put_ticks(line: &mut [u8], place: usize, ticks: Ticks) -> usize
     ensures { λ r. ⌜ Put (now (line .entry)) place (ticksText ticks) (now (line .exit)) r ⌝ }
