@@ -1,4 +1,4 @@
--- A stored true value against f_erfcinv, and the groups of many.
+-- A stored true value against f_erfcinv or f_erfinv, and the groups of many.
 -- Assumes nothing.
 use Prim.Native.Nat.{ℕ, _+_, _-_, _*_, _/_, _^_, max}
 use mathlib.Core.Bool.{cond}
@@ -7,6 +7,7 @@ use lib.Dec.{eqb, leb, ltb}
 use lib.ListN.{length, getD}
 use Rattle.hex.specs.Hex.{readHex}
 use Rattle.lines.specs.Lines.{fieldOf, afterField, oneMore, replayOf}
+use Rattle.pxfm.specs.Inverf.{fErfinvBits}
 use Rattle.pxfm.specs.Inverfc.{fErfcinvBits}
 use Rattle.series_vectors.specs.declared.line.Measured.{Measured}
 use Rattle.series_vectors.specs.declared.line.Measured.the-variants as M
@@ -40,9 +41,13 @@ tenThousandths distance = (distance * 10000 + (2 ^ 32 - 1)) / 2 ^ 32
 
 -- ---- one line
 
--- the quantile at x against the true value
+-- the function of a line's letter at x: i is that of the inverse error function, all others are the quantile's
+unfoldable pub answerOf : ℕ → ℕ → ℕ
+answerOf letter x = cond (eqb letter 105) (fErfinvBits x) (fErfcinvBits x)
+
+-- that answer against the true value
 unfoldable pub measuredAt : ℕ → ℕ → ℕ → ℕ → Measured
-measuredAt letter x below part = M.Distance letter x (distanceOf (fErfcinvBits x) below part)
+measuredAt letter x below part = M.Distance letter x (distanceOf (answerOf letter x) below part)
 
 -- the rest of the way, from a line's byte 36 on
 unfoldable pub measuredBelow : List ℕ → ℕ → ℕ → ℕ → Measured
@@ -75,7 +80,7 @@ measuredLine s =
 abbrev pub emptyGroup : ℕ → Group
 emptyGroup bound = record { count = 0; nearest = 0; greatest = 0; at = 0; bound = bound; beyond = 0 }
 
--- no line yet: 0.53 units for the chances and for every x from 1.4e-11 up, 1.1 from 1e-20 up, and none below
+-- no line yet: 0.53 units for the chances, for every x from 1.4e-11 up and for the inverse error function, 1.1 from 1e-20 up, and none below
 abbrev pub noLines : Groups
 noLines =
     record {
@@ -83,6 +88,7 @@ noLines =
       others = emptyGroup 5300;
       small = emptyGroup 11000;
       far = emptyGroup (2 ^ 64 - 1);
+      inverse = emptyGroup 5300;
       malformed = 0;
     }
 
@@ -101,20 +107,29 @@ grouped g x distance =
 -- the groups with one malformed line more
 unfoldable pub malformedOne : Groups → Groups
 malformedOne t =
-    record { chances = t .chances; others = t .others; small = t .small; far = t .far; malformed = oneMore (t .malformed) }
+    record {
+      chances = t .chances;
+      others = t .others;
+      small = t .small;
+      far = t .far;
+      inverse = t .inverse;
+      malformed = oneMore (t .malformed);
+    }
 
--- the groups with one distance more, in the group of its letter: c, o, s or f
+-- the groups with one distance more, in the group of its letter: c, o, s, f or i
 unfoldable pub countedAt : Groups → ℕ → ℕ → ℕ → Groups
 countedAt t letter x d =
     cond (eqb letter 99)
-    (record { chances = grouped (t .chances) x d; others = t .others; small = t .small; far = t .far; malformed = t .malformed })
+    (record { chances = grouped (t .chances) x d; others = t .others; small = t .small; far = t .far; inverse = t .inverse; malformed = t .malformed })
     (cond (eqb letter 111)
-    (record { chances = t .chances; others = grouped (t .others) x d; small = t .small; far = t .far; malformed = t .malformed })
+    (record { chances = t .chances; others = grouped (t .others) x d; small = t .small; far = t .far; inverse = t .inverse; malformed = t .malformed })
     (cond (eqb letter 115)
-    (record { chances = t .chances; others = t .others; small = grouped (t .small) x d; far = t .far; malformed = t .malformed })
+    (record { chances = t .chances; others = t .others; small = grouped (t .small) x d; far = t .far; inverse = t .inverse; malformed = t .malformed })
     (cond (eqb letter 102)
-    (record { chances = t .chances; others = t .others; small = t .small; far = grouped (t .far) x d; malformed = t .malformed })
-    (malformedOne t))))
+    (record { chances = t .chances; others = t .others; small = t .small; far = grouped (t .far) x d; inverse = t .inverse; malformed = t .malformed })
+    (cond (eqb letter 105)
+    (record { chances = t .chances; others = t .others; small = t .small; far = t .far; inverse = grouped (t .inverse) x d; malformed = t .malformed })
+    (malformedOne t)))))
 
 -- the groups with one line more
 unfoldable pub counted : Groups → Measured → Groups

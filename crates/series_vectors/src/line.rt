@@ -2,10 +2,11 @@
 // A line is 45 bytes: letter, space, 16 digits, space, 16 digits, space, 8 digits, line end.
 ghost use mathlib.Core.Path.{_≡_};
 ghost use Prim.Native.Nat.{_<_, _^_};
-ghost use Rattle.series_vectors.specs.Series.{measuredLine, measuredFields, measuredFrom, measuredBelow, measuredAt};
+ghost use Rattle.series_vectors.specs.Series.{measuredLine, measuredFields, measuredFrom, measuredBelow, measuredAt, answerOf};
 use crate::distance::distance;
 use lines::Field;
 use lines::number_at;
+use pxfm::err::inverf::f_erfinv_bits;
 use pxfm::err::inverfc::f_erfcinv_bits;
 
 // What a line tells of the port.
@@ -71,10 +72,20 @@ fn measure_at(letter: u8, x: u64, below: u64, part: u64) -> Measured
     requires { ⌜ part < 2 ^ 32 ⌝ }
     ensures { λ r. ⌜ r ≡ measuredAt letter x below part ⌝ }
 {
-    let far = distance(f_erfcinv_bits(x), below, part);
+    let far = distance(answer(letter, x), below, part);
     Measured::Distance {
         letter,
         x,
         distance: far,
     }
+}
+
+// The function of a line's letter at x.
+fn answer(letter: u8, x: u64) -> u64
+    ensures { λ r. ⌜ r ≡ answerOf letter x ⌝ }
+{
+    if letter == b'i' {
+        return f_erfinv_bits(x);
+    }
+    f_erfcinv_bits(x)
 }

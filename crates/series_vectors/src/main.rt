@@ -1,5 +1,5 @@
-// Measures f_erfcinv against stored true values of the inverse of erfc, worked out from the series of DLMF 7.17.
-// Reads the lines that tools/series writes from standard input. The output's last line is the verdict.
+// Measures f_erfcinv and f_erfinv against stored true values of the inverses of erfc and erf: from the series of DLMF 7.17 where |1 - x|, or the
+// size of f_erfinv's x, is at most 0.98, else from Newton's steps on 7.6.1. Reads the lines that tools/series writes; the last line is the verdict.
 mod distance;
 mod group;
 mod line;
@@ -60,6 +60,7 @@ fn start() -> Groups
         others: Group::within(5300),
         small: Group::within(11000),
         far: Group::within(0xffffffffffffffff),
+        inverse: Group::within(5300),
         malformed: 0,
     }
 }
@@ -96,17 +97,21 @@ fn verdict(t: Groups) {
     let others = t.others;
     let small = t.small;
     let far = t.far;
+    let inverse = t.inverse;
     print_group(b"below 1e-20", far);
     print_group(b"from 1e-20", small);
     print_group(b"from 1.4e-11", others);
     print_group(b"chances", chances);
+    print_group(b"inverse error function", inverse);
     print(b"series_vectors: beyond their bounds: ");
     print_number(chances.beyond);
     print(b" chances, ");
     print_number(others.beyond);
     print(b" from 1.4e-11, ");
     print_number(small.beyond);
-    print(b" from 1e-20; ");
+    print(b" from 1e-20, ");
+    print_number(inverse.beyond);
+    print(b" of the inverse error function; ");
     print_number(t.malformed);
     print(b" malformed\n");
 }

@@ -17,6 +17,7 @@ pub(crate) struct Groups {
     pub others: Group,
     pub small: Group,
     pub far: Group,
+    pub inverse: Group,
     pub malformed: u64,
 }
 
@@ -69,6 +70,10 @@ fn count_at(t: Groups, letter: u8, x: u64, distance: u64) -> Groups
     }
     if letter == b'f' {
         r.far = group_with(t.far, x, distance);
+        return r;
+    }
+    if letter == b'i' {
+        r.inverse = group_with(t.inverse, x, distance);
         return r;
     }
     one_malformed(t)

@@ -45,17 +45,43 @@ returns-4 c =
       c .group-with4 .ensures,
     )
 
-one-malformed-requires : tie.Need-one-malformed-requires
-one-malformed-requires c κs = search needs
+group-with-requires-5 : tie.Need-group-with-requires-5
+group-with-requires-5 c κs = search needs
 
 returns-5 : tie.Need-returns-5
 unfolding countedAt
 returns-5 c =
-    let fourth = c .before in
+    let fourth = c .before .before in
+    let third = fourth .before in
+    let second = third .before in
+    rw (
+      ne-eqb _ _ (second .before .if1 .left),
+      ne-eqb _ _ (second .if2 .left),
+      ne-eqb _ _ (third .if3 .left),
+      ne-eqb _ _ (fourth .if4 .left),
+      eq-eqb _ _ (c .before .if5 .taken),
+      c .group-with5 .ensures,
+    )
+
+one-malformed-requires : tie.Need-one-malformed-requires
+one-malformed-requires c κs = search needs
+
+returns-6 : tie.Need-returns-6
+unfolding countedAt
+returns-6 c =
+    let fifth = c .before in
+    let fourth = fifth .before in
     let third = fourth .before in
     let second = third .before in
     c .one-malformed .ensures
-    ∙ sym (rw (ne-eqb _ _ (second .before .if1 .left), ne-eqb _ _ (second .if2 .left), ne-eqb _ _ (third .if3 .left), ne-eqb _ _ (fourth .if4 .left)))
+    ∙ sym
+    (rw (
+      ne-eqb _ _ (second .before .if1 .left),
+      ne-eqb _ _ (second .if2 .left),
+      ne-eqb _ _ (third .if3 .left),
+      ne-eqb _ _ (fourth .if4 .left),
+      ne-eqb _ _ (fifth .if5 .left),
+    ))
 
 pub count-at-spec : {M : Type 1} → statement M
 count-at-spec =
@@ -69,5 +95,7 @@ count-at-spec =
     returns-3
     group-with-requires-4
     returns-4
+    group-with-requires-5
+    returns-5
     one-malformed-requires
-    returns-5)
+    returns-6)
