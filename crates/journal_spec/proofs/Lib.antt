@@ -40,6 +40,7 @@ pub mod Marks
 pub mod Unchanged
 -- demand 3
 pub mod Demand
+pub mod Reach
 pub mod Continued
 pub mod Shown
 pub mod Answers

@@ -13,9 +13,11 @@ use Rattle.journal_spec.specs.Profile.{Rule}
 use Rattle.journal_spec.specs.Scan.{Placed, Contents, standing, faulty, contentsOf, statusOf, scanOf}
 use Rattle.journal_spec.specs.Scan as S
 use Rattle.journal_spec.specs.Read.{noPart, partAt, partOf, partPlace, partBytes, readPart, Mark, markOf, marked, unmarked, markAt, markIn, readMark}
-use Rattle.journal_spec.specs.Log.{Gathered, gathered, misread}
-use Rattle.journal_spec.specs.Request.{Journal, Request, timesOf, AppendResult, extended, declinedAt, damaged, Outcome}
+use Rattle.journal_spec.specs.Log.{Gathered, gathered, misread, gatherOf}
+use Rattle.journal_spec.specs.Request.{Journal, log, Request, timesOf, AppendResult, extended, declinedAt, damaged, Outcome}
 use Rattle.journal_spec.specs.Append.{unchanged, extend, settle, appendTo, appendWith, appendOf}
+use Rattle.journal_spec.specs.Shown.{GivenTimes}
+use Rattle.journal_spec.proofs.Given.{times-given, line-refused}
 
 -- every byte of both buffers and the length are as they were
 pub record Untouched (j : Journal) (before : Option (List ℕ)) (out : Outcome) : Type 0 where
@@ -74,15 +76,15 @@ module _ (j : Journal) (q : Request) where
   refused-untouched other = unread-untouched (timesOf q) j q _ refl other
 
   -- the log's refusal comes first, whatever the journal holds
-  pub log-first : (n p : ℕ) → timesOf q ≡ misread n p → appendOf j q .answer ≡ declinedAt n p
+  pub log-first : (bs : List ℕ) (n p : ℕ) → q .source ≡ log bs → gatherOf (q .name) bs ≡ misread n p → appendOf j q .answer ≡ declinedAt n p
   unfolding appendOf appendWith unchanged
-  log-first n p e = rw e refl
+  log-first bs n p s e = rw (line-refused q n p .1 (record { bytes = bs; isLog = s; refused = e })) refl
 
   -- then the journal's faults, as scan says them, whatever is offered
-  pub faults-first : (ts : List ℕ) → timesOf q ≡ gathered ts → (n p : ℕ) → scanOf (q .rule) (j .slice) (j .len) ≡ S.damaged n p
+  pub faults-first : (ts : List ℕ) → GivenTimes q ts → (n p : ℕ) → scanOf (q .rule) (j .slice) (j .len) ≡ S.damaged n p
       → appendOf j q .answer ≡ damaged n p
   unfolding scanOf appendOf appendWith
-  faults-first ts e n p h = rw e (go (contentsOf (q .rule) (j .slice) (j .len)) h)
+  faults-first ts g n p h = rw (times-given q ts .1 g) (go (contentsOf (q .rule) (j .slice) (j .len)) h)
     where
       go : (x : Contents) → statusOf (j .len) x ≡ S.damaged n p → appendTo x j q .answer ≡ damaged n p
       go (standing ps committed) h = absurd (standing-not-damaged (j .len) ps committed n p h)
