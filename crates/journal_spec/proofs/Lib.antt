@@ -61,6 +61,7 @@ pub mod SectionAt
 pub mod RecordsLoop
 pub mod RefusalFrom
 pub mod Pieces
+pub mod TimesRead
 pub mod Cursor
 pub mod Whole
 pub mod IndexLoop

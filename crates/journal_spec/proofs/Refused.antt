@@ -1,6 +1,6 @@
 -- Any refusal writes no byte: a call that is declined, or that finds the journal damaged, leaves every byte of the slice and the length.
 -- And reading refuses as scan does, and then by 10. For every slice and length, whether or not a list of calls leads there. Assumes nothing.
-use mathlib.Core.Path.{_≡_, refl, sym, ap}
+use mathlib.Core.Path.{_≡_, refl, sym, ap, _∙_}
 use Prim.Native.Nat.{ℕ, zero, suc, _≤_, _<_}
 use mathlib.Core.List.{List, [], _∷_}
 use mathlib.Core.Logic.{_⊎_, inl, inr, ⊎-elim}
@@ -103,6 +103,16 @@ reading-refused rule slice len i n p h = go (contentsOf rule slice len) h
     go (standing ps committed) h = absurd (standing-not-damaged len ps committed n p h)
     go (faulty m q) h = (unfold partBytes partOf noPart in refl, number m q h)
 
+-- the part stands nowhere: place and number of its bytes are 0
+pub place-refused : (rule : Rule) (slice : List ℕ) (len i n p : ℕ) → scanOf rule slice len ≡ S.damaged n p
+    → partPlace rule slice len i ≡ record { start = 0; size = 0 }
+unfolding scanOf partPlace
+place-refused rule slice len i n p h = go (contentsOf rule slice len) h
+  where
+    go : (x : Contents) → statusOf len x ≡ S.damaged n p → partOf x i ≡ record { start = 0; size = 0 }
+    go (standing ps committed) h = absurd (standing-not-damaged len ps committed n p h)
+    go (faulty m q) h = unfold partOf noPart in refl
+
 -- ---- no such record
 
 part-absent : (ps : List Placed) (i : ℕ) → length ps ≤ i → partAt ps i ≡ noPart
@@ -155,6 +165,12 @@ module _ (rule : Rule) (slice : List ℕ) (len i n : ℕ) (stands : Stands (scan
         rw (part-absent (s .0) i (omega (arith, s .3))) (unfold partBytes noPart in refl),
         mark-absent (s .0) i (omega (arith, s .3)),
       ))
+
+  pub place-absent : n ≤ i → partPlace rule slice len i ≡ record { start = 0; size = 0 }
+  unfolding scanOf partPlace
+  place-absent h =
+      let s = standing-number len (contentsOf rule slice len) n stands in
+      rw (s .2) (unfold partOf in part-absent (s .0) i (omega (arith, s .3)) ∙ unfold noPart in refl)
 
   -- any other: a mark
   pub reading-present : i < n → (m : Mark) × (readMark rule slice len i ≡ marked m)

@@ -1,12 +1,12 @@
--- The refusals at the ends of the ranges, their order and the papers' numbers, computed from the definition.
+-- The refusals at the ends of the ranges, their order and the papers' numbers, and that the ends themselves are taken, computed from the definition.
 -- Assumes nothing.
 use mathlib.Core.Path.{_≡_, refl}
 use mathlib.Core.List.{List, [], _∷_}
 use Prim.Native.Nat.{ℕ}
-use lib.ListN.{replicate}
-use Rattle.limit.specs.Times.{inRange, timeInRange, allInRange, timesInRange}
-use Rattle.limit.specs.Formula.{plainForm, sampleForm}
-use Rattle.limit.specs.Answer.{refused}
+use lib.ListN.{length, replicate}
+use Rattle.limit.specs.Times.{inRange, timeInRange, allInRange, timesInRange, sumOf, squaresOf}
+use Rattle.limit.specs.Formula.{plainForm, sampleForm, figuresOf}
+use Rattle.limit.specs.Answer.{limited, refused}
 use Rattle.limit.specs.Limit.{formKnown, chanceInRange, judge, limitOf}
 
 -- under both forms
@@ -60,3 +60,19 @@ pub record RefusalNumbers : Type 0 where
 pub refusal-numbers : RefusalNumbers
 unfolding limitOf judge formKnown chanceInRange timesInRange allInRange timeInRange inRange
 refusal-numbers = record { form = refl; chance = (refl, refl); times = (refl, refl) }
+
+-- the formula's figures are answered, under both forms
+abbrev taken : ℕ → List ℕ → ℕ → Type 0
+taken form ts c = limitOf form ts c ≡ limited (figuresOf form (length ts) (sumOf ts) (squaresOf ts) c)
+
+abbrev takes : List ℕ → ℕ → Type 0
+takes ts c = taken plainForm ts c × taken sampleForm ts c
+
+-- the fewest and least times and the least chance, and the most and greatest times and the greatest chance
+pub record EndsTaken : Type 0 where
+  pub least : takes (1 ∷ 1 ∷ []) 1
+  pub greatest : takes (replicate 128 1_048_575) 999_999
+
+pub ends-taken : EndsTaken
+unfolding limitOf judge formKnown chanceInRange timesInRange allInRange timeInRange inRange
+ends-taken = record { least = (refl, refl); greatest = (refl, refl) }
