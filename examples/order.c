@@ -32,34 +32,34 @@ typedef double figure(const uint32_t *times, uint32_t n);
 static double quantile(const uint32_t *times, uint32_t n)
 {
     (void)times;
-    return of_bits(f_erfcinv_bits(to_bits(n / 500000.0)));
+    return of_bits(awaqlla_f_erfcinv_bits(to_bits(n / 500000.0)));
 }
 
 static double inverse(const uint32_t *times, uint32_t n)
 {
     (void)times;
-    return of_bits(f_erfinv_bits(to_bits(n / 1000000.0)));
+    return of_bits(awaqlla_f_erfinv_bits(to_bits(n / 1000000.0)));
 }
 
 static double limit(const uint32_t *times, uint32_t n)
 {
     uint64_t out[5];
-    limit_bits(2, times, 2, n, out);
-    return out[0] == LIMIT_ANSWERED ? of_bits(out[4]) : NAN;
+    awaqlla_limit_bits(2, times, 2, n, out);
+    return out[0] == AWAQLLA_DONE ? of_bits(out[4]) : NAN;
 }
 
 static double low_end(const uint32_t *times, uint32_t n)
 {
     uint64_t out[3];
-    band_bits(times, 2, n, out);
-    return out[0] == BAND_ANSWERED ? of_bits(out[1]) : NAN;
+    awaqlla_band_bits(times, 2, n, out);
+    return out[0] == AWAQLLA_DONE ? of_bits(out[1]) : NAN;
 }
 
 static double high_end(const uint32_t *times, uint32_t n)
 {
     uint64_t out[3];
-    band_bits(times, 2, n, out);
-    return out[0] == BAND_ANSWERED ? of_bits(out[2]) : NAN;
+    awaqlla_band_bits(times, 2, n, out);
+    return out[0] == AWAQLLA_DONE ? of_bits(out[2]) : NAN;
 }
 
 /* Says of how many neighbours a figure does not fall, or with sign -1 rise; one that stays counts where it must be strict. */

@@ -17,7 +17,7 @@ int main(int argc, char **argv)
         double x = c / 500000.0;
         uint64_t bits;
         memcpy(&bits, &x, sizeof bits);
-        printf("%016" PRIx64 "\n", f_erfcinv_bits(bits));
+        printf("%016" PRIx64 "\n", awaqlla_f_erfcinv_bits(bits));
     }
     return ended("quantiles", 0);
 }

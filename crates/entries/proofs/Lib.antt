@@ -11,3 +11,4 @@ pub mod Fitting
 pub mod Putting
 pub mod Opening
 pub mod Amended
+pub mod Meaning

@@ -1,14 +1,14 @@
--- A name looked up among the entries from a place on: those left decide, and what is found is the name's start and its entry's place. And whether an
--- entry has the name, by its length and its last byte first.
+-- A name looked up among the entries: those left decide, and what is found is the name's start. And whether an entry has the name, by its length
+-- and its last byte first.
 -- Assumes nothing.
 use mathlib.Core.Path.{_≡_, refl, sym, ap, _∙_}
-use Prim.Native.Nat.{ℕ, zero, suc, _+_, _-_, _≤_, _<_}
-use mathlib.Core.List.{List, [], _∷_, _++_}
+use Prim.Native.Nat.{ℕ, _+_, _-_, _≤_, _<_}
+use mathlib.Core.List.{List, [], _∷_}
 use mathlib.Core.Bool.{Bool, true, false, _&&_}
 use mathlib.Core.Option.{some}
 use native.Mathlib.Omega.{arith}
 use lib.ListN.{length, take, drop, getD}
-use lib.Dec.{leb, eqb}
+use lib.Dec.{eqb}
 use lib.Seq.{getD-take, getD-drop}
 use Rattle.hex.specs.Same.{sameBytes}
 use Rattle.hex.proofs.Comparing.{equal-same, same-equal, lengths-differ, same-ends}
@@ -19,12 +19,10 @@ use Rattle.journal_spec.proofs.Reading.{by-test}
 use Rattle.journal_spec.specs.Indexed.{lookUp}
 use Rattle.journal_spec.proofs.Indexes.{own, other}
 use Rattle.journal.specs.Numbers.{numberIn}
-use Rattle.entries.specs.Entries.{nameAt, startAt, behindEntry, sizeAt, startIn, entriesFrom, entriesIn}
-use Rattle.entries.specs.Places.{lookFrom}
+use Rattle.entries.specs.Entries.{nameAt, startAt, sizeAt, startIn, entriesFrom, entriesIn}
 use Rattle.entries.specs.Answers.{startMeaning}
-use Rattle.entries.specs.declared.finding.Looked.{Looked}
 use Rattle.entries.specs.declared.finding.Start.the-variants as S
-use Rattle.entries.proofs.ByCounts.{Here, size-here, start-stands, entries-end, entries-none, entries-more, behind-is, count-read}
+use Rattle.entries.proofs.ByCounts.{Here, size-here, start-stands, entries-end, entries-none, entries-more, count-read}
 
 -- ---- the name of an entry
 
@@ -77,113 +75,52 @@ module _ (b name : List ℕ) (at start : ℕ) (t : Bool) (told : t ≡ sameBytes
 
 -- ---- one entry a turn
 
--- of the entries from the first place on, `left` are left from the place on, and decide
-pub record Looking (b name : List ℕ) (most first left place : ℕ) : Type 0 where
-  pub same : lookFrom name most first (entriesFrom b most first) ≡ lookFrom name left place (entriesFrom b left place)
+-- an entry with another name
+other-name : (name : List ℕ) (e : IndexEntry) (es : List IndexEntry) → sameBytes (e .name) name ≡ false → lookUp name (e ∷ es) ≡ lookUp name es
+other-name name e es t =
+    other name e es
+    (λ o.
+    let z : true ≡ false = sym (equal-same name) ∙ ap (λ (m : List ℕ). sameBytes m name) (order-equal name (e .name) o) ∙ t in
+    let y : _≡_ {A = ℕ} 0 1 = cc in
+    omega arith)
 
-module _ (b name : List ℕ) (most first : ℕ) where
-  pub look-start : Looking b name most first most first
-  look-start = record { same = refl }
+own-name : (name : List ℕ) (e : IndexEntry) (es : List IndexEntry) → sameBytes (e .name) name ≡ true → lookUp name (e ∷ es) ≡ some (e .start)
+own-name name e es t = ap (λ (m : List ℕ). lookUp m (e ∷ es)) (sym (same-equal (e .name) name t)) ∙ own e es
 
-  module _ (left place : ℕ) (l : Looking b name most first left place) where
-    ends : entriesFrom b left place ≡ []
-        → record { start = S.Absent; left = 0; place = place } ≡ lookFrom name most first (entriesFrom b most first)
-    unfolding lookFrom
-    ends e = sym (l .same ∙ ap (lookFrom name left place) e)
+-- of all entries `left` are left from the place on, and decide
+pub record Looking (b name : List ℕ) (left place : ℕ) : Type 0 where
+  pub same : lookUp name (entriesIn b) ≡ lookUp name (entriesFrom b left place)
 
-    pub look-short : (size : ℕ) → size ≡ sizeAt b place → size ≡ 0
-        → record { start = S.Absent; left = 0; place = place } ≡ lookFrom name most first (entriesFrom b most first)
-    look-short size e z = ends (entries-end b place left (sym z ∙ e))
+pub look-start : (b name : List ℕ) (count : ℕ) → count ≡ numberIn 2 0 b → Looking b name count 2
+look-start b name count e = record { same = ap (lookUp name) (sym (count-read b count e)) }
 
-    pub look-done : left ≡ 0 → record { start = S.Absent; left = 0; place = place } ≡ lookFrom name most first (entriesFrom b most first)
-    look-done e = ends (entries-none b left place e)
+module _ (b name : List ℕ) (left place : ℕ) (l : Looking b name left place) where
+  ends : entriesFrom b left place ≡ [] → startMeaning S.Absent ≡ lookUp name (entriesIn b)
+  unfolding lookUp startMeaning
+  ends e = sym (l .same ∙ ap (lookUp name) e)
 
-    -- by whether the entry has the name
-    module _ (size : ℕ) (t : Bool) (e : size ≡ sizeAt b place) (a : t ≡ sameBytes (nameAt b place) name) (k : 0 < size) (h : 0 < left) where
-      abbrev others : List IndexEntry
-      others = entriesFrom b (left - 1) (place + size)
+  pub look-short : (size : ℕ) → size ≡ sizeAt b place → size ≡ 0 → startMeaning S.Absent ≡ lookUp name (entriesIn b)
+  look-short size e z = ends (entries-end b place left (sym z ∙ e))
 
-      all : lookFrom name most first (entriesFrom b most first)
-          ≡ lookFrom name left place (record { name = nameAt b place; start = startAt b place } ∷ others)
-      all = l .same ∙ ap (lookFrom name left place) (entries-more b place left size h e k)
+  pub look-done : left ≡ 0 → startMeaning S.Absent ≡ lookUp name (entriesIn b)
+  look-done e = ends (entries-none b left place e)
 
-      pub look-found : (n : ℕ) → n ≡ startIn b place → t ≡ true
-          → record { start = S.At n; left = left; place = place } ≡ lookFrom name most first (entriesFrom b most first)
-      unfolding lookFrom
-      look-found n s q =
-          let start : n ≡ startAt b place = s ∙ start-stands b place (size-here b place size e k .stands) in
-          rw start (sym (all ∙ rw (sym a ∙ q) refl))
+  -- by whether the entry has the name
+  module _ (size : ℕ) (t : Bool) (e : size ≡ sizeAt b place) (a : t ≡ sameBytes (nameAt b place) name) (k : 0 < size) (h : 0 < left) where
+    abbrev first : IndexEntry
+    first = record { name = nameAt b place; start = startAt b place }
 
-      pub look-goes : t ≡ false → Looking b name most first (left - 1) (place + size)
-      unfolding lookFrom
-      look-goes q =
-          let x = size-here b place size e k in
-          let p : place + length (nameAt b place) + 6 ≡ place + size = omega (arith, x .named, x .count) in
-          record { same = all ∙ rw (sym a ∙ q, p) refl }
+    abbrev others : List IndexEntry
+    others = entriesFrom b (left - 1) (place + size)
 
--- ---- what is found
+    all : lookUp name (entriesIn b) ≡ lookUp name (first ∷ others)
+    all = l .same ∙ ap (lookUp name) (entries-more b place left size h e k)
 
--- some of the entries are passed, and the others are left from the place found on
-pub record Passed (b : List ℕ) (es : List IndexEntry) (r : Looked) : Type 0 where
-  pub passed : List IndexEntry
-  pub parts : es ≡ passed ++ entriesFrom b (r .left) (r .place)
+    pub look-found : (n : ℕ) → n ≡ startIn b place → t ≡ true → startMeaning (S.At n) ≡ lookUp name (entriesIn b)
+    unfolding startMeaning
+    look-found n s q =
+        let start : n ≡ startAt b place = s ∙ start-stands b place (size-here b place size e k .stands) in
+        rw start (sym (all ∙ own-name name first others (sym a ∙ q)))
 
-module _ (name : List ℕ) where
-  -- an entry with another name
-  other-name : (e : IndexEntry) (es : List IndexEntry) → sameBytes (e .name) name ≡ false → lookUp name (e ∷ es) ≡ lookUp name es
-  other-name e es t =
-      other name e es
-      (λ o.
-      let z : true ≡ false = sym (equal-same name) ∙ ap (λ (m : List ℕ). sameBytes m name) (order-equal name (e .name) o) ∙ t in
-      let y : _≡_ {A = ℕ} 0 1 = cc in
-      omega arith)
-
-  own-name : (e : IndexEntry) (es : List IndexEntry) → sameBytes (e .name) name ≡ true → lookUp name (e ∷ es) ≡ some (e .start)
-  own-name e es t = ap (λ (m : List ℕ). lookUp m (e ∷ es)) (sym (same-equal (e .name) name t)) ∙ own e es
-
-  -- the start is that of the name
-  pub look-is : (left at : ℕ) (es : List IndexEntry) → startMeaning (lookFrom name left at es .start) ≡ lookUp name es
-  unfolding lookFrom lookUp startMeaning
-  look-is left at [] = refl
-  look-is left at (e ∷ es) =
-      by-test (sameBytes (e .name) name)
-      (λ t. rw t (sym (own-name e es t)))
-      (λ t. rw t (look-is (left - 1) (at + length (e .name) + 6) es ∙ sym (other-name e es t)))
-
-  -- among all entries, with their count as it is read
-  pub look-all : (b : List ℕ) (count : ℕ) (r : Looked) → count ≡ numberIn 2 0 b → r ≡ lookFrom name count 2 (entriesFrom b count 2)
-      → startMeaning (r .start) ≡ lookUp name (entriesIn b)
-  look-all b count r n e =
-      ap (λ (l : Looked). startMeaning (l .start)) e ∙ look-is count 2 (entriesFrom b count 2) ∙ ap (lookUp name) (count-read b count n)
-
-  -- where entries are left there is one
-  pub look-some : (left at : ℕ) (es : List IndexEntry) → 0 < lookFrom name left at es .left → (s : ℕ) × (lookUp name es ≡ some s)
-  unfolding lookFrom
-  look-some left at [] h = absurd (omega (arith, h))
-  look-some left at (e ∷ es) h =
-      by-test (sameBytes (e .name) name)
-      (λ t. (e .start, own-name e es t))
-      (λ t.
-      let r = look-some (left - 1) (at + length (e .name) + 6) es (rw t at h) in
-      (r .0, other-name e es t ∙ r .1))
-
-  pub look-parts : (b : List ℕ) (left at : ℕ) → Passed b (entriesFrom b left at) (lookFrom name left at (entriesFrom b left at))
-  unfolding entriesFrom lookFrom
-  look-parts b zero at = record { passed = []; parts = refl }
-  look-parts b (suc n) at =
-      by-test (leb (behindEntry b at) (length b))
-      (λ t.
-      by-test (sameBytes (nameAt b at) name)
-      (λ q. rw (t, q) (record { passed = []; parts = unfold entriesFrom in rw t refl }))
-      (λ q. rw (t, q) (later t (look-parts b n (behindEntry b at)))))
-      (λ t. rw t (record { passed = []; parts = refl }))
-    where
-      first : IndexEntry
-      first = record { name = nameAt b at; start = startAt b at }
-
-      later : let es = entriesFrom b n (behindEntry b at) in
-          leb (behindEntry b at) (length b) ≡ true → Passed b es (lookFrom name n (behindEntry b at) es)
-          → Passed b (first ∷ es) (lookFrom name (suc n - 1) (at + length (nameAt b at) + 6) es)
-      later t x =
-          let m : suc n - 1 ≡ n = omega arith in
-          rw (m, behind-is b at t) (record { passed = first ∷ x .passed; parts = ap (λ (l : List IndexEntry). first ∷ l) (x .parts) })
+    pub look-goes : t ≡ false → Looking b name (left - 1) (place + size)
+    look-goes q = record { same = all ∙ other-name name first others (sym a ∙ q) }

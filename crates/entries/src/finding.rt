@@ -7,8 +7,8 @@ ghost use Prim.Native.Nat.{_<_};
 ghost use Rattle.hex.specs.Same.{sameBytes};
 ghost use Rattle.journal_spec.specs.Index.{orderOf};
 ghost use Rattle.journal_spec.specs.Indexed.{lookUp};
-ghost use Rattle.entries.specs.Entries.{nameAt, startAt, sizeAt, entriesFrom, entriesIn};
-ghost use Rattle.entries.specs.Places.{findIn, lookFrom};
+ghost use Rattle.entries.specs.Entries.{nameAt, startAt, sizeAt, entriesIn};
+ghost use Rattle.entries.specs.Places.{findIn};
 ghost use Rattle.entries.specs.Answers.{orderMeaning, startMeaning};
 use crate::names::NameOrder;
 use crate::names::order_of;
@@ -27,13 +27,6 @@ pub struct Found {
 pub enum Start {
     At(usize),
     Absent,
-}
-
-// What was found of a name among entries: its start, the place of its entry, and how many are left from there on; none where it has no entry.
-pub struct Looked {
-    pub start: Start,
-    pub left: u64,
-    pub place: usize,
 }
 
 pub fn find(index: &[u8], name: &[u8]) -> Found
@@ -72,37 +65,20 @@ pub fn find(index: &[u8], name: &[u8]) -> Found
 pub fn look_up(index: &[u8], name: &[u8]) -> Start
     ensures { λ r. ⌜ startMeaning r ≡ lookUp (now (name .entry)) (entriesIn (now (index .entry))) ⌝ }
 {
-    let looked = look_from(index, number_in(index, 0, 2), 2, name);
-    looked.start
-}
-
-// The name looked for among at most so many entries from a place on.
-pub fn look_from(index: &[u8], most: u64, first: usize, name: &[u8]) -> Looked
-    ensures { λ r. ⌜ r ≡ lookFrom (now (name .entry)) most first (entriesFrom (now (index .entry)) most first) ⌝ }
-{
-    let mut left = most;
-    let mut place = first;
-    while 0 < left {
-        let size = size_at(index, place);
+    let mut more = number_in(index, 0, 2);
+    let mut at: usize = 2;
+    while 0 < more {
+        let size = size_at(index, at);
         if size == 0 {
-            return Looked {
-                start: Start::Absent,
-                left: 0,
-                place,
-            };
+            return Start::Absent;
         }
-        if is_name(index, place, size, name) {
-            let start = Start::At(start_at(index, place));
-            return Looked { start, left, place };
+        if is_name(index, at, size, name) {
+            return Start::At(start_at(index, at));
         }
-        place += size;
-        left -= 1;
+        at += size;
+        more -= 1;
     }
-    Looked {
-        start: Start::Absent,
-        left: 0,
-        place,
-    }
+    Start::Absent
 }
 
 // How the name stands to that of the entry at a place, which has so many bytes.

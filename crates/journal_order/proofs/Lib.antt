@@ -8,3 +8,4 @@ pub mod Inserting
 pub mod Settling
 pub mod Entering
 pub mod Gathering
+pub mod Meaning

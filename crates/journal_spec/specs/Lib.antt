@@ -32,6 +32,5 @@ pub mod Fields
 pub mod Scanned
 -- what came before document 02's requests, for the laws about old journals
 pub mod Former
--- for private contracts: the record's reader from each of its parts on, and an index entry by entry
+-- for private contracts: the record's reader from each of its parts on
 pub mod Stages
-pub mod NextEntry

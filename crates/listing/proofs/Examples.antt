@@ -1,5 +1,5 @@
--- Document 01's example listed, whole and cut to 32 bytes, a journal with a fault, the two forms in one journal, and the empty one: computed
--- from the definitions. Assumes nothing.
+-- Document 01's example listed, whole and cut to 32 bytes, a journal with a fault, the two forms in one journal, the empty one, and the line of a record
+-- with two chances: computed from the definitions. Assumes nothing.
 use mathlib.Core.Path.{_≡_, refl}
 use mathlib.Core.List.{List, [], _∷_, _++_}
 use Prim.Native.Nat.{ℕ}
@@ -15,7 +15,7 @@ use Rattle.journal_spec.specs.Bytes.{valueOf, joined}
 use Rattle.journal_spec.specs.Refusals.{unless, outside, firstOf}
 use Rattle.journal_spec.specs.Reader.{run, then}
 use Rattle.journal_spec.specs.Section.{items, section}
-use Rattle.journal_spec.specs.Record.{lastOf, judgeForm, judgeDay, nameSection, lastChance, judgeChance, chanceSection, timeSection}
+use Rattle.journal_spec.specs.Record.{Record, lastOf, judgeForm, judgeDay, nameSection, lastChance, judgeChance, chanceSection, timeSection}
 use Rattle.journal_spec.specs.Record.{judgeLimit, limitSection, recordReader}
 use Rattle.journal_spec.specs.Profile.{keeps}
 use Rattle.journal_spec.specs.Profile as P
@@ -73,3 +73,31 @@ listed-examples = record {
   old-form-listed = refl;
   empty-listed = refl;
 }
+
+-- ---- two chances, and a day of four digits
+
+-- `AB 9312 S 4059000000000000 402c48c6001f0ac0 1:4064e7277ee63bd0 1000:4061f67ac0872f3a`: mean, spread and the first limit are those of crate limit's
+-- `form-cases`, the second limit is README's
+abbrev twoChances : Record
+twoChances = record {
+  form = 2;
+  day = 9_312;
+  name = 0x41 ∷ 0x42 ∷ [];
+  chances = 1 ∷ 1_000 ∷ [];
+  times = 90 ∷ 110 ∷ [];
+  limits = 0x4064_e727_7ee6_3bd0 ∷ 0x4061_f67a_c087_2f3a ∷ [];
+}
+
+pub two-chances : recordLine twoChances ≡
+    0x41 ∷ 0x42 ∷ 0x20 ∷
+    0x39 ∷ 0x33 ∷ 0x31 ∷ 0x32 ∷ 0x20 ∷
+    0x53 ∷ 0x20 ∷
+    0x34 ∷ 0x30 ∷ 0x35 ∷ 0x39 ∷ 0x30 ∷ 0x30 ∷ 0x30 ∷ 0x30 ∷ 0x30 ∷ 0x30 ∷ 0x30 ∷ 0x30 ∷ 0x30 ∷ 0x30 ∷ 0x30 ∷ 0x30 ∷ 0x20 ∷
+    0x34 ∷ 0x30 ∷ 0x32 ∷ 0x63 ∷ 0x34 ∷ 0x38 ∷ 0x63 ∷ 0x36 ∷ 0x30 ∷ 0x30 ∷ 0x31 ∷ 0x66 ∷ 0x30 ∷ 0x61 ∷ 0x63 ∷ 0x30 ∷ 0x20 ∷
+    0x31 ∷ 0x3a ∷ 0x34 ∷ 0x30 ∷ 0x36 ∷ 0x34 ∷ 0x65 ∷ 0x37 ∷ 0x32 ∷ 0x37 ∷ 0x37 ∷ 0x65 ∷ 0x65 ∷ 0x36 ∷ 0x33 ∷ 0x62 ∷ 0x64 ∷ 0x30 ∷ 0x20 ∷
+    0x31 ∷ 0x30 ∷ 0x30 ∷ 0x30 ∷ 0x3a ∷ 0x34 ∷ 0x30 ∷ 0x36 ∷ 0x31 ∷ 0x66 ∷ 0x36 ∷ 0x37 ∷ 0x61 ∷ 0x63 ∷ 0x30 ∷ 0x38 ∷ 0x37 ∷ 0x32 ∷ 0x66 ∷ 0x33 ∷ 0x61 ∷ 0x0a ∷ []
+unfolding ofInt ofBits toBits isNan eq lt add mul div sqrtIn
+    inRange timeInRange allInRange timesInRange sumOf squaresOf meanOf spreadBy divisorOf spreadOf momentsOf formKnown momentsOfTimes
+    glyphOf digits orMore placesIn placesOf decimalDigits letterOf allEqual areEqual markFrom markOf spaced lineOf meanBits spreadBits
+    quotedLimit quotedLimits recordLine
+two-chances = refl

@@ -3,6 +3,7 @@
 pub mod Tally
 pub mod Dropping
 pub mod ByDay
+pub mod Parted
 pub mod Only
 pub mod Following
 pub mod Falls

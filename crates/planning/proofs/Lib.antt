@@ -2,3 +2,4 @@
 pub mod Columns
 pub mod Quoting
 pub mod Slots
+pub mod Examples
