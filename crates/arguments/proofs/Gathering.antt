@@ -1,13 +1,14 @@
 -- Output gathered in a room: the cases of one text, and that no byte is lost or moved: the pieces that are written, and what waits behind them,
 -- are the texts in their order. Assumes nothing.
 use mathlib.Core.Path.{_≡_, refl, sym, ap, _∙_}
-use Prim.Native.Nat.{ℕ, _+_, _-_, _≤_, _<_, min}
+use Prim.Native.Nat.{ℕ, _+_, _-_, _≤_, _<_}
 use mathlib.Core.Bool.{Bool, true, false}
 use mathlib.Core.List.{List, [], _∷_, _++_, append-nil, append-assoc}
 use native.Mathlib.Omega.{arith}
 use borrow.Author.Tests.{leb-true, le-leb, lt-leb}
 use lib.ListN.{length, take}
 use lib.Seq.{paste, length-paste, take-paste, take-length, length-take-le}
+use Rattle.facts.proofs.Tests.{true-not-false}
 use Rattle.hex.specs.Text.{roomFor, Put}
 use Rattle.io.specs.Counts.{Counts}
 use Rattle.arguments.specs.Gather.{Gather, fitsBehind, placed, gatherOf, Gathers, gatherAll, inOrder}
@@ -25,9 +26,6 @@ fits-so room text n h = sym (le-leb (n + length text) (length room) h)
 -- a number of bytes that the room has
 pub counts : (n : ℕ) (room : List ℕ) → n ≤ length room → Counts n room
 counts n room h = (h, sym (length-take-le n room h))
-
-true-not-false : true ≡ false → ⊥
-true-not-false h = let z : _≡_ {A = ℕ} 0 1 = cc in omega arith
 
 -- all of a text that fits is put
 whole : (room text : List ℕ) (n : ℕ) → fitsBehind room n text ≡ true → roomFor room n text ≡ length text

@@ -11,6 +11,7 @@ use lib.Ieee.{Float, nan, inf, fin, binary64, fits, ofBits, sub, lt, le, eq}
 use lib.Ieee.Exact.{HasValue}
 use lib.Ieee.Scale.{finite}
 use denote.Floats.{passes}
+use Rattle.facts.proofs.Tests.{refuted}
 use Rattle.pxfm.specs.declared.double_double.DoubleDouble.{DoubleDouble}
 use Rattle.pxfm.specs.DoubleDouble.{newOf, one, two, fromFullExactAdd, fromFullExactSub, toF64}
 use Rattle.pxfm.specs.Argument.{zero, tenth, mirroredOf, complement, coreArgument}
@@ -19,7 +20,7 @@ use Rattle.pxfm.proofs.Units.{in-units, val-whole}
 use Rattle.pxfm.proofs.Order.{val-of-eq}
 use Rattle.pxfm.proofs.Bits.{BelowTwo}
 use Rattle.pxfm.proofs.Ranges.{zero-val, two-val}
-use Rattle.pxfm.proofs.FirstTests.{refuted, within-inside}
+use Rattle.pxfm.proofs.FirstTests.{within-inside}
 use Rattle.bounds.specs.Interval.{In, SizeAtMost, about}
 use Rattle.bounds.specs.Quantile.{leastArgument, mostArgument, OrdinaryArgument}
 use Rattle.bounds.specs.Ranges.{usual, deep, reachB, coreB, coreLowB, argumentB, quantileB, deepQuantileB}

@@ -11,8 +11,8 @@ use lib.ListN.{length, length-append}
 use lib.Pow.{pow-pos}
 use lib.Ieee.{Float, binary64, fits}
 use lib.Ieee.Positive.{num}
+use Rattle.facts.proofs.Orders.{by-order}
 use Rattle.hex.specs.Hex.{digits, decimalDigits}
-use Rattle.hex.proofs.Cases.{split}
 use Rattle.hex.proofs.Counting.{decimal-most}
 use Rattle.hex.proofs.Writing.{length-digits}
 use Rattle.ticks.specs.Ticks.{minusOf}
@@ -30,9 +30,9 @@ before-most m k i j pos h l b =
 
 behind-most : (m k : ℕ) → m < 2 ^ 53 → k ≤ mostPlaces → length (decimalDigits (m / 2 ^ k)) + k ≤ 61
 behind-most m k h l =
-    split k 45 (λ a. omega (arith, before-most m k 0 16 (omega arith) h (omega arith) (omega arith)))
+    by-order k 45 (λ a. omega (arith, before-most m k 0 16 (omega arith) h (omega arith) (omega arith)))
     (λ a.
-    split k 58 (λ b. omega (arith, before-most m k 46 3 (omega arith) h (omega arith) a))
+    by-order k 58 (λ b. omega (arith, before-most m k 46 3 (omega arith) h (omega arith) a))
     (λ b. omega (arith, before-most m k 59 1 (omega arith) h (omega arith) b)))
 
 fraction-most : (m k : ℕ) → m < 2 ^ 53 → k ≤ mostPlaces → length (fractionText m k) ≤ 62

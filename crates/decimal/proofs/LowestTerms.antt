@@ -12,7 +12,7 @@ use lib.Ieee.{Float, nan, inf, fin, binary64, fits, ofBits}
 use lib.Ieee.Bits.{ofBits-fits}
 use lib.Ieee.Fits.{and-l, and-r}
 use lib.Ieee.Positive.{num, den}
-use Rattle.hex.proofs.Cases.{split}
+use Rattle.facts.proofs.Orders.{by-order}
 use Rattle.ticks.proofs.Patterns.{IsFraction, pattern-low, pattern-mid}
 use Rattle.decimal.specs.Decimal.{placesBehind}
 use Rattle.decimal.specs.Lowest.{IsLowest, IsSize}
@@ -26,8 +26,8 @@ twice a j = ap (λ (p : ℕ). a * p) (pow-suc 2 j) ∙ sym (mul-assoc a (2 ^ j) 
 lowest-unique : (a k n j : ℕ) → (0 < k → a % 2 ≡ 1) → (0 < j → n % 2 ≡ 1) → n * 2 ^ k ≡ a * 2 ^ j → (n ≡ a) × (j ≡ k)
 lowest-unique a k n j p q e =
     let same : j ≡ k =
-    split j k
-    (λ h. split k j (λ g. omega arith) (λ g. absurd (omega (arith, p (omega arith), base-divides 2 n j a k (omega arith) e g))))
+    by-order j k
+    (λ h. by-order k j (λ g. omega arith) (λ g. absurd (omega (arith, p (omega arith), base-divides 2 n j a k (omega arith) e g))))
     (λ h. absurd (omega (arith, q (omega arith), base-divides 2 a k n j (omega arith) (sym e) h))) in
     (eq-of-mul-eq-mul-right (2 ^ k) (pow-pos k) n a (e ∙ ap (λ (i : ℕ). a * 2 ^ i) same), same)
 

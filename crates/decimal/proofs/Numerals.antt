@@ -10,8 +10,9 @@ use borrow.Author.Tests.{leb-true, ltb-true, not-true, eqb-false}
 use lib.Arith.{digits-div}
 use lib.Dec.{leb, ltb, eqb}
 use lib.ListN.{length}
+use Rattle.facts.proofs.Tests.{both-hold}
+use Rattle.facts.proofs.Orders.{by-order}
 use Rattle.hex.specs.Hex.{glyphOf, digits}
-use Rattle.hex.proofs.Cases.{split, both-hold}
 use Rattle.hex.proofs.Writing.{digits-front}
 use Rattle.decimal.specs.Meaning.{areDigits, numberFrom, isLean, endsInZero}
 use Rattle.decimal.proofs.Reading.{glyph-is, number-append}
@@ -81,7 +82,7 @@ lean-least c d cs h l =
     omega (arith, parts)
   where
     not-below : (c : ℕ) → 48 ≤ c → (c ≡ 48 → ⊥) → 1 ≤ c - 48
-    not-below c h n = split 1 (c - 48) (λ k. k) (λ k. absurd (n (omega arith)))
+    not-below c h n = by-order 1 (c - 48) (λ k. k) (λ k. absurd (n (omega arith)))
 
 -- of two that make one number neither is longer
 lean-longer : (w v : List ℕ) → areDigits w ≡ true → areDigits v ≡ true → isLean w ≡ true → isLean v ≡ true → numberFrom 0 w ≡ numberFrom 0 v
@@ -99,8 +100,8 @@ lean-longer w (c ∷ d ∷ cs) p q l m e h =
 pub lean-same : (w v : List ℕ) → areDigits w ≡ true → areDigits v ≡ true → isLean w ≡ true → isLean v ≡ true → numberFrom 0 w ≡ numberFrom 0 v → w ≡ v
 lean-same w v p q l m e =
     let size : length w ≡ length v =
-    split (length w) (length v)
-    (λ a. split (length v) (length w) (λ b. omega arith) (λ b. absurd (lean-longer w v p q l m e b)))
+    by-order (length w) (length v)
+    (λ a. by-order (length v) (length w) (λ b. omega arith) (λ b. absurd (lean-longer w v p q l m e b)))
     (λ a. absurd (lean-longer v w q p m l (sym e) a)) in
     digits-back 0 w p ∙ rw (size, e) (sym (digits-back 0 v q))
 

@@ -8,8 +8,8 @@ use native.Mathlib.Omega.{arith}
 use lib.ListN.{length}
 use lib.Ieee.{Float, binary64, ofBits}
 use lib.Ieee.Positive.{num, den, den-pos}
+use Rattle.facts.proofs.Orders.{by-order}
 use Rattle.hex.specs.Hex.{digits}
-use Rattle.hex.proofs.Cases.{split}
 use Rattle.ticks.specs.Ticks.{minusOf}
 use Rattle.ticks.specs.Text.{minusSign}
 use Rattle.decimal.specs.Decimal.{isShown, exactText}
@@ -33,8 +33,8 @@ module _ (x : Float) (t s : List ℕ) (e : IsExact x t) (f : IsExact x s) where
 pub exact-same : (x : Float) (t s : List ℕ) → IsExact x t → IsExact x s → t ≡ s
 exact-same x t s e f =
     let size : length (e .behind) ≡ length (f .behind) =
-    split (length (e .behind)) (length (f .behind))
-    (λ a. split (length (f .behind)) (length (e .behind)) (λ b. omega arith) (λ b. absurd (no-longer x t s e f b)))
+    by-order (length (e .behind)) (length (f .behind))
+    (λ a. by-order (length (f .behind)) (length (e .behind)) (λ b. omega arith) (λ b. absurd (no-longer x t s e f b)))
     (λ a. absurd (no-longer x s t f e a)) in
     let power = 10 ^ length (f .behind) in
     let n : ℕ = numberFrom 0 (e .whole ++ e .behind) in

@@ -8,8 +8,8 @@ use native.Mathlib.Omega.{arith}
 use borrow.Author.Tests.{lt-ltb, le-leb, ne-eqb}
 use lib.Arith.{mod-mul}
 use lib.Dec.{leb, ltb, eqb}
+use Rattle.facts.proofs.Orders.{by-order}
 use Rattle.hex.specs.Hex.{glyphOf, digits, orMore, placesIn, placesOf, decimalDigits}
-use Rattle.hex.proofs.Cases.{split}
 use Rattle.hex.proofs.Counting.{places-one, places-turn, places-hold, places-least}
 use Rattle.hex.proofs.Writing.{digits-front}
 use Rattle.decimal.specs.Meaning.{areDigits, numberFrom, isLean, endsInZero}
@@ -25,7 +25,7 @@ places-some : (most n : ℕ) → 0 < placesIn 10 most n
 unfolding placesIn orMore
 places-some zero n = omega arith
 places-some (suc most) n =
-    split 10 n
+    by-order 10 n
     (λ h. rw (places-turn 10 most n h) (omega arith))
     (λ h. rw (places-one 10 (suc most) n h) (omega arith))
 
@@ -93,7 +93,7 @@ decimal-lean n = go (placesIn 10 n n) refl
     go zero e = absurd (omega (arith, places-some n n))
     go (suc zero) e = unfold digits isLean in refl
     go (suc (suc p)) e =
-        let some : 0 < n = split 1 n (λ h. h) (λ h. absurd (omega (arith, places-one 10 n n (omega arith)))) in
+        let some : 0 < n = by-order 1 n (λ h. h) (λ h. absurd (omega (arith, places-one 10 n n (omega arith)))) in
         let least : 10 ^ suc p ≤ n = places-least n n (omega arith) some (suc p) e in
         let first : 0 < n / 10 ^ suc p = le-div-iff-mul-le (one-le-pow (suc p) 10 (omega arith)) .1 (omega arith) in
         let held : n < 10 ^ suc (suc p) = rw e at (places-hold n n (omega arith)) in

@@ -13,8 +13,9 @@ use lib.Ieee.{Float, binary64, ofBits}
 use lib.Ieee.Bits.{ofBits-fits}
 use lib.Ieee.Positive.{num, den}
 use lib.Ieee.Scale.{finite}
+use Rattle.facts.proofs.Tests.{both-hold}
+use Rattle.facts.proofs.Orders.{by-order}
 use Rattle.hex.specs.Hex.{digits, decimalDigits}
-use Rattle.hex.proofs.Cases.{split, both-hold}
 use Rattle.ticks.specs.Ticks.{inRange}
 use Rattle.ticks.specs.Text.{minusSign, point}
 use Rattle.ticks.proofs.Range.{pattern-in, pattern-out}
@@ -52,7 +53,7 @@ few-units n k h =
 
 units-few : (n k a : ℕ) → (0 < k → n % 2 ≡ 1) → n * 2 ^ 60 ≡ a * 2 ^ k → k ≤ mostPlaces
 units-few n k a odd e =
-    split k mostPlaces (λ h. h) (λ h. absurd (omega (arith, odd (omega arith), base-divides 2 a 60 n k (omega arith) (sym e) h)))
+    by-order k mostPlaces (λ h. h) (λ h. absurd (omega (arith, odd (omega arith), base-divides 2 a 60 n k (omega arith) (sym e) h)))
 
 pub shown-in : (x : Float) → isShown x ≡ true → (finite x ≡ true) × (num x < 2 ^ 53 * den x) × (placesBehind x ≤ mostPlaces)
 unfolding isShown inRange
@@ -82,7 +83,7 @@ module _ (b : ℕ) where
   large-shown h l =
       let x = ofBits binary64 b in
       in-shown x h
-      (split (placesBehind x) mostPlaces (λ k. k)
+      (by-order (placesBehind x) mostPlaces (λ k. k)
       (λ k.
       let few = own-parts x (ofBits-fits binary64 b) (omega arith) .1 in
       let lower = places-den x in

@@ -10,12 +10,12 @@ use lib.ListN.{length, take, drop, length-append, length-drop, take-append-drop}
 use lib.Seq.{take-at, drop-at, drop-drop, take-append-le, take-take, length-take-le}
 use lib.Dec.{leb}
 use borrow.Author.Tests.{le-leb, lt-leb, leb-true, leb-false}
+use Rattle.facts.proofs.Tests.{true-not-false, by-test}
 use Rattle.hex.specs.Text.{Put}
 use Rattle.hex.proofs.Putting.{put-whole}
 use Rattle.journal_spec.specs.Bytes.{AreBytes, bytesOf, numberAt, joined}
 use Rattle.journal_spec.specs.Index.{IndexEntry, entryBytes, indexBytes, Order, lower, equal, higher, orderOf, amend}
 use Rattle.journal_spec.specs.Append.{written}
-use Rattle.journal_spec.proofs.Reading.{by-test}
 use Rattle.journal_spec.proofs.NameOrder.{order-equal}
 use Rattle.journal_spec.proofs.Numbers.{length-bytes}
 use Rattle.journal_spec.specs.Index.{entriesSize}
@@ -30,9 +30,6 @@ use Rattle.entries.proofs.Parsed.{entries-here}
 use Rattle.entries.proofs.Putting.{put-written}
 
 -- ---- the entries about a name's place
-
-true-not-false : true ≡ false → ⊥
-true-not-false h = let z : _≡_ {A = ℕ} 0 1 = cc in omega arith
 
 -- those before the place, and those behind the name's entry or the place
 pub record Parts (new : IndexEntry) (at : ℕ) (es : List IndexEntry) (f : Found) : Type 0 where

@@ -10,10 +10,10 @@ use lib.ListN.{length, take, drop, length-drop}
 use lib.Dec.{leb}
 use lib.Seq.{length-take-le}
 use borrow.Author.Tests.{le-leb, lt-leb, leb-true, leb-false}
+use Rattle.facts.proofs.Tests.{by-test}
 use Rattle.journal_spec.specs.Bytes.{numberAt}
 use Rattle.journal_spec.specs.Index.{IndexEntry}
 use Rattle.journal_spec.specs.Index.{entriesSize}
-use Rattle.journal_spec.proofs.Reading.{by-test}
 use Rattle.journal.specs.Numbers.{numberIn}
 use Rattle.journal.proofs.NumberStands.{number-stands}
 use Rattle.entries.specs.Entries.{nameAt, startAt, behindEntry, sizeAt, startIn, entriesFrom, entriesIn}

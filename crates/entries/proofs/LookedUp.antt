@@ -10,12 +10,12 @@ use native.Mathlib.Omega.{arith}
 use lib.ListN.{length, take, drop, getD}
 use lib.Dec.{eqb}
 use lib.Seq.{getD-take, getD-drop}
+use Rattle.facts.proofs.Tests.{by-test}
 use Rattle.hex.specs.Same.{sameBytes}
 use Rattle.hex.proofs.Comparing.{equal-same, same-equal, lengths-differ, same-ends}
 use Rattle.journal_spec.specs.Bytes.{numberAt}
 use Rattle.journal_spec.specs.Index.{IndexEntry}
 use Rattle.journal_spec.proofs.NameOrder.{order-equal}
-use Rattle.journal_spec.proofs.Reading.{by-test}
 use Rattle.journal_spec.specs.Indexed.{lookUp}
 use Rattle.journal_spec.proofs.Indexes.{own, other}
 use Rattle.journal.specs.Numbers.{numberIn}

@@ -7,14 +7,12 @@ use mathlib.Core.Bool.{true, false}
 use native.Mathlib.Omega.{arith}
 use lib.ListN.{length, take, drop, getD, set, length-drop, length-set, List·getD-append}
 use lib.Seq.{take-suc, drop-cons, set-at, getD-take, length-take-le}
+use Rattle.facts.proofs.Tests.{true-not-false}
 use Rattle.journal_spec.specs.Append.{written}
 use Rattle.journal_spec.proofs.Writing.{written-nil}
 use Rattle.entries.specs.Amending.{Opened}
 use Rattle.entries.specs.declared.finding.Found.{Found}
 use Rattle.entries.specs.declared.walking.End.{End}
-
-true-not-false : true ≡ false → ⊥
-true-not-false h = let z : _≡_ {A = ℕ} 0 1 = cc in omega arith
 
 -- a byte before what is written
 pub set-before : (d : List ℕ) (at x : ℕ) (xs : List ℕ) → at + 1 + length xs ≤ length d → set (written d (at + 1) xs) at x ≡ written d at (x ∷ xs)

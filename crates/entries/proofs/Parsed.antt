@@ -9,14 +9,13 @@ use lib.ListN.{length, take, drop, length-drop, take-append-drop}
 use lib.Seq.{take-at, drop-drop, length-take-le}
 use lib.Dec.{leb}
 use borrow.Author.Tests.{leb-true, le-leb}
-use Rattle.limit.proofs.InRange.{both, first-of, second-of}
+use Rattle.facts.proofs.Tests.{by-test, both, first-of, second-of}
 use Rattle.journal_spec.specs.Bytes.{AreBytes, bytesOf, valueOf, numberAt, joined}
 use Rattle.journal_spec.specs.Section.{numberBytes, sectionBytes}
 use Rattle.journal_spec.specs.Tests.{same}
 use Rattle.journal_spec.specs.Index.{IndexEntry, Order, lower, equal, higher, orderOf, entryBytes, indexBytes, inFront}
 use Rattle.journal_spec.proofs.Numbers.{bytes-take, bytes-drop, value-small, bytes-value}
 use Rattle.journal_spec.proofs.Each.{same-self}
-use Rattle.journal_spec.proofs.Reading.{by-test}
 use Rattle.journal_spec.specs.Indexed.{Before, Rising}
 use Rattle.entries.specs.Entries.{nameAt, startAt, behindEntry, entriesFrom, entriesIn}
 use Rattle.entries.specs.Shape.{isLower, isBelow, standFrom, isIndex}

@@ -13,10 +13,10 @@ use lib.Ieee.{Float, nan, inf, fin, binary64, unlike, size, fits}
 use lib.Ieee.Digits.{size-lt, size-le, size-reaches}
 use lib.Ieee.Exact.{HasValue}
 use lib.Ieee.Fits.{and-l, and-r}
+use Rattle.facts.proofs.Tests.{either}
 use Rattle.sqrt.proofs.Digits.{size-above}
 use Rattle.pxfm.specs.DoubleDouble.{fromExactMult}
 use Rattle.pxfm.proofs.Units.{in-units, units-multiple}
-use Rattle.pxfm.proofs.Order.{either}
 use Rattle.exact.specs.Scaled.{scale, sizeOf}
 use Rattle.exact.specs.Dekker.{leastPower, mostPower, inRange, ExactProduct, DekkerSteps}
 use Rattle.exact.proofs.Signed.{Signed}

@@ -12,6 +12,7 @@ use lib.ListN.{length}
 use lib.Ieee.{Float, nan, inf, fin, binary64, ofBits, div, eq, lt}
 use lib.Ieee.Bits.{is-true}
 use lib.Ieee.Exact.{HasValue}
+use Rattle.facts.proofs.Tests.{refuted}
 use Rattle.pxfm.specs.DoubleDouble.{one, newOf, toF64}
 use Rattle.pxfm.specs.Argument.{zero}
 use Rattle.pxfm.specs.Inverfc.{erfCore}
@@ -19,7 +20,6 @@ use Rattle.pxfm.specs.Inverf.{withSign, sizeOf, beyondOne, fErfinv}
 use Rattle.pxfm.proofs.Units.{val-whole}
 use Rattle.pxfm.proofs.Order.{val-of-lt, val-of-eq, lt-of-val}
 use Rattle.pxfm.proofs.Ranges.{zero-val, one-val}
-use Rattle.pxfm.proofs.FirstTests.{refuted}
 use Rattle.pxfm.proofs.Signs.{below-one-within}
 use Rattle.limit.specs.Times.{timesInRange, sumOf, squaresOf}
 use Rattle.limit.specs.Sums.{sumsOf}

@@ -6,8 +6,8 @@ use native.Mathlib.Nat.{pow-suc, pow-le-pow-right}
 use native.Mathlib.Omega.{arith}
 use borrow.Author.Tests.{lt-ltb, le-ltb}
 use lib.ListN.{length}
+use Rattle.facts.proofs.Orders.{by-order}
 use Rattle.hex.specs.Hex.{orMore, placesIn, placesOf, decimalDigits}
-use Rattle.hex.proofs.Cases.{split}
 use Rattle.hex.proofs.Writing.{length-digits}
 
 -- a number below the base has one digit, whatever bound is given
@@ -25,7 +25,7 @@ places-turn b most n h = rw (le-ltb n b h)
 pub places-hold : (most n : ℕ) → n ≤ most → n < 10 ^ placesIn 10 most n
 places-hold zero n h = rw (places-one 10 zero n (omega arith)) (omega arith)
 places-hold (suc most) n h =
-    split 10 n
+    by-order 10 n
     (λ a.
     let held = places-hold most (n / 10) (omega arith) in
     let power = pow-suc 10 (placesIn 10 most (n / 10)) in
@@ -36,7 +36,7 @@ places-hold (suc most) n h =
 pub places-least : (most n : ℕ) → n ≤ most → 0 < n → (p : ℕ) → placesIn 10 most n ≡ suc p → 10 ^ p ≤ n
 places-least zero n h l p e = absurd (omega arith)
 places-least (suc most) n h l p e =
-    split 10 n
+    by-order 10 n
     (λ a. below a (places-least most (n / 10) (omega arith) (omega arith)) (placesIn 10 most (n / 10)) refl (sym (places-turn 10 most n a) ∙ e))
     (λ a. let one = places-one 10 (suc most) n a in let none : p ≡ 0 = omega arith in rw none (omega arith))
   where
@@ -57,10 +57,10 @@ places-most k n pos h = go (placesIn 10 n n) refl
     go : (d : ℕ) → placesIn 10 n n ≡ d → placesIn 10 n n ≤ k
     go zero e = omega arith
     go (suc d) e =
-        split (suc d) k
+        by-order (suc d) k
         (λ few. omega arith)
         (λ many.
-        split 1 n
+        by-order 1 n
         (λ some.
         let least : 10 ^ d ≤ n = places-least n n (omega arith) (omega arith) d e in
         let power : 10 ^ k ≤ 10 ^ d = pow-le-pow-right {n = 10} (omega arith) (omega arith) in

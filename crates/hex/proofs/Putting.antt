@@ -7,10 +7,10 @@ use native.Mathlib.Omega.{arith}
 use native.Mathlib.Nat.{add-assoc, add-zero}
 use lib.ListN.{length, take, drop, replicate, length-append}
 use lib.Seq.{paste, paste-zero, length-paste, take-paste, drop-paste, drop-drop, take-append-le, take-append-add, take-at, take-length}
+use Rattle.facts.proofs.Orders.{by-order}
 use Rattle.hex.specs.Hex.{placesOf, decimalDigits, decimalOf}
 use Rattle.hex.specs.Text.{roomFor, Put}
 use Rattle.hex.specs.declared.write.Decimal.{Decimal}
-use Rattle.hex.proofs.Cases.{split}
 use Rattle.hex.proofs.Writing.{length-digits}
 
 -- nothing put changes nothing
@@ -44,14 +44,14 @@ record Joined (d s t : List ℕ) (p n m : ℕ) : Type 0 where
 -- by whether the place is inside the line, and the first text fits
 joined : (d s t : List ℕ) (p n m : ℕ) → n ≡ min (length s) (length d - p) → m ≡ min (length t) (length (paste d p s n) - (p + n)) → Joined d s t p n m
 joined d s t p n m en em =
-    split p (length d)
+    by-order p (length d)
     (λ inside.
     let size : length (paste d p s n) ≡ length d = length-paste d p s n (omega arith) (omega arith) in
     let both : length (s ++ t) ≡ length s + length t = length-append s t in
     let all : min (length (s ++ t)) (length d - p) ≡ n + m = omega arith in
     record {
       bytes = rw all (paste-paste d s t p n m (omega arith) (omega arith)
-          (split (length s) (length d - p)
+          (by-order (length s) (length d - p)
           (λ fits. take-both s t n m (omega arith))
           (λ short. let none : m ≡ 0 = omega arith in rw none (take-first s t n (omega arith)))));
       end = rw all (add-assoc p n m);

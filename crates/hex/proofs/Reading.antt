@@ -9,22 +9,22 @@ use borrow.Author.Tests.{lt-ltb, le-ltb, le-leb, lt-leb}
 use lib.Arith.{mod-mul}
 use lib.ListN.{length, getD, length-append}
 use lib.Seq.{getD-append-seam, append-snoc}
+use Rattle.facts.proofs.Orders.{by-order}
 use Rattle.hex.specs.Hex.{glyphOf, digits, digitOf, afterDigit, readDigits, readHex}
 use Rattle.hex.specs.declared.digit.Digit.{Digit}
 use Rattle.hex.specs.declared.digit.Digit.the-variants as D
 use Rattle.hex.specs.declared.read.Number.{Number}
 use Rattle.hex.specs.declared.read.Number.the-variants as N
-use Rattle.hex.proofs.Cases.{split}
 use Rattle.hex.proofs.Writing.{length-digits, digits-front}
 
 -- a byte is a digit below 16, or none
 pub digit-cases {ℓ} : (c : ℕ) (P : Digit → Type ℓ) → ((d : ℕ) → d < 16 → P (D.Value d)) → P D.Other → P (digitOf c)
 unfolding digitOf
 digit-cases c P value other =
-    split 48 c
-    (λ a. split 58 c
-    (λ b. split 97 c
-    (λ d. split 103 c
+    by-order 48 c
+    (λ a. by-order 58 c
+    (λ b. by-order 97 c
+    (λ d. by-order 103 c
     (λ e. rw (le-ltb c 48 a, le-ltb c 58 b, le-ltb c 97 d, le-ltb c 103 e) other)
     (λ e. rw (le-ltb c 48 a, le-ltb c 58 b, le-ltb c 97 d, lt-ltb c 103 e) (value (c - 87) (omega arith))))
     (λ d. rw (le-ltb c 48 a, le-ltb c 58 b, lt-ltb c 97 d) other))
@@ -41,7 +41,7 @@ digit-below c d =
 pub digit-written : (d : ℕ) → d < 16 → digitOf (glyphOf d) ≡ D.Value d
 unfolding digitOf glyphOf
 digit-written d h =
-    split 10 d
+    by-order 10 d
     (λ a. let back : 87 + d - 87 ≡ d = omega arith in
     rw (
       le-ltb d 10 a,
@@ -103,8 +103,8 @@ read-below (suc k) s place n v e =
 pub read-hex-below : (s : List ℕ) (place width v : ℕ) → readHex s place width ≡ N.Value v → v < 16 ^ width
 unfolding readHex
 read-hex-below s place width v e =
-    split width 16
-    (λ a. split (place + width) (length s)
+    by-order width 16
+    (λ a. by-order (place + width) (length s)
     (λ b.
     let read : readDigits width s place 0 ≡ N.Value v = rw (le-ltb 16 width a, le-leb (place + width) (length s) b) at e in
     let below = read-below width s place 0 v read in

@@ -10,10 +10,11 @@ use borrow.Author.Tests.{eqb-true, eq-eqb, ne-eqb}
 use lib.ListN.{length, drop, getD, drop-of-length-le}
 use lib.Seq.{drop-cons}
 use lib.Dec.{eqb}
+use Rattle.facts.proofs.Tests.{both-hold}
+use Rattle.facts.proofs.Orders.{by-order}
 use Rattle.hex.specs.Same.{sameBytes}
 use Rattle.hex.proofs.Comparing.{equal-same, same-equal}
 use Rattle.journal_spec.specs.Index.{IndexEntry}
-use Rattle.journal_spec.proofs.Reading.{by-order}
 use Rattle.journal.specs.Numbers.{numberIn}
 use Rattle.records.specs.Front.{recordName}
 use Rattle.entries.specs.Entries.{nameAt, startAt, sizeAt, entriesFrom, entriesIn}
@@ -22,18 +23,14 @@ use Rattle.indexing.specs.Places.{entryAt, entriesOf, sameEntries}
 
 -- ---- the same entries
 
-both : (s t : Bool) → (s && t) ≡ true → (s ≡ true) × (t ≡ true)
-both true t h = (refl, h)
-both false t h = let z : _≡_ {A = ℕ} 0 1 = cc in absurd (omega arith)
-
 pub entries-same : (es fs : List IndexEntry) → sameEntries es fs ≡ true → es ≡ fs
 unfolding sameEntries
 entries-same [] [] h = refl
 entries-same [] (f ∷ fs) h = let z : _≡_ {A = ℕ} 0 1 = cc in absurd (omega arith)
 entries-same (e ∷ es) [] h = let z : _≡_ {A = ℕ} 0 1 = cc in absurd (omega arith)
 entries-same (e ∷ es) (f ∷ fs) h =
-    let x = both (sameBytes (e .name) (f .name) && eqb (e .start) (f .start)) (sameEntries es fs) h in
-    let y = both (sameBytes (e .name) (f .name)) (eqb (e .start) (f .start)) (x .0) in
+    let x = both-hold (sameBytes (e .name) (f .name) && eqb (e .start) (f .start)) (sameEntries es fs) h in
+    let y = both-hold (sameBytes (e .name) (f .name)) (eqb (e .start) (f .start)) (x .0) in
     ap₂ (λ (g : IndexEntry) (gs : List IndexEntry). g ∷ gs)
     (ap₂ (λ (n : List ℕ) (s : ℕ). record { name = n; start = s }) (same-equal (e .name) (f .name) (y .0)) (eqb-true (e .start) (f .start) (y .1)))
     (entries-same es fs (x .1))

@@ -5,10 +5,10 @@ use Prim.Native.Nat.{ℕ, _<_}
 use mathlib.Core.List.{List}
 use mathlib.Core.Bool.{Bool, true, false}
 use lib.ListN.{getD}
+use Rattle.facts.proofs.Tests.{by-test}
 use Rattle.journal_spec.specs.Cursor.{recordsIn}
 use Rattle.journal_spec.specs.Index.{IndexEntry, indexBytes, inFront}
 use Rattle.journal_spec.proofs.Numbers.{are-bytes}
-use Rattle.journal_spec.proofs.Reading.{by-test}
 use Rattle.journal_spec.proofs.Whole.{WholeBytes}
 use Rattle.entries.specs.Entries.{entriesIn}
 use Rattle.entries.specs.Shape.{isIndex}

@@ -6,7 +6,7 @@ use mathlib.Core.List.{List, _++_}
 use native.Mathlib.Omega.{arith}
 use borrow.Author.Tests.{leb-true, not-true, not-false}
 use lib.ListN.{take, drop}
-use Rattle.hex.proofs.Cases.{both-hold}
+use Rattle.facts.proofs.Tests.{both-hold}
 use Rattle.journal_spec.specs.Request.{Outcome}
 use Rattle.journal.specs.Answers.{appendMeaning, lengthAfter, outcomeOf}
 use Rattle.journal.specs.declared.Appended.{Appended}

@@ -4,16 +4,12 @@ use mathlib.Core.Path.{_≡_, refl, sym, ap, subst, _∙_}
 use Prim.Native.Nat.{ℕ}
 use mathlib.Core.List.{List}
 use mathlib.Core.Bool.{true, false}
-use native.Mathlib.Omega.{arith}
+use Rattle.facts.proofs.Tests.{true-not-false, by-test}
 use Rattle.journal_spec.specs.Index.{Order, lower, equal, higher, orderOf}
 use Rattle.journal_spec.proofs.NameOrder.{order-self, order-equal, order-turned, order-lower}
-use Rattle.journal_spec.proofs.Reading.{by-test}
 use Rattle.entries.specs.Shape.{isLower, isBelow}
 
 -- ---- tests
-
-pub true-not-false : true ≡ false → ⊥
-true-not-false h = let z : _≡_ {A = ℕ} 0 1 = cc in omega arith
 
 pub by-three {ℓ} : {X : Type ℓ} (o : Order) → (o ≡ lower → X) → (o ≡ equal → X) → (o ≡ higher → X) → X
 by-three lower f g h = f refl

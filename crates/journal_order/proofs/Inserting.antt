@@ -7,9 +7,10 @@ use mathlib.Core.Bool.{true}
 use native.Mathlib.Omega.{arith}
 use lib.ListN.{length, take, drop, getD, set, length-append, length-drop, take-append-drop, List·getD-append}
 use lib.Seq.{getD-take, getD-drop, getD-at, getD-append-add, length-take-le, take-take, take-at, drop-at}
+use Rattle.facts.proofs.Orders.{by-order}
 use Rattle.journal_spec.specs.Index.{equal, orderOf}
 use Rattle.journal_spec.specs.Append.{written}
-use Rattle.journal_spec.proofs.Reading.{by-order, drop-take}
+use Rattle.journal_spec.proofs.Reading.{drop-take}
 use Rattle.journal_spec.proofs.NameOrder.{order-equal}
 use Rattle.entries.specs.Shape.{isBelow}
 use Rattle.entries.proofs.Opening.{set-before}

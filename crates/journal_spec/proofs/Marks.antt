@@ -9,11 +9,12 @@ use native.Mathlib.Omega.{arith}
 use lib.ListN.{length, getD}
 use lib.Dec.{eqb}
 use borrow.Author.Tests.{lt-ltb, le-ltb, eqb-true, eq-eqb}
+use Rattle.facts.proofs.Tests.{by-test}
+use Rattle.facts.proofs.Orders.{by-order}
 use Rattle.limit.proofs.InRange as R
 use Rattle.journal_spec.specs.Read.{Mark, flat, few, normal, allEqual, areEqual, markFrom, markOf}
 use Rattle.journal_spec.specs.Ranges.{AllSame}
 use Rattle.journal_spec.specs.Former.{formerMark}
-use Rattle.journal_spec.proofs.Reading.{by-test, by-order}
 
 -- ---- all the same
 

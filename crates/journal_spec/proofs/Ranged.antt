@@ -11,6 +11,7 @@ use lib.ListN.{length, take, getD, length-map}
 use lib.Dec.{leb, ltb, eqb}
 use lib.Ieee.{binary64, toBits}
 use borrow.Author.Tests.{le-leb, leb-true, le-ltb, ltb-false, eq-eqb, eqb-true}
+use Rattle.facts.proofs.Tests.{neither}
 use Rattle.limit.specs.Times.{minTicks, maxTicks, minCount, maxCount, inRange}
 use Rattle.limit.specs.Answer.{chanceRefusal, timesRefusal}
 use Rattle.limit.specs.Limit.{minChance, maxChance, formKnown}
@@ -150,10 +151,6 @@ even-ranged xs = (
   λ f. holds-each (λ (c : ℕ). leb c evenChance) xs (λ i k. le-leb (getD xs i 0) evenChance (f i k)),
 )
 
-either : (a b : Bool) → (a || b) ≡ false → (a ≡ false) × (b ≡ false)
-either true b h = (h, cc)
-either false b h = (refl, h)
-
 -- room for the record
 pub room-ranged : (room : ℕ) (m : Model) (o : Offer) → let size = committedOf m + length (recordBytes (recordFor o)) in
     (not (noRoom room m o) ≡ true) ↔ ((size ≤ room) × (size ≤ maxLength))
@@ -161,7 +158,7 @@ unfolding noRoom
 room-ranged room m o =
     let size : ℕ = committedOf m + length (recordBytes (recordFor o)) in (
       λ h.
-          let fit = either (ltb room size) (ltb maxLength size) (not-true (ltb room size || ltb maxLength size) .0 h) in
+          let fit = neither (ltb room size) (ltb maxLength size) (not-true (ltb room size || ltb maxLength size) .0 h) in
           (ltb-false room size (fit .0), ltb-false maxLength size (fit .1)),
       λ k. rw (le-ltb room size (k .0), le-ltb maxLength size (k .1)) refl,
     )

@@ -4,9 +4,9 @@ use mathlib.Core.Path.{_≡_, refl, ap, _∙_}
 use Prim.Native.Nat.{ℕ, _≤_, max}
 use mathlib.Core.List.{List, [], _∷_, _++_}
 use native.Mathlib.Omega.{arith}
+use Rattle.facts.proofs.Orders.{by-order}
 use Rattle.journal_spec.specs.Request.{Journal}
 use Rattle.journal_spec.specs.Calls.{Operations, Call, perform, journalAfter, reachOf}
-use Rattle.journal_spec.proofs.Reading.{by-order}
 
 -- the journal has this length behind the first of the calls
 pub record Reached (ops : Operations) (j : Journal) (cs : List Call) (reach : ℕ) : Type 0 where

@@ -9,6 +9,7 @@ use native.Mathlib.Omega.{arith}
 use lib.ListN.{length, length-map}
 use lib.Dec.{leb, ltb}
 use borrow.Author.Tests.{le-leb, lt-leb, leb-true, lt-ltb, le-ltb, ltb-true}
+use Rattle.facts.proofs.Orders.{by-order}
 use Rattle.limit.specs.Times.{minTicks, maxTicks, minCount, maxCount, inRange}
 use Rattle.limit.specs.Formula.{sampleForm}
 use Rattle.limit.specs.Answer.{chanceRefusal, timesRefusal}
@@ -28,7 +29,6 @@ use Rattle.journal_spec.specs.Tests.{each, risingFrom, rising, nameGood}
 use Rattle.journal_spec.specs.Model.{Model, committedOf, recordFor, dayFalls, chancesGood}
 use Rattle.journal_spec.specs.Model.{chancesEven, timesGood, noRoom, indexWrong, indexFull, modelRefusals, modelRefusal}
 use Rattle.journal_spec.proofs.Judging.{first-of-two, unless-none, unless-true}
-use Rattle.journal_spec.proofs.Reading.{by-order}
 use Rattle.journal_spec.proofs.Limits.{formulaBits, times-good, limits-are}
 use Rattle.journal_spec.proofs.Records.{length-record}
 use Rattle.journal_spec.proofs.Places.{placedFrom, recordsOf-placed}

@@ -10,6 +10,7 @@ use native.Mathlib.Omega.{arith}
 use lib.ListN.{length, take, drop, getD, length-drop}
 use lib.Dec.{leb, eqb}
 use borrow.Author.Tests.{eqb-true, eq-eqb}
+use Rattle.facts.proofs.Orders.{by-order}
 use Rattle.limit.specs.Answer.{LimitResult, limited, refused}
 use Rattle.limit.specs.Limit.{limitOf}
 use Rattle.limit.proofs.InRange as R
@@ -32,7 +33,7 @@ use Rattle.journal_spec.specs.Append.{appendWith}
 use Rattle.journal_spec.specs.Append.{appendOf}
 use Rattle.journal_spec.specs.Tests.{each, nameGood}
 use Rattle.journal_spec.specs.Model.{chancesGood, timesGood}
-use Rattle.journal_spec.proofs.Reading.{by-order, field-cases, found-not-fault, run-left}
+use Rattle.journal_spec.proofs.Reading.{field-cases, found-not-fault, run-left}
 use Rattle.journal_spec.proofs.Scanning.{found-at, contents-fits, contents-long, turn-short, turn-fault, turn-found}
 use Rattle.journal_spec.proofs.Refused.{standing-not-damaged}
 use Rattle.journal_spec.proofs.SameRefusals.{name-refused, chance-refused, time-refused}

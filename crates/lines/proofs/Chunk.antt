@@ -5,7 +5,7 @@ use mathlib.Core.List.{List}
 use native.Mathlib.Omega.{arith}
 use lib.ListN.{length, take, drop, length-drop, drop-of-length-le}
 use lib.Seq.{take-all, drop-drop}
-use Rattle.hex.proofs.Cases.{split}
+use Rattle.facts.proofs.Orders.{by-order}
 use Rattle.lines.specs.Lines.{lineEnd}
 
 module _ (width : ℕ) (s : List ℕ) (at : ℕ) where
@@ -13,7 +13,7 @@ module _ (width : ℕ) (s : List ℕ) (at : ℕ) where
   pub line-part : (end : ℕ) → end ≡ lineEnd at width (length s) → take (end - at) (drop at s) ≡ take width (drop at s)
   line-part end e =
       let left = length-drop at s in
-      split width (length s - at)
+      by-order width (length s - at)
       (λ h. let whole : end - at ≡ width = omega arith in rw whole)
       (λ h. take-all (end - at) (drop at s) (omega arith) ∙ sym (take-all width (drop at s) (omega arith)))
 
@@ -21,7 +21,7 @@ module _ (width : ℕ) (s : List ℕ) (at : ℕ) where
   pub line-rest : (end : ℕ) → end ≡ lineEnd at width (length s) → drop width (drop at s) ≡ drop end s
   line-rest end e =
       drop-drop width at s
-      ∙ split width (length s - at)
+      ∙ by-order width (length s - at)
       (λ h. let whole : at + width ≡ end = omega arith in rw whole)
       (λ h.
       let past : length s ≤ at + width = omega arith in

@@ -10,10 +10,10 @@ use lib.ListN.{length, take, getD, set, length-set}
 use lib.Seq.{take-suc-set}
 use lib.Dec.{leb}
 use borrow.Author.Tests.{le-leb, lt-leb}
+use Rattle.facts.proofs.Orders.{by-order}
 use Rattle.limit.specs.Times.{minCount, maxCount, inRange, timesInRange}
 use Rattle.limit.specs.Limit.{momentsOfTimes}
 use Rattle.journal_spec.specs.Bytes.{numberAt, numbersIn}
-use Rattle.journal_spec.proofs.Reading.{by-order}
 use Rattle.journal.specs.Numbers.{numberIn}
 use Rattle.journal.proofs.NumberStands.{number-stands}
 use Rattle.journal.proofs.Heads.{number-below}

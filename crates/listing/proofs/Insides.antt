@@ -5,24 +5,25 @@ use Prim.Native.Nat.{ℕ, _+_, _*_, _≤_}
 use mathlib.Core.List.{List}
 use mathlib.Core.Bool.{Bool, true, false}
 use lib.ListN.{length}
+use Rattle.facts.proofs.Tests.{true-not-false}
+use Rattle.facts.proofs.Orders.{by-order}
 use Rattle.journal_spec.specs.Bytes.{numberAt}
-use Rattle.journal_spec.proofs.Reading.{by-order}
 use Rattle.listing.specs.Spans.{noSpan, headAt, spanAt, spanAfter, spansAt, Inside}
 use Rattle.listing.specs.declared.spans.Span.{Span}
 use Rattle.listing.specs.declared.spans.Spans.{Spans}
-use Rattle.listing.proofs.Reached.{differ, span-stands, span-beyond, head-beyond}
+use Rattle.listing.proofs.Reached.{span-stands, span-beyond, head-beyond}
 
 span-inside : (w at : ℕ) (b : List ℕ) → spanAt w at b .stands ≡ true → Inside w (spanAt w at b) b
 unfolding noSpan
 span-inside w at b t =
     by-order (at + 2 + numberAt 2 at b * w) (length b)
     (λ h. rw (span-stands w at b h) h)
-    (λ h. absurd (differ (sym t ∙ ap (λ (s : Span). s .stands) (span-beyond w at b h))))
+    (λ h. absurd (true-not-false (sym t ∙ ap (λ (s : Span). s .stands) (span-beyond w at b h))))
 
 pub head-inside : (at : ℕ) (b : List ℕ) → headAt at b .stands ≡ true → at + 4 ≤ length b
 unfolding noSpan
 head-inside at b t =
-    by-order (at + 4) (length b) (λ h. h) (λ h. absurd (differ (sym t ∙ ap (λ (s : Span). s .stands) (head-beyond at b h))))
+    by-order (at + 4) (length b) (λ h. h) (λ h. absurd (true-not-false (sym t ∙ ap (λ (s : Span). s .stands) (head-beyond at b h))))
 
 -- a section behind another: both stand
 record Behind (w : ℕ) (before : Span) (b : List ℕ) : Type 0 where
@@ -38,7 +39,7 @@ behind w before b t = go (before .stands) refl
         record { stood = e; inside = rw same (span-inside w (before .next) b (rw same at t)) }
     go false e =
         let same : spanAfter w before b ≡ noSpan = unfold spanAfter in rw e refl in
-        absurd (differ (sym t ∙ ap (λ (s : Span). s .stands) same ∙ (unfold noSpan in refl)))
+        absurd (true-not-false (sym t ∙ ap (λ (s : Span). s .stands) same ∙ (unfold noSpan in refl)))
 
 -- the record's head and its sections
 pub record Standing (at : ℕ) (s : Spans) (b : List ℕ) : Type 0 where

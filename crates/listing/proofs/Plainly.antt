@@ -7,10 +7,11 @@ use native.Mathlib.Omega.{arith}
 use native.Mathlib.Nat.{suc-mul, zero-mul, add-zero}
 use lib.ListN.{length, take, drop}
 use lib.Seq.{append-snoc}
+use Rattle.facts.proofs.Orders.{by-order}
 use Rattle.journal_spec.specs.Bytes.{valueOf, numberAt, numbersIn}
 use Rattle.journal_spec.specs.Reader.{Reader, done, field, found, short, run, then}
 use Rattle.journal_spec.specs.Section.{Section, items, section}
-use Rattle.journal_spec.proofs.Reading.{field-short, field-good, field-found, after, by-order}
+use Rattle.journal_spec.proofs.Reading.{field-short, field-good, field-found, after}
 use Rattle.journal_spec.proofs.FieldAt.{at-short, at-good}
 use Rattle.listing.specs.Plain.{unjudged}
 

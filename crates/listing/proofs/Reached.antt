@@ -7,12 +7,14 @@ use mathlib.Core.Bool.{Bool, true, false}
 use native.Mathlib.Omega.{arith}
 use lib.ListN.{length, drop}
 use borrow.Author.Tests.{le-leb, lt-leb}
+use Rattle.facts.proofs.Tests.{true-not-false}
+use Rattle.facts.proofs.Orders.{by-order}
 use Rattle.journal_spec.specs.Bytes.{numberAt}
 use Rattle.journal_spec.specs.Reader.{Reader, done, field, found, short, run, then}
 use Rattle.journal_spec.specs.Section.{Section, section}
 use Rattle.journal_spec.specs.Record.{Record, lastOf, judgeForm, nameSection, chanceSection, timeSection, limitSection}
 use Rattle.journal_spec.specs.Stages.{dayStage, nameStage, chanceStage, timeStage, limitStage}
-use Rattle.journal_spec.proofs.Reading.{by-order, after}
+use Rattle.journal_spec.proofs.Reading.{after}
 use Rattle.journal_spec.proofs.FieldAt.{at-short, at-good}
 use Rattle.journal_spec.proofs.Records.{by-stages}
 use Rattle.listing.specs.Plain.{unjudged, plainRecordAt}
@@ -48,9 +50,6 @@ record Reached (at : ℕ) (b : List ℕ) (s : Span) (k : Reader Record) : Type 0
   inside : s .stands ≡ true → s .next ≤ length b
   none : s .stands ≡ false → plainRecordAt at b ≡ short
 
-pub differ : true ≡ false → ⊥
-differ h = let z : _≡_ {A = ℕ} 0 1 = cc in omega arith
-
 reached-head : (at : ℕ) (b : List ℕ) → Reached at b (headAt at b) (nameStage (numberAt 2 at b) (numberAt 2 (at + 2) b))
 unfolding plainRecordAt noSpan unjudged dayStage
 reached-head at b =
@@ -63,13 +62,13 @@ reached-head at b =
     rw (head-stands at b h) (record {
       goes = λ t. start ∙ goes ∙ rw four at further;
       inside = λ t. h;
-      none = λ t. absurd (differ t);
+      none = λ t. absurd (true-not-false t);
     }))
     (λ h. let start : plainRecordAt at b ≡ run (unjudged (field 2 (judgeForm (lastOf [])) (dayStage (lastOf [])))) at (drop at b) =
     ap (λ (r : Reader Record). run (unjudged r) at (drop at b)) (by-stages (lastOf [])) in
     rw (head-beyond at b h) (record {
-      goes = λ t. absurd (differ (sym t));
-      inside = λ t. absurd (differ (sym t));
+      goes = λ t. absurd (true-not-false (sym t));
+      inside = λ t. absurd (true-not-false (sym t));
       none = λ t. by-order 2 (length b - at)
           (λ enough.
           start ∙ at-good 2 (λ v. 0) (λ v. unjudged (dayStage (lastOf []) v)) at b enough refl
@@ -88,11 +87,11 @@ module _ (at : ℕ) (b : List ℕ) (s : Section) (k : List ℕ → Reader Record
       (λ h. rw (span-stands (s .width) p b h) (record {
         goes = λ t. way ∙ rw (section-stands s p b h) refl;
         inside = λ t. h;
-        none = λ t. absurd (differ t);
+        none = λ t. absurd (true-not-false t);
       }))
       (λ h. rw (span-beyond (s .width) p b h) (record {
-        goes = λ t. absurd (differ (sym t));
-        inside = λ t. absurd (differ (sym t));
+        goes = λ t. absurd (true-not-false (sym t));
+        inside = λ t. absurd (true-not-false (sym t));
         none = λ t. way ∙ rw (section-short s p b inside h) refl;
       }))
 
@@ -108,8 +107,8 @@ module _ (at : ℕ) (b : List ℕ) (s : Section) (k : List ℕ → Reader Record
       go false e =
           let same : spanAfter (s .width) before b ≡ noSpan = unfold spanAfter in rw e refl in
           rw same (unfold noSpan in record {
-            goes = λ t. absurd (differ (sym t));
-            inside = λ t. absurd (differ (sym t));
+            goes = λ t. absurd (true-not-false (sym t));
+            inside = λ t. absurd (true-not-false (sym t));
             none = λ t. g .none e;
           })
 

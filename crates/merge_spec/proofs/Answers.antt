@@ -7,6 +7,7 @@ use mathlib.Core.List.{List}
 use mathlib.Core.Option.{Option, none, some}
 use native.Mathlib.Omega.{arith}
 use lib.ListN.{length}
+use Rattle.facts.proofs.Orders.{by-order}
 use Rattle.journal_spec.specs.Record.{Record, recordsBytes}
 use Rattle.journal_spec.specs.Profile.{plain}
 use Rattle.journal_spec.specs.Scan.{maxLength, ScanResult, whole, torn, scanOf}
@@ -14,7 +15,6 @@ use Rattle.journal_spec.specs.Scan as Scan
 use Rattle.journal_spec.specs.Append.{written}
 use Rattle.journal_spec.specs.Model.{lengthsOf}
 use Rattle.journal_spec.specs.Cursor.{recordsUpto}
-use Rattle.journal_spec.proofs.Reading.{by-order}
 use Rattle.merge_spec.specs.Records.{mergedOf, fallFrom}
 use Rattle.merge_spec.specs.Merge.{ofFirst, ofSecond, MergeResult, merged, damaged, declinedOf, declinedAt, declined, MergeOutcome}
 use Rattle.merge_spec.specs.Merge.{mergeBy, mergeOf}

@@ -6,6 +6,7 @@ use native.Mathlib.Omega.{arith}
 use lib.ListN.{length, take}
 use lib.Seq.{length-take-le, take-length}
 use borrow.Author.Tests.{eq-eqb}
+use Rattle.facts.proofs.Orders.{by-order}
 use Rattle.journal_spec.specs.Bytes.{AreBytes}
 use Rattle.journal_spec.specs.Refusals.{lengthRefusal}
 use Rattle.journal_spec.specs.Record.{Record, recordsBytes}
@@ -13,7 +14,6 @@ use Rattle.journal_spec.specs.Profile.{plain}
 use Rattle.journal_spec.specs.Scan.{maxLength, faulty, whole, statusOf, scanOf}
 use Rattle.journal_spec.specs.Model.{lengthsOf}
 use Rattle.journal_spec.specs.Cursor.{recordsUpto, recordsIn}
-use Rattle.journal_spec.proofs.Reading.{by-order}
 use Rattle.journal_spec.specs.Ranges.{AllRanges}
 use Rattle.journal_spec.proofs.Scanning.{contents-long}
 use Rattle.journal_spec.proofs.Places.{length-placed}

@@ -7,13 +7,13 @@ use mathlib.Core.Bool.{Bool, true, false, _||_}
 use mathlib.Core.Option.{Option, none, some}
 use native.Mathlib.Omega.{arith}
 use lib.ListN.{length, take, drop}
+use Rattle.facts.proofs.Tests.{by-test}
 use Rattle.hex.specs.Same.{sameBytes}
 use Rattle.hex.proofs.Comparing.{equal-same, same-equal}
 use Rattle.journal_spec.specs.Record.{Record, recordBytes}
 use Rattle.journal_spec.specs.Cursor.{recordsIn}
 use Rattle.journal_spec.specs.Index.{Order, lower, equal, higher, orderOf}
 use Rattle.journal_spec.specs.Indexed.{orElse, whereEqual}
-use Rattle.journal_spec.proofs.Reading.{by-test}
 use Rattle.journal_spec.proofs.NameOrder.{order-self, order-equal}
 use Rattle.journal_spec.proofs.Cursor.{Cursor, cursor-part, cursor-next}
 use Rattle.records.proofs.Front.{front-size}

@@ -7,9 +7,9 @@ use native.Mathlib.Omega.{arith}
 use lib.ListN.{length, take, drop}
 use lib.Seq.{append-snoc}
 use borrow.Author.Tests.{le-leb, lt-leb, leb-true, leb-false}
+use Rattle.facts.proofs.Orders.{by-order}
 use Rattle.journal_spec.specs.Record.{Record, recordBytes, lastOf}
 use Rattle.journal_spec.specs.Cursor.{dayAt, sizeAt, recordsIn}
-use Rattle.journal_spec.proofs.Reading.{by-order}
 use Rattle.journal_spec.proofs.Cursor.{Cursor, cursor-none, cursor-some, cursor-part, cursor-next, cursor-read}
 use Rattle.journal_spec.proofs.Whole.{WholeBytes}
 use Rattle.journal.specs.Numbers.{numberIn}

@@ -7,12 +7,12 @@ use native.Mathlib.Omega.{arith}
 use lib.Dec.{T}
 use lib.Ieee.{Float, binary64, ofBits, lt, le}
 use denote.Floats.{passes}
+use Rattle.facts.proofs.Tests.{refuted}
 use Rattle.pxfm.specs.Argument.{tenth, threeQuarters}
 use Rattle.pxfm.proofs.Value.{Val}
 use Rattle.pxfm.proofs.Units.{val-of-units}
 use Rattle.pxfm.proofs.Order.{lt-of-val, val-of-lt, le-of-val, val-of-le}
 use Rattle.pxfm.proofs.Ranges.{tenth-val}
-use Rattle.pxfm.proofs.FirstTests.{refuted}
 use Rattle.mirror.specs.Sides.{fourTerms, sevenTerms, nearOne, nearZero}
 use Rattle.mirror.proofs.Finer.{val-finer}
 

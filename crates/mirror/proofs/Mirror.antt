@@ -14,6 +14,7 @@ use lib.Ieee.Exact.{HasValue}
 use lib.Ieee.Fits.{add-fits}
 use lib.Ieee.Scale.{finite}
 use denote.Floats.{passes}
+use Rattle.facts.proofs.Tests.{refuted}
 use Rattle.pxfm.specs.declared.double_double.DoubleDouble.{DoubleDouble}
 use Rattle.pxfm.specs.DoubleDouble.{one, two, newOf, fromFullExactSub, toF64}
 use Rattle.pxfm.specs.Argument.{zero, tenth, complement}
@@ -25,7 +26,6 @@ use Rattle.pxfm.proofs.Order.{val-of-lt, val-of-not-lt, val-of-eq}
 use Rattle.pxfm.proofs.Bits.{BelowTwo}
 use Rattle.pxfm.proofs.Ranges.{zero-val, one-val, two-val, tenth-val, AboveOne, above-one}
 use Rattle.pxfm.proofs.Complement.{two-less, two-less-pair}
-use Rattle.pxfm.proofs.FirstTests.{refuted}
 use Rattle.pxfm.proofs.Answers.{inside-answer}
 use Rattle.exact.specs.Scaled.{scaled}
 use Rattle.bounds.specs.Interval.{In, SizeAtMost}

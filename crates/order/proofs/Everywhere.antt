@@ -12,6 +12,7 @@ use lib.Dec.{T}
 use lib.Ieee.{Float, nan, inf, fin, binary64, fits, ofBits, lt, eq}
 use lib.Ieee.Bits.{is-true, ofBits-fits}
 use lib.Ieee.Scale.{finite}
+use Rattle.facts.proofs.Tests.{refuted}
 use Rattle.pxfm.specs.DoubleDouble.{one, two}
 use Rattle.pxfm.specs.Argument.{zero}
 use Rattle.pxfm.specs.Inverfc.{fErfcinv}
@@ -19,7 +20,7 @@ use Rattle.pxfm.proofs.Value.{Val}
 use Rattle.pxfm.proofs.Units.{in-units, val-whole, val-whole-negative}
 use Rattle.pxfm.proofs.Order.{lt-of-val, val-of-lt, eq-of-val}
 use Rattle.pxfm.proofs.Ranges.{zero-val, one-val, two-val}
-use Rattle.pxfm.proofs.FirstTests.{refuted, equals-zero, equals-one, equals-two}
+use Rattle.pxfm.proofs.FirstTests.{equals-zero, equals-one, equals-two}
 use Rattle.pxfm.proofs.Answers.{nan-answer, zero-answer, two-answer, negative-answer, above-two-answer, one-answer}
 use Rattle.order.specs.Order.{Below, Finite}
 use Rattle.order.specs.Everywhere.{minusZero, Positive, Negative, QuantileEverywhere}

@@ -14,23 +14,16 @@ use lib.Ieee.Bits.{is-true}
 use lib.Ieee.Exact.{HasValue, round-exact}
 use lib.Ieee.Fits.{down-pos, eq→eqb, and-i, and-l, and-r, round-is}
 use lib.Ieee.Order.{transfer, round-mono}
+use Rattle.facts.proofs.Tests.{either, or-left, or-right}
 use Rattle.pxfm.proofs.Value.{Gap, add-rounds}
 use Rattle.pxfm.proofs.Exact.{value-same}
-use Rattle.pxfm.proofs.Order.{either, le-of-val, val-of-le}
+use Rattle.pxfm.proofs.Order.{le-of-val, val-of-le}
 use Rattle.pxfm.proofs.Units.{val-whole, val-whole-negative}
 use Rattle.bounds.specs.Interval.{P, N}
 use Rattle.bounds.proofs.Operations.{val-of, neg-value}
 use Rattle.order.specs.Order.{AtMost}
 
 -- ---- the other sign turns the order round
-
-or-left : (a b : Bool) → T a → T (a || b)
-or-left true b t = tt
-or-left false b t = absurd t
-
-or-right : (a b : Bool) → T b → T (a || b)
-or-right true b t = tt
-or-right false b t = t
 
 below-turned : (s t : Bool) (a b : ℕ) → T (below s a t b) → T (below (not t) b (not s) a)
 below-turned false false a b h = h

@@ -14,6 +14,7 @@ use lib.Ieee.Exact.{HasValue}
 use lib.Ieee.Digits.{size-le}
 use lib.Ieee.Fits.{add-fits, neg-fits, kept-lt}
 use lib.Ieee.Scale.{finite}
+use Rattle.facts.proofs.Tests.{refuted}
 use Rattle.sqrt.proofs.Patterns.{bits-of-units}
 use Rattle.pxfm.specs.declared.double_double.DoubleDouble.{DoubleDouble}
 use Rattle.pxfm.specs.DoubleDouble.{newOf, one, two, negOf, fromExactAdd, fromFullExactSub, fullAddF64, toF64}
@@ -26,7 +27,6 @@ use Rattle.pxfm.proofs.Order.{lt-of-val, le-of-val, val-of-lt, eq-of-val, val-o
 use Rattle.pxfm.proofs.Bits.{BelowTwo}
 use Rattle.pxfm.proofs.Ranges.{zero-val, one-val, two-val, tenth-val, tenthUnits, UpperHalf, upper-half, AboveOne, above-one}
 use Rattle.pxfm.proofs.Complement.{one-less, complement-exact, two-less, two-less-pair}
-use Rattle.pxfm.proofs.FirstTests.{refuted}
 use Rattle.pxfm.proofs.Answers.{inside-answer, one-answer}
 use Rattle.mirror.proofs.Sign.{mul-one-is, mul-minus-one-is}
 use Rattle.bounds.specs.Interval.{In, between}

@@ -9,9 +9,9 @@ use lib.ListN.{length, take, drop, getD, length-take, length-drop}
 use lib.Seq.{take-length}
 use lib.Dec.{leb}
 use borrow.Author.Tests.{le-leb, lt-leb}
+use Rattle.facts.proofs.Tests.{by-test}
 use Rattle.journal_spec.specs.Bytes.{numberAt}
 use Rattle.journal_spec.specs.Record.{Record, recordBytes}
-use Rattle.journal_spec.proofs.Reading.{by-test}
 use Rattle.journal_spec.proofs.Numbers.{are-bytes, bytes-take, bytes-drop, value-small}
 use Rattle.journal_spec.proofs.Pieces.{RecordHere}
 use Rattle.journal_spec.proofs.Cursor.{Cursor, cursor-front, cursor-read}

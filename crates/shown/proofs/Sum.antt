@@ -10,7 +10,7 @@ use lib.Pow.{pow-pos}
 use lib.Ieee.{Float, binary64, fits, add}
 use lib.Ieee.Exact.{HasValue}
 use lib.Ieee.Fits.{add-fits}
-use Rattle.hex.proofs.Cases.{split}
+use Rattle.facts.proofs.Orders.{by-order}
 use Rattle.pxfm.proofs.Units.{units-multiple}
 use Rattle.pxfm.proofs.Value.{Gap, Val, add-rounds}
 use Rattle.pxfm.proofs.Exact.{round-few}
@@ -49,7 +49,7 @@ sum-multiple : (x y : Float) (X : Multiple x) (Y : Multiple y) → (X .q + Y .q)
 sum-multiple x y X Y h =
     let r = add-rounds (as-val (X .s) (X .q) (X .val)) (as-val (Y .s) (Y .q) (Y .val)) in
     let top = le-trans (mul-le-mul-right (2 ^ 1014) (gap-le (r .sign) (X .s) (Y .s) (r .mag) (X .q) (Y .q) (r .gap))) h in
-    split (2 ^ 53) (r .mag)
+    by-order (2 ^ 53) (r .mag)
     (λ g.
     let z = rounded (r .sign) (r .num) (r .den) (r .mag * 2 ^ 1014) 1 (r .den-pos) (lit< tt) (mul-one (r .num * 2 ^ 1074) ∙ r .val) (once _ limit top) in
     let l = le-trans (leb→le _ _ far) (at-least z (lit< tt) (2 ^ 1067) (whole _ (mul-le-mul-right (2 ^ 1014) g))) in
@@ -86,7 +86,7 @@ module _ (x y : Float) (f : T (fits binary64 x)) (g : T (fits binary64 y)) (h : 
 
   sum-shown : Inside y shareB → Multiple (add binary64 x y)
   sum-shown w =
-      split (2 ^ 1066) (w .m)
+      by-order (2 ^ 1066) (w .m)
       (λ i.
       let v = counted (2 ^ 1073) (2 ^ 20 * 2 ^ 1074) (pow-pos 1073) h in
       let X = units-multiple 1014 x false (v .n) f (v .val) (le-trans (leb→le _ _ tt) (v .low)) in

@@ -9,6 +9,7 @@ use native.Mathlib.Omega.{arith}
 use lib.Dec.{eqb, leb→le}
 use lib.ListN.{length, getD, replicate, length-append, length-replicate}
 use lib.Ieee.{binary64, ofBits, toBits}
+use Rattle.facts.proofs.Orders.{by-order}
 use Rattle.hex.specs.Hex.{digits, decimalDigits}
 use Rattle.hex.proofs.Counting.{decimal-most}
 use Rattle.limit.specs.Times.{timesInRange, sumOf, squaresOf}
@@ -27,7 +28,6 @@ use Rattle.journal_spec.specs.Scan.{Placed, recordsOf, standing, contentsOf}
 use Rattle.journal_spec.specs.Index.{IndexEntry, indexOf}
 use Rattle.journal_spec.proofs.Limits.{times-good}
 use Rattle.journal_spec.proofs.Ranged.{time-ranged}
-use Rattle.journal_spec.proofs.Reading.{by-order}
 use Rattle.shown.specs.Shown.{maxSlot}
 use Rattle.shown.proofs.Records.{shown-record}
 use Rattle.trial_spec.proofs.Names.{noEntry}

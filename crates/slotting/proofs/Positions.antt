@@ -6,8 +6,8 @@ use mathlib.Core.List.{List, [], _∷_}
 use mathlib.Core.Option.{Option, none, some}
 use native.Mathlib.Omega.{arith}
 use lib.ListN.{length, take}
+use Rattle.facts.proofs.Orders.{by-order}
 use Rattle.journal_spec.specs.Index.{IndexEntry}
-use Rattle.journal_spec.proofs.Reading.{by-order}
 use Rattle.journal_spec.specs.Index.{entriesSize}
 use Rattle.journal.specs.Numbers.{numberIn}
 use Rattle.entries.specs.Entries.{nameAt, startAt, sizeAt, startIn, entriesFrom, entriesIn}

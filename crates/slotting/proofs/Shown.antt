@@ -7,6 +7,7 @@ use mathlib.Core.List.{List, [], _∷_, _++_, map}
 use mathlib.Core.Option.{some}
 use native.Mathlib.Omega.{arith}
 use lib.ListN.{length, getD}
+use Rattle.facts.proofs.Orders.{by-order}
 use Rattle.hex.specs.Text.{Put}
 use Rattle.hex.proofs.Putting.{put-as}
 use Rattle.journal_spec.specs.Bytes.{AreBytes, joined}
@@ -16,7 +17,6 @@ use Rattle.journal_spec.specs.Profile.{plain}
 use Rattle.journal_spec.specs.Scan.{Placed, recordsOf, standing, contentsOf}
 use Rattle.journal_spec.specs.Index.{IndexEntry, indexBytes, inFront, indexOf}
 use Rattle.journal_spec.proofs.Numbers.{are-bytes}
-use Rattle.journal_spec.proofs.Reading.{by-order}
 use Rattle.journal_spec.specs.Indexed.{lookUp}
 use Rattle.entries.specs.Entries.{entriesIn}
 use Rattle.entries.proofs.Parsed.{index-read}

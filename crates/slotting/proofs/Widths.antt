@@ -3,7 +3,7 @@ use mathlib.Core.Path.{_≡_, sym, ap, _∙_}
 use Prim.Native.Nat.{ℕ, _+_, _-_, _≤_, _<_, max}
 use mathlib.Core.List.{List, []}
 use native.Mathlib.Omega.{arith}
-use Rattle.journal_spec.proofs.Reading.{by-order}
+use Rattle.facts.proofs.Orders.{by-order}
 use Rattle.journal.specs.Numbers.{numberIn}
 use Rattle.entries.specs.Entries.{sizeAt, entriesFrom, entriesIn}
 use Rattle.entries.proofs.ByCounts.{size-here, entries-end, entries-none, entries-more, count-read}

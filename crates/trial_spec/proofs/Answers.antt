@@ -8,6 +8,7 @@ use mathlib.Core.Bool.{Bool, true, false}
 use native.Mathlib.Omega.{arith}
 use lib.ListN.{length, take, getD}
 use mathlib.Core.Option.{some}
+use Rattle.facts.proofs.Orders.{by-order}
 use Rattle.journal_spec.specs.Bytes.{AreBytes}
 use Rattle.journal_spec.specs.Tests.{each}
 use Rattle.journal_spec.specs.Profile.{plain}
@@ -16,7 +17,6 @@ use Rattle.journal_spec.specs.Scan.{Placed, recordsOf, Contents, standing, faul
 use Rattle.journal_spec.specs.Scan as Scan
 use Rattle.journal_spec.specs.Index.{indexBytes, inFront, indexOf}
 use Rattle.journal_spec.proofs.Each.{same-lists, same-self}
-use Rattle.journal_spec.proofs.Reading.{by-order}
 use Rattle.journal_spec.proofs.Refused.{standing-not-damaged}
 use Rattle.journal_spec.proofs.Table.{scan-never}
 use Rattle.trial_spec.specs.Links.{Link, LogRead, read, misread, logOf}
