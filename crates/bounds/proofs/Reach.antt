@@ -12,8 +12,8 @@ use lib.Ieee.Digits.{size-lt, size-le, size-reaches}
 use lib.Ieee.Exact.{HasValue}
 use lib.Ieee.Fits.{kept-lt}
 use Rattle.pxfm.specs.FastLogDd.{scaled, shiftOf, scaledOf}
-use Rattle.sqrt.proofs.Digits.{size-above}
-use Rattle.sqrt.proofs.Patterns.{bits-of-units}
+use Rattle.double_bits.proofs.Digits.{size-above}
+use Rattle.double_bits.proofs.Patterns.{bits-of-units}
 use Rattle.pxfm.proofs.Shift.{shifted}
 use Rattle.bounds.specs.Interval.{In}
 use Rattle.bounds.specs.Ranges.{Depth, usual, deep, every, start, reachB}

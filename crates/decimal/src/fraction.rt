@@ -3,11 +3,8 @@
 ghost use Prim.Native.Nat.{_*_, _%_, _^_, _<_};
 ghost use lib.Ieee.{binary64, ofBits};
 ghost use Rattle.decimal.specs.Lowest.{IsLowest, IsSize};
-
-// The weight of the sign, and of the exponent's field.
-const SIGN: u64 = 0x8000_0000_0000_0000;
-
-const UNIT: u64 = 0x10_0000_0000_0000;
+use double_bits::SIGN;
+use double_bits::UNIT;
 
 // m / 2^k.
 pub(crate) struct Fraction {

@@ -7,12 +7,11 @@ ghost use Rattle.hex.specs.Hex.{digits};
 ghost use Rattle.hex.specs.Text.{Put};
 ghost use Rattle.decimal.specs.Decimal.{mostPlaces, fractionText, signedText, exactText};
 use crate::fraction::fraction_of;
+use double_bits::SIGN;
 use hex::put;
 use hex::put_decimal;
 
-// The weight of the sign, the pattern of 2^53, and the most binary digits behind the point.
-const SIGN: u64 = 0x8000_0000_0000_0000;
-
+// The pattern of 2^53, and the most binary digits behind the point.
 const END: u64 = 0x4340_0000_0000_0000;
 
 const MOST: u64 = 60;

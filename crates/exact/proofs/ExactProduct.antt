@@ -14,7 +14,7 @@ use lib.Ieee.Digits.{size-lt, size-le, size-reaches}
 use lib.Ieee.Exact.{HasValue}
 use lib.Ieee.Fits.{and-l, and-r}
 use Rattle.facts.proofs.Tests.{either}
-use Rattle.sqrt.proofs.Digits.{size-above}
+use Rattle.double_bits.proofs.Digits.{size-above}
 use Rattle.pxfm.specs.DoubleDouble.{fromExactMult}
 use Rattle.pxfm.proofs.Units.{in-units, units-multiple}
 use Rattle.exact.specs.Scaled.{scale, sizeOf}

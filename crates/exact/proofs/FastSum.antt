@@ -13,7 +13,7 @@ use lib.Ieee.{Float, binary64, size, unlike, fits, add, sub}
 use lib.Ieee.Digits.{size-lt, size-le, size-reaches}
 use lib.Ieee.Exact.{HasValue}
 use lib.Ieee.Fits.{add-fits, sub-fits}
-use Rattle.sqrt.proofs.Digits.{size-above, lt-of-pow-lt}
+use Rattle.double_bits.proofs.Digits.{size-above, lt-of-pow-lt}
 use Rattle.pxfm.specs.DoubleDouble.{newOf, fromExactAdd}
 use Rattle.pxfm.specs.Argument.{zero}
 use Rattle.pxfm.proofs.Units.{units-multiple, val-of-units}

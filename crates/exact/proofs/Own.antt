@@ -12,7 +12,7 @@ use lib.Ieee.Exact.{HasValue, round-exact}
 use lib.Ieee.Fits.{down-pos, round-fits}
 use lib.Ieee.Scale.{round-same}
 use Rattle.sqrt.proofs.Counted.{counted}
-use Rattle.sqrt.proofs.Patterns.{value-unique}
+use Rattle.double_bits.proofs.Patterns.{value-unique}
 use Rattle.pxfm.proofs.Value.{Gap, Val, Rounds}
 use Rattle.pxfm.proofs.Exact.{value-same}
 

@@ -11,7 +11,7 @@ use lib.Ieee.{Float, nan, inf, fin, binary64, up, down, fits, ofBits, neg, add, 
 use lib.Ieee.Bits.{ofBits-fits}
 use lib.Ieee.Exact.{HasValue}
 use lib.Ieee.Scale.{finite}
-use Rattle.sqrt.proofs.Patterns.{value-unique}
+use Rattle.double_bits.proofs.Patterns.{value-unique}
 use Rattle.pxfm.specs.Argument as argument
 use Rattle.pxfm.proofs.FirstTests.{minusZero}
 use Rattle.pxfm.proofs.Value.{Val, add-rounds}

@@ -73,7 +73,7 @@ pub fn mean_bits(worked: Worked) -> u64
     ensures { λ r. ⌜ r ≡ meanBits (momentsMeaning worked) ⌝ }
 {
     match worked {
-        Worked::Out(m) => sqrt::bits::bits_of(m.mean),
+        Worked::Out(m) => double_bits::bits_of(m.mean),
         Worked::Refused(_) => 0,
     }
 }
@@ -83,7 +83,7 @@ pub fn spread_bits(worked: Worked) -> u64
     ensures { λ r. ⌜ r ≡ spreadBits (momentsMeaning worked) ⌝ }
 {
     match worked {
-        Worked::Out(m) => sqrt::bits::bits_of(m.spread),
+        Worked::Out(m) => double_bits::bits_of(m.spread),
         Worked::Refused(_) => 0,
     }
 }

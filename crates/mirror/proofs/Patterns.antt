@@ -8,7 +8,7 @@ use lib.Ieee.{Float, binary64, fits, ofBits, toBits, neg, sub, lt}
 use lib.Ieee.Bits.{is-true, ofBits-fits, ofBits-toBits}
 use lib.Ieee.Exact.{HasValue}
 use lib.Ieee.Fits.{add-fits}
-use Rattle.sqrt.proofs.Scaling.{pattern-mid}
+use Rattle.double_bits.proofs.Fields.{pattern-mid}
 use Rattle.pxfm.specs.DoubleDouble.{one, two}
 use Rattle.pxfm.specs.Inverfc.{fErfcinv, fErfcinvBits}
 use Rattle.pxfm.proofs.Value.{Val}

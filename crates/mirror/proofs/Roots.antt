@@ -13,7 +13,7 @@ use lib.Ieee.Bits.{ofBits-fits}
 use lib.Ieee.Exact.{HasValue}
 use lib.Ieee.Fits.{sub-fits, mul-fits, neg-fits}
 use Rattle.sqrt.specs.Sqrt.{sqrtOf}
-use Rattle.sqrt.proofs.Patterns.{value-unique}
+use Rattle.double_bits.proofs.Patterns.{value-unique}
 use Rattle.pxfm.specs.declared.double_double.DoubleDouble.{DoubleDouble}
 use Rattle.pxfm.specs.DoubleDouble.{newOf, two, negOf, fromExactMult, fromExactAdd, fastSqrt}
 use Rattle.pxfm.specs.Argument.{zero}

@@ -3,10 +3,10 @@
 ghost use mathlib.Core.Path.{_≡_};
 ghost use Rattle.mirror.specs.Mirror.{flipSign, mirrorBits};
 ghost use Rattle.mirror_vectors.specs.Replay.{comparedLine, comparedField, comparedAt, differenceLine};
+use double_bits::bits_of;
+use double_bits::of_bits;
 use lines::Field;
 use pxfm::err::inverfc::f_erfcinv_bits;
-use sqrt::bits::bits_of;
-use sqrt::bits::of_bits;
 
 // What a line says of the port.
 pub(crate) enum Compared {

@@ -9,7 +9,7 @@ use lib.Pow.{pow-pos, pow-mono}
 use lib.Ieee.{binary64, ofBits, size}
 use lib.Ieee.Digits.{size-lt, size-le, size-reaches}
 use lib.Ieee.Exact.{HasValue}
-use Rattle.sqrt.proofs.Digits.{size-above}
+use Rattle.double_bits.proofs.Digits.{size-above}
 use Rattle.pxfm.specs.declared.double_double.DoubleDouble.{DoubleDouble}
 use Rattle.pxfm.specs.DoubleDouble.{fromBitPair, fromExactMult, quickMult, mulAdd, mulF64Add, toF64}
 use Rattle.pxfm.specs.Common.{fFmla}

@@ -15,7 +15,7 @@ use lib.Ieee.Digits.{size-le}
 use lib.Ieee.Fits.{add-fits, neg-fits, kept-lt}
 use lib.Ieee.Scale.{finite}
 use Rattle.facts.proofs.Tests.{refuted}
-use Rattle.sqrt.proofs.Patterns.{bits-of-units}
+use Rattle.double_bits.proofs.Patterns.{bits-of-units}
 use Rattle.pxfm.specs.declared.double_double.DoubleDouble.{DoubleDouble}
 use Rattle.pxfm.specs.DoubleDouble.{newOf, one, two, negOf, fromExactAdd, fromFullExactSub, fullAddF64, toF64}
 use Rattle.pxfm.specs.Argument.{zero, tenth, mirroredOf, complement, coreArgument}

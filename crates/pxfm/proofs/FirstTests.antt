@@ -15,7 +15,7 @@ use lib.Ieee.Bits.{ofBits-toBits, ofBits-fits, toBits-lt}
 use lib.Ieee.Back.{whole-unique}
 use lib.Ieee.Exact.{HasValue}
 use Rattle.facts.proofs.Tests.{refuted}
-use Rattle.sqrt.proofs.Patterns.{value-unique}
+use Rattle.double_bits.proofs.Patterns.{value-unique}
 use Rattle.pxfm.specs.DoubleDouble.{one, two}
 use Rattle.pxfm.specs.Argument.{zero}
 use Rattle.pxfm.specs.Inverfc.{outside}

@@ -7,10 +7,9 @@ ghost use lib.Dec.{ltb, leb};
 ghost use lib.Ieee.{binary64, ofBits};
 ghost use Rattle.ticks.specs.Ticks.{counted, ticksUp, ticksNear};
 use crate::halves::halves_of;
+use double_bits::SIGN;
 
-// The weight of the sign, and the pattern of 2^53.
-const SIGN: u64 = 0x8000_0000_0000_0000;
-
+// The pattern of 2^53.
 const END: u64 = 0x4340_0000_0000_0000;
 
 // A whole number of ticks: below zero, or not; 0 is not.

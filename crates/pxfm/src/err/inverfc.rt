@@ -507,6 +507,6 @@ pub fn f_erfcinv(x: f64) -> f64
 pub fn f_erfcinv_bits(b: u64) -> u64
     ensures { λ r. ⌜ r ≡ fErfcinvBits b ⌝ }
 {
-    let x = sqrt::bits::of_bits(b);
-    sqrt::bits::bits_of(f_erfcinv(x))
+    let x = double_bits::of_bits(b);
+    double_bits::bits_of(f_erfcinv(x))
 }

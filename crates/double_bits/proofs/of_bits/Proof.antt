@@ -2,9 +2,9 @@
 use borrow.Author.Needs.{needs}
 use mathlib.Core.Path.{sym}
 use lib.Ieee.{ofBits, div}
-use Rattle.sqrt.proofs.Nans.{pattern-nan, pattern-plain}
-use Rattle.sqrt.proofs.bits.of_bits.Statement.{statement}
-use Rattle.sqrt.proofs.bits.of_bits.Tie as tie
+use Rattle.double_bits.proofs.Nans.{pattern-nan, pattern-plain}
+use Rattle.double_bits.proofs.of_bits.Statement.{statement}
+use Rattle.double_bits.proofs.of_bits.Tie as tie
 
 returns : tie.Need-returns
 unfolding div ofBits

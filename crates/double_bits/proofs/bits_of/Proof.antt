@@ -1,9 +1,9 @@
 -- `bits_of` meets its contract: a NaN's pattern is the definition's, and `to_bits` is asked only for other values. Assumes nothing.
 use borrow.Author.Needs.{needs}
 use lib.Ieee.{toBits}
-use Rattle.sqrt.proofs.Nans.{is-nan, no-nan}
-use Rattle.sqrt.proofs.bits.bits_of.Statement.{statement}
-use Rattle.sqrt.proofs.bits.bits_of.Tie as tie
+use Rattle.double_bits.proofs.Nans.{is-nan, no-nan}
+use Rattle.double_bits.proofs.bits_of.Statement.{statement}
+use Rattle.double_bits.proofs.bits_of.Tie as tie
 
 returns : tie.Need-returns
 unfolding toBits

@@ -3,12 +3,15 @@
 ghost use mathlib.Core.Path.{_≡_};
 ghost use lib.Ieee.{binary64, ofBits, toBits};
 
-// The patterns of +infinity and of the NaN, and the weight of the sign.
-pub(crate) const INFINITY: u64 = 0x7ff0_0000_0000_0000;
+// The pattern of +infinity, the weight of the sign, and that of the exponent's field, which is also the digit before the point of a normal double.
+pub const INFINITY: u64 = 0x7ff0_0000_0000_0000;
 
+pub const SIGN: u64 = 0x8000_0000_0000_0000;
+
+pub const UNIT: u64 = 0x10_0000_0000_0000;
+
+// The pattern of the NaN.
 const NAN: u64 = 0x7ff8_0000_0000_0000;
-
-const SIGN: u64 = 0x8000_0000_0000_0000;
 
 // The double with the pattern b.
 pub fn of_bits(b: u64) -> f64
