@@ -9,7 +9,7 @@ use lib.ListN.{length, take, drop, length-drop, take-append-drop}
 use lib.Seq.{take-at, drop-drop, length-take-le}
 use lib.Dec.{leb}
 use borrow.Author.Tests.{leb-true, le-leb}
-use Rattle.facts.proofs.Tests.{by-test, both, first-of, second-of}
+use Rattle.facts.proofs.Tests.{true-not-false, by-test, both, first-of, second-of}
 use Rattle.journal_spec.specs.Bytes.{AreBytes, bytesOf, valueOf, numberAt, joined}
 use Rattle.journal_spec.specs.Section.{numberBytes, sectionBytes}
 use Rattle.journal_spec.specs.Tests.{same}
@@ -23,22 +23,19 @@ use Rattle.entries.proofs.Indexed.{Fits, Entries, entry-read, IndexHere
 
 -- ---- names
 
-false-not-true : false ≡ true → ⊥
-false-not-true h = let z : _≡_ {A = ℕ} 0 1 = cc in omega arith
-
 lower-is : (o : Order) → isLower o ≡ true → o ≡ lower
 unfolding isLower
 lower-is lower h = refl
-lower-is equal h = absurd (false-not-true h)
-lower-is higher h = absurd (false-not-true h)
+lower-is equal h = absurd (true-not-false (sym h))
+lower-is higher h = absurd (true-not-false (sym h))
 
-below-is : (low name : List ℕ) → isBelow low name ≡ true → orderOf low name ≡ lower
+pub below-lower : (low name : List ℕ) → isBelow low name ≡ true → orderOf low name ≡ lower
 unfolding isBelow
-below-is low name h = lower-is (orderOf low name) h
+below-lower low name h = lower-is (orderOf low name) h
 
-is-below : (low name : List ℕ) → orderOf low name ≡ lower → isBelow low name ≡ true
+pub lower-below : (low name : List ℕ) → orderOf low name ≡ lower → isBelow low name ≡ true
 unfolding isBelow isLower
-is-below low name k = ap isLower k
+lower-below low name k = ap isLower k
 
 -- ---- what stands is read
 
@@ -64,7 +61,7 @@ entries-stand b at low [] c l r = refl
 entries-stand b at low (e ∷ es) c l r =
     let x = entry-read b at e es c in
     both (le-leb (behindEntry b at) (length b) (x .next .inside))
-    (both (is-below low (nameAt b at) (ap (orderOf low) (x .name) ∙ l))
+    (both (lower-below low (nameAt b at) (ap (orderOf low) (x .name) ∙ l))
     (entries-stand b (behindEntry b at) (nameAt b at) es (x .next) (rw (x .name) (r .0)) (r .1)))
 
 -- an index with names that rise from the empty one is told
@@ -180,7 +177,7 @@ module _ (b : List ℕ) (bytes : AreBytes b) where
       let y = stands-here n next (nameAt b at) (leb-true next (length b) t) (second-of (isBelow low (nameAt b at)) _ others) in
       record {
         entries = entries-here (suc n) at i;
-        before = rw t (below-is low (nameAt b at) (first-of (isBelow low (nameAt b at)) _ others));
+        before = rw t (below-lower low (nameAt b at) (first-of (isBelow low (nameAt b at)) _ others));
         rising = rw t (y .before, y .rising);
       }
 
