@@ -19,7 +19,8 @@ use Rattle.journal_order.specs.Starts.{startsFrom, startsIn}
 use Rattle.journal_order.specs.Keys.{keyAt}
 use Rattle.journal_order.specs.Sorted.{having, lastIn, lastHaving, Climbs, LatestOf}
 use Rattle.journal_order.specs.declared.keys.Key.the-variants as K
-use Rattle.journal_order.proofs.Below.{below-lower, below-not-equal}
+use Rattle.entries.proofs.Parsed.{below-lower}
+use Rattle.journal_order.proofs.Below.{below-not-equal}
 use Rattle.journal_order.proofs.Having.{else-none, having-none, last-where}
 use Rattle.indexing.specs.Standing.{indexIn}
 use Rattle.indexing.specs.Places.{entryAt, entriesOf, Named}
