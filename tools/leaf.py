@@ -2,7 +2,7 @@
 written from the papers alone, and not from our code.
 
 The quantile is not worked out here. Its bits come from the Rust: tools/journal_quantiles has those of ten chances, and the
-list crates/quantile_vectors/stdin, which tools/quantile-vectors makes, those of some more. The rest of a limit is worked out in
+list crates/replay_quantile/stdin, which tools/quantile-vectors makes, those of some more. The rest of a limit is worked out in
 this machine's doubles, whose +, *, / and sqrt round correctly.
 """
 import functools
@@ -39,7 +39,7 @@ def quantiles_of_ten():
 def quantiles_stored():
     """The lines of the stored list whose argument is chance / 500000 of some chance."""
     found = {}
-    for argument, result in pairs_of("crates/quantile_vectors/stdin"):
+    for argument, result in pairs_of("crates/replay_quantile/stdin"):
         x = double_of(int(argument, 16))
         chance = round(x * 500000) if 0 < x < 2 else 0
         if chance > 0 and chance / 500000 == x:

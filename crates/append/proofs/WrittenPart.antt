@@ -25,7 +25,7 @@ use Rattle.journal.specs.Answers.{appendMeaning, outcomeOf}
 use Rattle.journal.specs.declared.Fault.{Fault}
 use Rattle.journal.specs.declared.Appended.{Appended}
 use Rattle.journal.specs.declared.Appended.the-variants as A
-use Rattle.indexing.specs.Outcome.{indexedOutcome}
+use Rattle.journal_index.specs.Outcome.{indexedOutcome}
 use Rattle.append.specs.Extension.{committedIn, startIn, endIn, partIn, handed, allOf, appendAll, outcomeWith, Extends}
 use Rattle.append.proofs.Committed.{committed-inside, committed-found}
 

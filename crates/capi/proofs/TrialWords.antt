@@ -2,10 +2,10 @@
 -- Assumes nothing.
 use mathlib.Core.Path.{_≡_, refl}
 use mathlib.Core.List.{replicate}
-use Rattle.trial_spec.specs.Trial.{declinedAt, damaged, declined, TrialResult, tried, untried, UnknownResult, unknown, uncounted}
-use Rattle.trying.specs.Counting.{eight}
-use Rattle.trying.specs.Answers.{padded, refusedBy, answeredBy}
-use Rattle.trying.specs.Strangers.{unknownRefused, unknownBy}
+use Rattle.journal_trial_spec.specs.Trial.{declinedAt, damaged, declined, TrialResult, tried, untried, UnknownResult, unknown, uncounted}
+use Rattle.journal_trial.specs.Counting.{eight}
+use Rattle.journal_trial.specs.Answers.{padded, refusedBy, answeredBy}
+use Rattle.journal_trial.specs.Strangers.{unknownRefused, unknownBy}
 use Rattle.capi.specs.Trial.{trialWords, unknownWords, answerWords, wordsOf, wordsOfUnknown}
 
 pub trial-words : (r : TrialResult) → wordsOf (answeredBy r) ≡ trialWords r

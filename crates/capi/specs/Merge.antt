@@ -2,7 +2,7 @@
 -- The first says which case it is, the others hold its number, its place and whose it is, 0 where there is none.
 use Prim.Native.Nat.{ℕ}
 use mathlib.Core.List.{List, [], _∷_}
-use Rattle.merge_spec.specs.Merge.{Whose, ofFirst, ofSecond, MergeResult, merged, damaged, declinedOf, declinedAt, declined}
+use Rattle.journal_merge_spec.specs.Merge.{Whose, ofFirst, ofSecond, MergeResult, merged, damaged, declinedOf, declinedAt, declined}
 
 unfoldable pub whoseWord : Whose → ℕ
 whoseWord ofFirst = 1

@@ -3,15 +3,15 @@
 use Prim.Native.Nat.{ℕ}
 use mathlib.Core.List.{List, [], _∷_, _++_, replicate}
 use lib.ListN.{length, getD}
-use Rattle.trial_spec.specs.Trial.{Refusal, declinedAt, damaged, declined, TrialResult, tried, untried}
-use Rattle.trial_spec.specs.Trial.{UnknownResult, unknown, uncounted}
-use Rattle.trying.specs.Counting.{eight}
-use Rattle.trying.specs.Answers.{padded, lowestWord}
-use Rattle.trying.specs.declared.leaf.Answer.{Answer}
-use Rattle.trying.specs.declared.leaf.Answer.the-variants as A
-use Rattle.trying.specs.declared.leaf.Trial.{Trial}
-use Rattle.trying.specs.declared.strangers.Unknown.{Unknown}
-use Rattle.trying.specs.declared.strangers.Unknown.the-variants as U
+use Rattle.journal_trial_spec.specs.Trial.{Refusal, declinedAt, damaged, declined, TrialResult, tried, untried}
+use Rattle.journal_trial_spec.specs.Trial.{UnknownResult, unknown, uncounted}
+use Rattle.journal_trial.specs.Counting.{eight}
+use Rattle.journal_trial.specs.Answers.{padded, lowestWord}
+use Rattle.journal_trial.specs.declared.leaf.Answer.{Answer}
+use Rattle.journal_trial.specs.declared.leaf.Answer.the-variants as A
+use Rattle.journal_trial.specs.declared.leaf.Trial.{Trial}
+use Rattle.journal_trial.specs.declared.strangers.Unknown.{Unknown}
+use Rattle.journal_trial.specs.declared.strangers.Unknown.the-variants as U
 
 -- 1 where it is declined, 2 where the journal is damaged, 3 where a line of the log is refused; with the number, and the place if it has one
 unfoldable pub refusalWords : Refusal → List ℕ

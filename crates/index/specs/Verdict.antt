@@ -2,12 +2,12 @@
 -- `declined` and 14 or 15; or `damaged`, number and place, as in the listing.
 use Prim.Native.Nat.{ℕ}
 use mathlib.Core.List.{List, [], _∷_}
-use Rattle.hex.specs.Hex.{decimalDigits}
+use Rattle.text_digits.specs.Hex.{decimalDigits}
 use Rattle.journal_spec.specs.Scan as Scan
 use Rattle.journal_spec.specs.MakeIndex.{IndexResult, made, declined, damaged}
 use Rattle.journal_spec.specs.CheckIndex.{IndexCheck, own}
 use Rattle.journal_spec.specs.CheckIndex as Check
-use Rattle.listing.specs.Listing.{lineOf, wordDeclined, stateLine}
+use Rattle.journal_listing.specs.Listing.{lineOf, wordDeclined, stateLine}
 
 -- the words `indexed` and `own`
 unfoldable pub wordIndexed : List ℕ

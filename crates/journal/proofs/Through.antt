@@ -11,8 +11,8 @@ use Rattle.journal_spec.specs.Log.{gathered, misread}
 use Rattle.journal_spec.specs.Request.{Request, timesOf, declinedAt, Outcome}
 use Rattle.journal_spec.specs.Append.{unchanged, appendOf}
 use Rattle.journal_spec.proofs.Logs.{append-misread, handedIn, read-as-times}
-use Rattle.build_log.specs.Gather.{gatheredBy}
-use Rattle.build_log.specs.declared.times.Gathering.{Gathering}
+use Rattle.journal_log.specs.Gather.{gatheredBy}
+use Rattle.journal_log.specs.declared.times.Gathering.{Gathering}
 use Rattle.journal.specs.Answers.{appendMeaning, lengthAfter, outcomeOf}
 use Rattle.journal.specs.declared.Appended.the-variants as A
 

@@ -7,8 +7,8 @@ use mathlib.Core.Bool.{true, false}
 use Rattle.facts.proofs.Tests.{true-not-false, by-test}
 use Rattle.journal_spec.specs.Index.{Order, lower, equal, higher, orderOf}
 use Rattle.journal_spec.proofs.NameOrder.{order-self, order-equal, order-turned, order-lower}
-use Rattle.entries.specs.Shape.{isLower, isBelow}
-use Rattle.entries.proofs.Parsed.{below-lower, lower-below}
+use Rattle.journal_entries.specs.Shape.{isLower, isBelow}
+use Rattle.journal_entries.proofs.Parsed.{below-lower, lower-below}
 
 -- ---- tests
 

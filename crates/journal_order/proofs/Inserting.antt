@@ -12,8 +12,8 @@ use Rattle.journal_spec.specs.Index.{equal, orderOf}
 use Rattle.journal_spec.specs.Append.{written}
 use Rattle.journal_spec.proofs.Reading.{drop-take}
 use Rattle.journal_spec.proofs.NameOrder.{order-equal}
-use Rattle.entries.specs.Shape.{isBelow}
-use Rattle.entries.proofs.Opening.{set-before}
+use Rattle.journal_entries.specs.Shape.{isBelow}
+use Rattle.journal_entries.proofs.Opening.{set-before}
 use Rattle.journal_order.specs.Sorted.{having, Climbs, Split, insertAt, Inserted}
 use Rattle.journal_order.proofs.Below.{by-three}
 use Rattle.journal_order.proofs.Having.{having-append, having-not}

@@ -13,7 +13,7 @@ use Rattle.facts.proofs.Tests.{true-not-false}
 use Rattle.facts.proofs.Orders.{by-order}
 use Rattle.journal_spec.specs.Index.{equal, orderOf}
 use Rattle.journal_spec.proofs.NameOrder.{order-self}
-use Rattle.entries.specs.Shape.{isBelow}
+use Rattle.journal_entries.specs.Shape.{isBelow}
 use Rattle.journal_order.specs.Sorted.{having, lastIn, lastHaving, Rises, Split, EndsWith, placeMeaning}
 use Rattle.journal_order.specs.declared.halving.Place.the-variants as P
 use Rattle.journal_order.proofs.Below.{below-upto, upto-below, upto-upto, neither-below, below-not-equal, above-not-equal}

@@ -8,7 +8,7 @@ use mathlib.Core.Option.{Option, none, some}
 use lib.ListN.{length, take, drop, getD}
 use Rattle.journal_spec.specs.Index.{Order, lower, equal, higher, orderOf}
 use Rattle.journal_spec.specs.Indexed.{orElse}
-use Rattle.entries.specs.Shape.{isBelow}
+use Rattle.journal_entries.specs.Shape.{isBelow}
 use Rattle.journal_order.specs.declared.halving.Place.{Place}
 use Rattle.journal_order.specs.declared.halving.Place.the-variants as P
 

@@ -13,7 +13,7 @@ use crate::halving::wide;
 use crate::keys::Key;
 use crate::keys::key_at;
 use crate::putting::insert;
-use records::record_size;
+use journal_parts::record_size;
 
 // Enters a place among the first `count` of an array, and answers how many there are then.
 pub(crate) fn enter(b: &[u8], key: Key, places: &mut [u16], count: usize, place: u16) -> usize

@@ -9,11 +9,11 @@ use Rattle.journal_spec.specs.Record.{Record, recordsBytes}
 use Rattle.journal_spec.specs.Append.{written}
 use Rattle.journal_spec.specs.Cursor.{recordsUpto}
 use Rattle.journal_spec.proofs.Placing.{written-length, lengths-are}
-use Rattle.merge_spec.specs.Records.{mergedOf}
-use Rattle.merge_spec.specs.Merge.{MergeResult, merged, damaged, declinedOf, declinedAt, declined, MergeOutcome, mergeOf}
-use Rattle.merge_spec.proofs.Answers.{answered}
-use Rattle.merging.specs.declared.Merged.{Merged}
-use Rattle.merging.specs.Answers.{answerOf, outcomeOf}
+use Rattle.journal_merge_spec.specs.Records.{mergedOf}
+use Rattle.journal_merge_spec.specs.Merge.{MergeResult, merged, damaged, declinedOf, declinedAt, declined, MergeOutcome, mergeOf}
+use Rattle.journal_merge_spec.proofs.Answers.{answered}
+use Rattle.journal_merge.specs.declared.Merged.{Merged}
+use Rattle.journal_merge.specs.Answers.{answerOf, outcomeOf}
 use Rattle.merge.specs.Made.{sizeOf}
 
 module _ (a : List ℕ) (la : ℕ) (b : List ℕ) (lb : ℕ) (buffer : List ℕ) where

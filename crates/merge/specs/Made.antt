@@ -2,7 +2,7 @@
 -- Assumes nothing.
 use Prim.Native.Nat.{ℕ}
 use mathlib.Core.Bool.{Bool, true, false}
-use Rattle.merge_spec.specs.Merge.{MergeResult, merged, damaged, declinedOf, declinedAt, declined}
+use Rattle.journal_merge_spec.specs.Merge.{MergeResult, merged, damaged, declinedOf, declinedAt, declined}
 
 unfoldable pub isLength : MergeResult → Bool
 isLength (merged n) = true

@@ -2,9 +2,9 @@
 -- whose end is torn; or `damaged`, number and place, and whose fault it is.
 use Prim.Native.Nat.{ℕ}
 use mathlib.Core.List.{List, [], _∷_}
-use Rattle.hex.specs.Hex.{decimalDigits}
-use Rattle.listing.specs.Listing.{lineOf, wordDamaged, wordDeclined}
-use Rattle.merge_spec.specs.Merge.{Whose, ofFirst, ofSecond, MergeResult, merged, damaged, declinedOf, declinedAt, declined}
+use Rattle.text_digits.specs.Hex.{decimalDigits}
+use Rattle.journal_listing.specs.Listing.{lineOf, wordDamaged, wordDeclined}
+use Rattle.journal_merge_spec.specs.Merge.{Whose, ofFirst, ofSecond, MergeResult, merged, damaged, declinedOf, declinedAt, declined}
 
 -- the word `merged`
 unfoldable pub wordMerged : List ℕ

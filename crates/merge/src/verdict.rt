@@ -1,18 +1,18 @@
 // The verdict of a merge as a line of text, put at the front of a lent buffer.
 // Its words stand in the order of the answer's words for C: case, number, place, whose.
 ghost use mathlib.Core.List.{[], _∷_, _++_};
-ghost use Rattle.hex.specs.Text.{Put};
+ghost use Rattle.text_digits.specs.Text.{Put};
 ghost use Rattle.journal_spec.specs.Log.{space, newline};
-ghost use Rattle.merge_spec.specs.Merge.{damaged, declinedOf};
-ghost use Rattle.merging.specs.Answers.{whoseOf, answerOf};
+ghost use Rattle.journal_merge_spec.specs.Merge.{damaged, declinedOf};
+ghost use Rattle.journal_merge.specs.Answers.{whoseOf, answerOf};
 ghost use Rattle.merge.specs.Verdict.{whoseWord, verdictLine};
-use hex::put;
 use journal::Fault;
-use listing::put_number;
-use listing::put_word;
-use listing::put_words;
-use merging::Merged;
-use merging::Whose;
+use journal_listing::put_number;
+use journal_listing::put_word;
+use journal_listing::put_words;
+use journal_merge::Merged;
+use journal_merge::Whose;
+use text_digits::put;
 
 // Writes the line, and answers how many bytes it takes.
 pub fn verdict_line(m: Merged, out: &mut [u8]) -> usize

@@ -1,19 +1,19 @@
 // The record's lines, each made in a buffer of its own and printed: every field in words, or the times alone.
-// The texts of dates, ticks and numbers are those of crates calendar, ticks and hex. No line is longer than a limit's may be.
-use calendar::put_date;
-use hex::put;
-use hex::put_decimal;
+// The texts of dates, ticks and numbers are those of crates text_dates, text_ticks and text_digits. No line is longer than a limit's may be.
 use journal::marks::Mark;
 use journal::marks::mark_of;
 use journal::number_in;
-use listing::moments::mean_bits;
-use listing::moments::moments_in;
-use listing::moments::spread_bits;
-use listing::spans::spans_at;
-use slotting::MAX_FIGURE;
-use slotting::limit_line;
-use slotting::moment_line;
-use ticks::put_milliseconds;
+use journal_listing::moments::mean_bits;
+use journal_listing::moments::moments_in;
+use journal_listing::moments::spread_bits;
+use journal_listing::spans::spans_at;
+use journal_report::MAX_FIGURE;
+use journal_report::limit_line;
+use journal_report::moment_line;
+use text_dates::put_date;
+use text_digits::put;
+use text_digits::put_decimal;
+use text_ticks::put_milliseconds;
 
 // Every field of the record at a place.
 pub(crate) fn print_fields(v: &[u8], records: usize, i: usize, at: usize) {
@@ -179,7 +179,7 @@ fn print_tick(t: u64) -> bool {
     let mut out = [0u8; MAX_FIGURE];
     let p = put_number(&mut out, 0, b"time ", t);
     let q = put(&mut out, p, b" ticks, ");
-    let count = ticks::Count {
+    let count = text_ticks::Count {
         below: false,
         size: t,
     };
@@ -222,7 +222,7 @@ fn print_line(out: &mut [u8], place: usize, last: &[u8]) -> bool {
 
 // A line of one text.
 fn print(text: &[u8]) -> bool {
-    arguments::print(text, b"report: standard output")
+    command_io::print(text, b"report: standard output")
 }
 
 // The first bytes of a buffer, and whether they were written.

@@ -1,7 +1,7 @@
 -- `put_merged` writes the four words of a merge's answer, one return a case.
 -- Assumes nothing.
 use borrow.Author.Needs.{needs}
-use Rattle.merging.specs.Answers.{answerOf}
+use Rattle.journal_merge.specs.Answers.{answerOf}
 use Rattle.capi.specs.Merge.{mergeWords}
 use Rattle.capi.proofs.merge.put_merged.Statement.{statement}
 use Rattle.capi.proofs.merge.put_merged.Tie as tie

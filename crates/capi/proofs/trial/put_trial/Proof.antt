@@ -1,7 +1,7 @@
 -- `put_trial` writes the twelve words of the answer, one return a case.
 -- Assumes nothing.
 use borrow.Author.Needs.{needs}
-use Rattle.trying.specs.Counting.{eight}
+use Rattle.journal_trial.specs.Counting.{eight}
 use Rattle.capi.specs.Trial.{refusalWords, answerWords, wordsOf}
 use Rattle.capi.proofs.trial.put_trial.Statement.{statement}
 use Rattle.capi.proofs.trial.put_trial.Tie as tie

@@ -1,8 +1,8 @@
 -- `said_line` puts the line of each of the three cases.
 -- Assumes nothing.
 use borrow.Author.Needs.{needs}
-use Rattle.listing.specs.Listing.{wordDamaged, wordDeclined, stateLine}
-use Rattle.indexing.specs.Checked.{checkMeaning}
+use Rattle.journal_listing.specs.Listing.{wordDamaged, wordDeclined, stateLine}
+use Rattle.journal_index.specs.Checked.{checkMeaning}
 use Rattle.index.specs.Verdict.{wordOwn, numbered, checkedLine}
 use Rattle.index.proofs.verdict.said_line.Statement.{statement}
 use Rattle.index.proofs.verdict.said_line.Tie as tie

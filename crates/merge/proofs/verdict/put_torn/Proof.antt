@@ -1,8 +1,8 @@
 -- `put_torn` puts the number and whose end is torn.
 -- Assumes nothing.
 use borrow.Author.Needs.{needs}
-use Rattle.listing.specs.Listing.{wordDeclined}
-use Rattle.listing.proofs.Putting.{put-put, put-as}
+use Rattle.journal_listing.specs.Listing.{wordDeclined}
+use Rattle.journal_listing.proofs.Putting.{put-put, put-as}
 use Rattle.merge.specs.Verdict.{verdictLine}
 use Rattle.merge.proofs.Lines.{whose-line}
 use Rattle.merge.proofs.verdict.put_torn.Statement.{statement}

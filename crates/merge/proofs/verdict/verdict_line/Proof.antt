@@ -1,8 +1,8 @@
 -- `verdict_line` puts the line of each of the five cases.
 -- Assumes nothing.
 use borrow.Author.Needs.{needs}
-use Rattle.listing.specs.Listing.{wordDeclined}
-use Rattle.merging.specs.Answers.{answerOf}
+use Rattle.journal_listing.specs.Listing.{wordDeclined}
+use Rattle.journal_merge.specs.Answers.{answerOf}
 use Rattle.merge.specs.Verdict.{wordMerged, verdictLine}
 use Rattle.merge.proofs.verdict.verdict_line.Statement.{statement}
 use Rattle.merge.proofs.verdict.verdict_line.Tie as tie
