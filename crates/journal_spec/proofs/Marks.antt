@@ -11,7 +11,7 @@ use lib.Dec.{eqb}
 use borrow.Author.Tests.{lt-ltb, le-ltb, eqb-true, eq-eqb}
 use Rattle.facts.proofs.Tests.{by-test}
 use Rattle.facts.proofs.Orders.{by-order}
-use Rattle.limit.proofs.InRange as R
+use Rattle.facts.proofs.Tests as tests
 use Rattle.journal_spec.specs.Read.{Mark, flat, few, normal, allEqual, areEqual, markFrom, markOf}
 use Rattle.journal_spec.specs.Ranges.{AllSame}
 use Rattle.journal_spec.specs.Former.{formerMark}
@@ -23,13 +23,13 @@ unfolding allEqual
 equal-each x xs h zero k = refl
 equal-each x [] h (suc i) k = absurd (omega arith)
 equal-each x (y ∷ ys) h (suc i) k =
-    let e : x ≡ y = eqb-true x y (R.first-of (eqb x y) (allEqual x ys) h) in
-    e ∙ equal-each y ys (rw e at (R.second-of (eqb x y) (allEqual x ys) h)) i (omega arith)
+    let e : x ≡ y = eqb-true x y (tests.first-of (eqb x y) (allEqual x ys) h) in
+    e ∙ equal-each y ys (rw e at (tests.second-of (eqb x y) (allEqual x ys) h)) i (omega arith)
 
 each-equal : (x : ℕ) (xs : List ℕ) → ((i : ℕ) → i < length xs → x ≡ getD xs i 0) → allEqual x xs ≡ true
 unfolding allEqual
 each-equal x [] h = refl
-each-equal x (y ∷ ys) h = R.both (eq-eqb x y (h 0 (omega arith))) (each-equal x ys (λ i k. h (suc i) (omega arith)))
+each-equal x (y ∷ ys) h = tests.both (eq-eqb x y (h 0 (omega arith))) (each-equal x ys (λ i k. h (suc i) (omega arith)))
 
 pub equal-exactly : (xs : List ℕ) → (areEqual xs ≡ true) ↔ AllSame xs
 unfolding areEqual

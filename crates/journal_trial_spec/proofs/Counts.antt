@@ -8,7 +8,7 @@ use native.Mathlib.Omega.{arith}
 use lib.ListN.{length, getD}
 use lib.Ieee.{Float, binary64, ofBits, lt}
 use Rattle.limit.specs.Formula.{double}
-use Rattle.limit.proofs.InRange as R
+use Rattle.facts.proofs.Tests as tests
 use Rattle.journal_spec.specs.Tests.{same}
 use Rattle.journal_spec.specs.Index.{IndexEntry}
 use Rattle.journal_spec.specs.Indexed.{Before, Rising}
@@ -50,7 +50,7 @@ links-and-unknown (e ∷ es) ls r = omega (arith, links-and-unknown es ls (r .1)
 
 over-named : (name : List ℕ) (limit : Float) (l : Link) → isOver name limit l ≡ true → isNamed name l ≡ true
 unfolding isOver
-over-named name limit l h = R.first-of (isNamed name l) _ h
+over-named name limit l h = tests.first-of (isNamed name l) _ h
 
 -- at no chance do the overs exceed the links
 pub overs-at-most : (name limits : List ℕ) (ls : List Link) (i : ℕ) → getD (oversOf name limits ls) i 0 ≤ linksOf name ls
