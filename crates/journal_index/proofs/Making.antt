@@ -24,7 +24,7 @@ use Rattle.journal_spec.specs.Index.{entriesSize}
 use Rattle.journal_spec.proofs.IndexLoop.{entry-size, entries-size, index-size, size-append, entries-append, amend-size}
 use Rattle.journal_parts.specs.Front.{recordName}
 use Rattle.journal_entries.proofs.Putting.{put-written}
-use Rattle.journal_order.proofs.Settling.{take-more}
+use Rattle.journal_order.proofs.Taking.{take-more}
 use Rattle.journal_index.specs.Standing.{indexIn}
 use Rattle.journal_index.specs.Places.{entryAt, entriesOf, Named}
 

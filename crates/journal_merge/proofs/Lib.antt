@@ -5,3 +5,4 @@ mod Search
 mod Steps
 mod Pass
 mod Outcomes
+pub mod Meaning

@@ -16,5 +16,4 @@ pub mod Onward
 pub mod Examples
 pub mod Offices
 -- for the proofs of code
-pub mod SameDay
 pub mod MergeLoop
