@@ -1,5 +1,5 @@
 /* journal: makes a volume in memory, cuts an append, appends again over the torn end, and prints what the library's calls answer.
-   Shows how a C program calls the library; examples/journal.expected has what it prints. */
+   Shows how a C program calls the library; tests/journal.expected has what it prints. */
 #include <inttypes.h>
 #include <stdio.h>
 

@@ -1,5 +1,5 @@
 /* refusals: a C++ program over the library. It makes a volume, and meets each kind of answer, each refusal and each greatest size, by the header's names;
-   a line for each says what the library answered, and whether it is the name's number. examples/refusals.expected has the lines. */
+   a line for each says what the library answered, and whether it is the name's number. tests/refusals.expected has the lines. */
 #include <cinttypes>
 #include <cstdio>
 #include <string>

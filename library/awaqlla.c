@@ -1,6 +1,6 @@
 /* What the library exports. Each function calls the one of crate capi that is proved, under the floating-point environment that the proofs are of, and
    puts the caller's back: to nearest even, with subnormals, no exception trapped. SSE's control word, MXCSR, says all of that, since the compiled
-   code uses no other floating-point unit; examples/library-check looks. */
+   code uses no other floating-point unit; tests/library-check looks. */
 #include <xmmintrin.h>
 
 #include "awaqlla.h"

@@ -1,6 +1,6 @@
 // Prints the stored list of the quantile: lines of an input's bits and the Rust's answer's bits, sorted by branch.
 // It has every branch and its edges, and reads every entry of the logarithms' tables through both logarithms.
-// Given chances, it prints those instead, each with the bits of its quantile: tools/journal_quantiles. Given --quantiles, it prints the quantile of
+// Given chances, it prints those instead, each with the bits of its quantile: tools/leaf-quantiles. Given --quantiles, it prints the quantile of
 // every chance, the 999,999 lines of docs/DEFINITION.md, section 13.
 
 use inputs::doubles::{around, edges};

@@ -25,7 +25,7 @@ fn main() {
         print(&PROGRAM, b"usage: replay_cases < CASES\n");
         print(
             &PROGRAM,
-            b"A line is as tools/journal_cases writes it: bytes for the buffer, or a question and its answer.\n",
+            b"A line is as tools/make-cases writes it: bytes for the buffer, or a question and its answer.\n",
         );
         return;
     }

@@ -1,5 +1,5 @@
 // One stored line: a letter, and three numbers of 16 hexadecimal digits, a byte before each, line end: 53 bytes.
-// tools/journal_history says what each letter asks for.
+// tools/make-history says what each letter asks for.
 ghost use mathlib.Core.Path.{_≡_};
 ghost use Rattle.replay_history.specs.Line.{parsedLine, parsedNumbers};
 use replay_lines::Field;

@@ -22,7 +22,7 @@ fn main() {
         print(&PROGRAM, b"usage: replay_history < HISTORIES\n");
         print(
             &PROGRAM,
-            b"A line is as tools/journal_history writes it: a letter and three numbers of 16 hexadecimal digits.\n",
+            b"A line is as tools/make-history writes it: a letter and three numbers of 16 hexadecimal digits.\n",
         );
         return;
     }
