@@ -1,5 +1,5 @@
 // Writing an index: its count at the buffer's front, and an entry at a place. Both answer the place behind what is put.
-// As with hex's `put`, what has no room is left out, so that any buffer and any place are fine.
+// As with text_digits' `put`, what has no room is left out, so that any buffer and any place are fine.
 ghost use mathlib.Core.Path.{_≡_};
 ghost use Rattle.text_digits.specs.Text.{Put};
 ghost use Rattle.journal_spec.specs.Bytes.{bytesOf};
