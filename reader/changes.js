@@ -18,7 +18,8 @@ function drawChanges(file) {
   const place = made("div");
   const find = (value) => all.find((one) => one.value === value);
   const fill = () => place.replaceChildren(...changesTable(find(changesView.before), find(changesView.after)));
-  const chances = chanceOptions(all.flatMap((one) => one.file.seen.leaves)).filter(([value]) => value !== "all");
+  const standing = [...new Set(all.map((one) => one.file))];
+  const chances = chanceOptions(standing.flatMap((one) => one.seen.leaves)).filter(([value]) => value !== "all");
   if (!chances.some(([value]) => value === changesView.chance)) changesView.chance = "1000";
   const pick = (key, list) => choice(list, changesView[key], (e) => { changesView[key] = e.target.value; fill(); }, { id: `changes-${key}` });
   fill();

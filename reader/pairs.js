@@ -2,7 +2,7 @@
 
 const pair = (low, high) => ({ low, high });
 const negatedPair = (A) => pair(negated(A.low), negated(A.high));
-const { ZERO, HALF, ONE, TWO, FOUR } = C;
+const ZERO = C.ZERO, HALF = C.HALF, ONE = C.ONE, TWO = C.TWO, FOUR = C.FOUR;
 const MINUS_HALF = negated(HALF), MINUS_ONE = negated(ONE), MINUS_FOUR = negated(FOUR);
 
 // ---- 5.1 Sums and products of doubles, as pairs

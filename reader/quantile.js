@@ -86,12 +86,13 @@ function central(x) {
   const r = value(core(A));
   return times(r, less(ONE, x) ? MINUS_ONE : ONE);
 }
-function core(A) {
-  if (atMost(A.high, C.CUT_1)) return taylor4(A);
-  if (atMost(A.high, C.CUT_2)) return taylor7(A);
-  if (atMost(A.high, C.CUT_3)) return middle(A);
-  return tail(A);
+function wayOf(A) {
+  if (atMost(A.high, C.CUT_1)) return taylor4;
+  if (atMost(A.high, C.CUT_2)) return taylor7;
+  if (atMost(A.high, C.CUT_3)) return middle;
+  return tail;
 }
+const core = (A) => wayOf(A)(A);
 
 // ---- 7.2 Up to CUT_2: Taylor's series
 function taylor4(A) {

@@ -57,9 +57,9 @@ function damage(file) {
   rows.push(row("Field", seen.field), row("Fault", seen.why));
   if (stored !== undefined) rows.push(row("Chance", `${grouped(chance)} in a million`), row("Stored", ...bitsCell(stored, again)), row("Worked again", ...bitsCell(again, stored)));
   const before = refusal === 1 ? "" : number === 0 ? "It is the first record." : `The ${many(number, "record")} before it ${number === 1 ? "was" : "were"} read without a fault.`;
-  const profile = refusal === 19 ? "Without the profile the volume may be whole: take the tick away to see." : "No figure of this volume is to be trusted, and none is shown.";
-  const wrongFile = refusal !== 1 && refusal !== 19 && number === 0 ? "If its first bytes make no sense, it may be another kind of file." : "";
-  return [verdict("damaged", `Damaged ${refusal}`, profile, wrongFile), made("h3", {}, "The first fault"), table("the first fault", [], rows, { class: "fields fault" }), made("p", { class: "note" }, before),
+  const trust = refusal === 19 ? "Without the profile the volume may be whole: take the tick away to see." : "No figure of this volume is to be trusted, and none is shown.";
+  const doubt = refusal === 1 ? "No volume is so long" : refusal < 7 && number === 0 ? "Not even its first record can be read" : "";
+  return [verdict("damaged", `Damaged ${refusal}`, trust, doubt && `${doubt}: it may be a file of another kind.`), made("h3", {}, "The first fault"), table("the first fault", [], rows, { class: "fields fault" }), made("p", { class: "note" }, before),
     ...(stored === undefined ? [] : [made("h3", {}, "How the limit is worked out"), stepsText(number, leaf, chance, stored)])];
 }
 function indexVerdict(file) {

@@ -44,10 +44,18 @@ def limits(number):
 
 def worked():
     """Section 12's two blocks: all lines under form 2, and those in which form 1's differ, with their places."""
-    section = text("docs/DEFINITION.md").split("\n## 12. ")[1].split("\n## ")[0]
+    section = text("docs/DEFINITION.md").split(". A worked limit\n")[1].split("\n## ")[0]
     whole, differing = [block.strip("\n").split("\n") for block in section.split("```")[1::2]]
     heads = [line[:24] for line in whole]
     return {"times": [90, 110], "chance": 1000, "2": whole, "differing": differing, "places": [heads.index(line[:24]) for line in differing]}
+
+
+def ways():
+    """The way that section 13 says each argument of the quantile and of the inverse takes."""
+    section = text("docs/DEFINITION.md").split(". Numbers to try\n")[1].split("\n## ")[0]
+    quantiles = re.findall(r"^\| ([0-9a-f]{16}) \| (.*?) \| [0-9a-f]{16} \|$", section, re.M)
+    inverses = re.findall(r"^\| inverse\(([0-9a-f]{16})\) \((.*)\) \|", section, re.M)
+    return {"quantile": quantiles, "inverse": inverses}
 
 
 def volumes(folder):
@@ -110,7 +118,7 @@ def dates():
 def cases():
     with tempfile.TemporaryDirectory() as folder:
         stored = volumes(folder)
-    return {"starred": STARRED, "quantiles": text("crates/quantile_vectors/stdin"), "limits": limits(2000), "worked": worked(), "volumes": stored,
+    return {"starred": STARRED, "quantiles": text("crates/quantile_vectors/stdin"), "limits": limits(2000), "worked": worked(), "ways": ways(), "volumes": stored,
             "journal": text("crates/journal_cases/stdin"), "steps": steps(), "pictures": pictures(), "indexes": indexes(), "decimals": decimals(), "dates": dates()}
 
 

@@ -24,6 +24,7 @@ function tries(R, given) {
   }
   for (const [form, ticks, chance, want] of given.limits) same("limits of both forms", `${form} ${chance} ${ticks}`, told(R.limit(BigInt(form), ticks.map(BigInt), BigInt(chance))), want);
 
+  ways(R, given.ways, same, B);
   const w = given.worked, lines = (form) => R.limitSteps(form, w.times.map(BigInt), BigInt(w.chance));
   const plain = w[2].map((line, i) => { const k = w.places.indexOf(i); return k < 0 ? line : w.differing[k]; });
   for (const [form, want] of [[2n, w[2]], [1n, plain]]) want.forEach((line, i) => same("lines of section 12", `form ${form}, line ${i}`, lines(form)[i], line));
@@ -44,6 +45,20 @@ function tries(R, given) {
   pictures(R, given.pictures, same, bytes);
   operations(R, same);
   return [...topics].map(([topic, { tried, wrong }]) => ({ topic, tried, wrong: wrong.slice(0, 5), differing: wrong.length }));
+}
+
+// The way that an argument takes, as section 13 names it: by what the working notes, and by what the core chooses.
+const SEEN = { central: ["7.1", "A"], tail: ["7.4", "X"], middle: ["7.3", "K"], taylor: ["7.2", "Z"], "short rational": ["7.4", "Q4"], "long rational": ["7.4", "G6"] };
+function ways(R, { quantile, inverse }, same, B) {
+  for (const [x, way] of quantile) {
+    const steps = R.stepsOf(() => R.quantile(B(x))), has = ([section, name]) => steps.some((step) => step.section === section && step.name === name);
+    for (const [word, step] of Object.entries(SEEN)) if (way.includes(word)) same("ways of section 13", `${x}, ${way}`, has(step), true);
+    if (way.includes("rational")) same("ways of section 13", `${x}, ${way}`, has(SEEN.central), false);
+  }
+  for (const [x, way] of inverse) {
+    const name = /taylor4|taylor7|middle|tail/.exec(way);
+    if (name) same("ways of section 13", `${x}, ${way}`, R.wayOf({ low: 0n, high: B(x) & ((1n << 63n) - 1n) }).name, name[0]);
+  }
 }
 
 // The stored journal cases: lines that set eight bytes of the memory, and calls of survey and of reading with their answers.
@@ -115,4 +130,19 @@ function operations(R, same) {
       same("operations beside section 3.1", `over ${of}`, R.over(x, y), literal(s, R.count(x) << 1074n, R.count(y)));
     }
   }
+  for (const n of hardRoots()) for (const x of [Number(n), Number(n) / 4 ** 60]) same("roots next to a midpoint", n, R.hex(R.root(BigInt("0x" + bits(x)))), bits(Math.sqrt(x)));
+}
+
+// Whole numbers n of 53 digits with n * 2^54 = c * c + d for an odd c of 54 digits and a small d: their roots lie next to the midpoint c / 2^27.
+function hardRoots() {
+  const found = [], modulus = 1n << 54n;
+  for (let d = -201n; d <= 199n; d += 8n) {
+    let c = 1n;
+    for (let k = 3n; k < 55n; k += 1n) if ((c * c + d) % (1n << (k + 1n)) !== 0n) c += 1n << (k - 1n);
+    for (const one of [c, -c, c + modulus / 2n, modulus / 2n - c]) {
+      const odd = ((one % modulus) + modulus) % modulus, n = (odd * odd + d) / modulus;
+      if (odd > modulus / 2n && (odd * odd + d) % modulus === 0n && n < 1n << 53n) found.push(n);
+    }
+  }
+  return found;
 }
