@@ -39,13 +39,16 @@ async function take(list) {
       taken.push(Object.assign(file, { kind: "volume", status: "unread", problem: error.message }));
     }
   }
-  if (taken.length === 0) return say("There was no file in what was handed in.");
+  if (taken.length === 0) return say("There was no file in what was handed in.", true);
   const first = taken.find((file) => file.kind === "volume") ?? taken[0];
   show(shown !== null && shown.kind === "volume" && first.kind === "index" ? shown : first);
   await run();
 }
 // Whether a file has the bytes of one before it.
-const twinOf = (file) => files.find((other) => other.number < file.number && file.size <= MOST && other.size === file.size && begins(file.bytes, other.bytes));
+function twinOf(file) {
+  const same = (other) => other.number < file.number && other.size === file.size && begins(file.bytes, other.bytes);
+  return file.size <= MOST ? files.find(same) : undefined;
+}
 
 // ---- Checking. A slice ends after some milliseconds; a message gives the page its turn, which a timer would delay in a page behind others.
 const SLICE = 12;
@@ -106,8 +109,9 @@ function goOn() {
   for (const file of files) if (file.status === "stopped") file.status = "waiting";
   run();
 }
+const UNREAD = { seen: undefined, steps: undefined, place: 0 };
 function checkAgain() {
-  for (const file of files) if (file.kind === "volume" && file.status !== "unread") Object.assign(file, { status: "waiting", seen: undefined, steps: undefined, place: 0 });
+  for (const file of files) if (file.kind === "volume" && file.status !== "unread") Object.assign(file, { status: "waiting", ...UNREAD });
   run();
 }
 function remove(file) {
@@ -117,7 +121,7 @@ function remove(file) {
   at("file").focus();
 }
 function readAs(file, kind) {
-  Object.assign(file, { kind, status: kind === "index" ? "done" : "waiting", seen: undefined, steps: undefined, place: 0 });
+  Object.assign(file, { kind, status: kind === "index" ? "done" : "waiting", ...UNREAD });
   show(file);
   run();
 }

@@ -6,7 +6,9 @@ function made(tag, { on = {}, ...attributes } = {}, ...inside) {
   return filled(document.createElement(tag), on, attributes, inside);
 }
 function filled(element, on, attributes, inside) {
-  for (const [name, value] of Object.entries(attributes)) if (value !== undefined && value !== false) element.setAttribute(name, value === true ? "" : String(value));
+  for (const [name, value] of Object.entries(attributes)) {
+    if (value !== undefined && value !== false) element.setAttribute(name, value === true ? "" : String(value));
+  }
   for (const [kind, listener] of Object.entries(on)) element.addEventListener(kind, listener);
   element.append(...inside.filter((one) => one !== null));
   return element;
@@ -28,9 +30,9 @@ const head = (text, kind) => made("th", { scope: "col", class: kind }, text);
 const cell = (text, kind, label) => made("td", { class: kind, "data-head": label }, text);
 const row = (name, ...inside) => made("tr", {}, made("th", { scope: "row" }, name), made("td", {}, ...inside));
 
-// Says something to those who do not see the page; the same words twice are said twice.
-function say(text) {
-  at("told").textContent = "";
+// Says something to those who do not see the page, and shows it too where nothing else on the page does.
+function say(text, visible = false) {
+  at("told").className = visible ? "note" : "unseen";
   at("told").textContent = text;
 }
 // Copies a text; where the browser does not let it, the text is shown to be copied by hand.

@@ -45,8 +45,9 @@ function decimal(x) {
 // ---- Slots: of each name the last leaf, by name, with the limits at some chances rounded up
 const limitAt = (leaf, chance) => leaf.limits[leaf.chances.indexOf(chance)];
 function slotOf(leaf, chances) {
-  return { leaf, name: leaf.name, date: dateOf(leaf.day), mark: markOf(leaf), count: leaf.ticks.length, mean: ticksNearest(leaf.mean), spread: ticksNearest(leaf.spread),
-    limits: chances.map((c) => { const bits = limitAt(leaf, c); return bits === undefined ? null : ticksUp(bits); }) };
+  const figures = { date: dateOf(leaf.day), mark: markOf(leaf), count: leaf.ticks.length, mean: ticksNearest(leaf.mean), spread: ticksNearest(leaf.spread) };
+  const limits = chances.map((c) => limitAt(leaf, c)).map((bits) => (bits === undefined ? null : ticksUp(bits)));
+  return { leaf, name: leaf.name, ...figures, limits };
 }
 const slotsOf = (leaves, chances) => lastLeaves(leaves).map((leaf) => slotOf(leaf, chances));
 const chancesOf = (leaves) => [...new Set(leaves.flatMap((leaf) => leaf.chances))].sort((a, b) => (a < b ? -1 : 1));
@@ -63,7 +64,8 @@ function changesOf(before, after, chance) {
 function changeOf({ before, after }) {
   if (!before) return "new";
   if (!after) return "gone";
-  return leafLine(before.leaf) === leafLine(after.leaf) && before.leaf.form === after.leaf.form && before.leaf.ticks.join() === after.leaf.ticks.join() ? "same record" : "new record";
+  const all = ({ leaf }) => `${leafLine(leaf)} ${leaf.form} ${leaf.ticks.join()}`;
+  return all(before) === all(after) ? "same record" : "new record";
 }
 
 // ---- CSV (RFC 4180): numbers as they are, all else in quotes. What a spreadsheet would take for a formula has an apostrophe before it.

@@ -12,6 +12,9 @@ function thousandths(fraction) {
   return `${t < 0n ? "-" : ""}${size / 1000n}.${String(size % 1000n).padStart(3, "0")}`;
 }
 
+// A place some whole units further down the picture.
+const lower = ({ n, d }, units) => ({ n: n + units * d, d });
+
 // Heights of the grid's lines in ticks: a step of 1, 2 or 5 and zeros, so that at most ten lie between the least and the greatest value.
 function gridOf(values) {
   let low = values[0], high = values[0];
@@ -43,9 +46,9 @@ function axes(name, leaves, { lines, height, x, y }) {
   const marks = [["text", { x: left, y: 26, "font-size": 17, "font-weight": "bold", class: "ink" }, `${name}: link times and limits`],
     ["text", { x: left, y: 44, "font-size": 12, class: "soft" }, "milliseconds"]];
   for (const ticks of lines) {
-    const at = y(whole(ticks)), h = height(whole(ticks));
+    const at = y(whole(ticks)), under = thousandths(lower(height(whole(ticks)), 4n));
     marks.push(["line", { x1: left, x2: width - right, y1: at, y2: at, class: "grid", "data-ticks": ticks }],
-      ["text", { x: left - 8n, y: thousandths({ n: h.n + 4n * h.d, d: h.d }), "text-anchor": "end", "font-size": 12, class: "ink" }, milliseconds(ticks)]);
+      ["text", { x: left - 8n, y: under, "text-anchor": "end", "font-size": 12, class: "ink" }, milliseconds(ticks)]);
   }
   const every = (leaves.length + 7 - ((leaves.length + 7) % 8)) / 8;
   leaves.forEach((leaf, i) => {
@@ -59,27 +62,36 @@ function axes(name, leaves, { lines, height, x, y }) {
 function recordMarks(leaf, i, colours, { x, y }) {
   const at = BigInt(i), n = leaf.n, mean = meanOf(leaf);
   const between = (from, to, v) => ({ x1: x({ n: 12n * at + from, d: 12n }), x2: x({ n: 12n * at + to, d: 12n }), y1: y(v), y2: y(v) });
-  return [...leaf.ticks.map((t, k) => ["circle", { cx: x({ n: 6n * n * at + n + 2n * (2n * BigInt(k) + 1n), d: 6n * n }), cy: y(whole(t)), r: "2.6", class: "time", "data-record": i, "data-ticks": t }]),
-    ["line", { ...between(2n, 10n, mean), class: "mean", "data-record": i, "data-ms": milliseconds(nearest(mean)) }],
-    ...leaf.chances.map((chance, k) => ["line", { ...between(1n, 11n, fractionOf(leaf.limits[k])), class: "limit " + colours.get(chance).name, stroke: colours.get(chance).ink,
-      "data-record": i, "data-chance": chance, "data-bits": hex(leaf.limits[k]), "data-ms": milliseconds(ticksUp(leaf.limits[k])) }])];
+  const dot = (t, k) => {
+    const place = { n: 6n * n * at + n + 2n * (2n * BigInt(k) + 1n), d: 6n * n };
+    return ["circle", { cx: x(place), cy: y(whole(t)), r: "2.6", class: "time", "data-record": i, "data-ticks": t }];
+  };
+  const line = (chance, k) => {
+    const bits = leaf.limits[k], { name, ink } = colours.get(chance);
+    return ["line", { ...between(1n, 11n, fractionOf(bits)), class: `limit ${name}`, stroke: ink, "data-record": i, "data-chance": chance,
+      "data-bits": hex(bits), "data-ms": milliseconds(ticksUp(bits)) }];
+  };
+  const bar = ["line", { ...between(2n, 10n, mean), class: "mean", "data-record": i, "data-ms": milliseconds(nearest(mean)) }];
+  return [...leaf.ticks.map(dot), bar, ...leaf.chances.map(line)];
 }
 // The labels of the last record, from the top down and no two closer than 15.
 function labels(leaf, colours, { height }) {
-  const wanted = leaf.chances.map((chance, k) => ({ v: fractionOf(leaf.limits[k]), text: `${grouped(chance)} in a million: ${milliseconds(ticksUp(leaf.limits[k]))}`, ...colours.get(chance) }));
+  const words = (chance, bits) => `${grouped(chance)} in a million: ${milliseconds(ticksUp(bits))}`;
+  const wanted = leaf.chances.map((c, k) => ({ v: fractionOf(leaf.limits[k]), text: words(c, leaf.limits[k]), ...colours.get(c) }));
   wanted.push({ v: meanOf(leaf), text: `mean: ${milliseconds(nearest(meanOf(leaf)))}`, name: "means", ink: "#1a7f37" });
   wanted.sort((a, b) => compare(b.v, a.v));
   const places = [];
   for (const { v } of wanted) {
-    const h = height(v), own = { n: h.n + 4n * h.d, d: h.d }, above = places.at(-1), least = above ? { n: above.n + 15n * above.d, d: above.d } : whole(0n);
+    const own = lower(height(v), 4n), least = places.length > 0 ? lower(places.at(-1), 15n) : whole(0n);
     places.push(compare(own, least) > 0 ? own : least);
   }
-  const low = PLOT.height - PLOT.bottom + 4n, end = places.at(-1), beyond = { n: end.n - low * end.d, d: end.d };
-  const lift = beyond.n > 0n ? beyond : whole(0n);
-  return wanted.map(({ text, name, ink }, k) => ["text", { x: PLOT.width - PLOT.right + 8n, y: thousandths({ n: places[k].n * lift.d - lift.n * places[k].d, d: places[k].d * lift.d }),
-    "font-size": 12, class: "label " + name, fill: ink }, text]);
+  const beyond = lower(places.at(-1), -(PLOT.height - PLOT.bottom + 4n)), lift = beyond.n > 0n ? beyond : whole(0n);
+  const lifted = ({ n, d }) => thousandths({ n: n * lift.d - lift.n * d, d: d * lift.d });
+  const x = PLOT.width - PLOT.right + 8n;
+  return wanted.map(({ text, name, ink }, k) => ["text", { x, y: lifted(places[k]), "font-size": 12, class: `label ${name}`, fill: ink }, text]);
 }
 function pictureOf(name, leaves) {
-  const colours = new Map(chancesOf(leaves).map((c, k) => [c, { name: `colour${k % COLOURS.length}`, ink: COLOURS[k % COLOURS.length] }])), scales = scalesOf(leaves);
+  const colour = (k) => ({ name: `colour${k % COLOURS.length}`, ink: COLOURS[k % COLOURS.length] });
+  const colours = new Map(chancesOf(leaves).map((chance, k) => [chance, colour(k)])), scales = scalesOf(leaves);
   return [...axes(name, leaves, scales), ...leaves.flatMap((leaf, i) => recordMarks(leaf, i, colours, scales)), ...labels(leaves.at(-1), colours, scales)];
 }

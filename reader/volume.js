@@ -52,9 +52,12 @@ function leafHead(fields, last) {
   const start = fields.place;
   const form = fields.take(2, "form", judgeForm(last.form));
   const day = fields.take(2, "day", judgeDay(last.day));
-  const name = fields.section("name", 4, C.NAME_LEAST, C.NAME_MOST, (what) => fields.ranged(1, what.replace("name", "byte of the name,"), 4, C.BYTE_LEAST, C.BYTE_MOST));
-  const chances = fields.section("chance", 5, C.CHANCES_LEAST, C.CHANCES_MOST, (what, values) => fields.take(4, what, judgeChance(values.at(-1))));
-  const ticks = fields.section("time", 6, C.TIMES_LEAST, C.TIMES_MOST, (what) => fields.ranged(4, what, 6, C.TICKS_LEAST, C.TICKS_MOST));
+  const letter = (what) => fields.ranged(1, what.replace("name", "byte of the name,"), 4, C.BYTE_LEAST, C.BYTE_MOST);
+  const name = fields.section("name", 4, C.NAME_LEAST, C.NAME_MOST, letter);
+  const chance = (what, before) => fields.take(4, what, judgeChance(before.at(-1)));
+  const chances = fields.section("chance", 5, C.CHANCES_LEAST, C.CHANCES_MOST, chance);
+  const time = (what) => fields.ranged(4, what, 6, C.TICKS_LEAST, C.TICKS_MOST);
+  const ticks = fields.section("time", 6, C.TIMES_LEAST, C.TIMES_MOST, time);
   const wanted = BigInt(chances.length);
   fields.take(2, "limit count", (n) => n !== wanted && { refusal: 7, why: `${n}; there are ${wanted} chances` });
   return { start, form, day, name: String.fromCharCode(...name.map(Number)), chances, ticks, ...meanAndSpread(form, ticks) };
@@ -90,7 +93,9 @@ function profileFault(leaf) {
 function* surveySteps(memory, length, profile) {
   const leaves = [], worked = { limits: 0 };
   const damaged = (fault) => ({ state: "damaged", start: 0, leaves, limits: worked.limits, ...fault });
-  if (length > C.VOLUME_MOST || length > memory.length) return damaged({ refusal: 1, place: 0, field: "length", why: `${length}; it is at most ${C.VOLUME_MOST}` });
+  if (length > C.VOLUME_MOST || length > memory.length) {
+    return damaged({ refusal: 1, place: 0, field: "length", why: `${length}; it is at most ${C.VOLUME_MOST}` });
+  }
   const fields = new Fields(memory.subarray(0, length));
   let last = { form: 0n, day: 0n }, start = 0;
   try {
@@ -131,7 +136,8 @@ function lastLeaves(leaves) {
 const little = (n, width) => Array.from({ length: width }, (_, i) => (n >> (8 * i)) & 255);
 function indexOf(leaves) {
   const entries = lastLeaves(leaves), bytes = little(entries.length, 2);
-  for (const { name, start } of entries) bytes.push(...little(name.length, 2), ...Array.from(name, (letter) => letter.charCodeAt(0)), ...little(start, 4));
+  const letters = (name) => Array.from(name, (letter) => letter.charCodeAt(0));
+  for (const { name, start } of entries) bytes.push(...little(name.length, 2), ...letters(name), ...little(start, 4));
   return bytes;
 }
 const begins = (memory, bytes) => memory.length >= bytes.length && bytes.every((b, i) => memory[i] === b);
@@ -146,4 +152,7 @@ function leafLine(leaf) {
   return [leaf.name, leaf.day, markOf(leaf), hex(leaf.mean), hex(leaf.spread), ...limits].join(" ");
 }
 const endLine = (seen) => (seen.state === "damaged" ? `damaged ${seen.refusal} ${seen.place}` : `${seen.state} ${seen.leaves.length} ${seen.kept}`);
-const listingOf = (seen) => (seen.state === "damaged" ? [endLine(seen)] : [...seen.leaves.map(leafLine), endLine(seen)]).map((line) => line + "\n").join("");
+function listingOf(seen) {
+  const lines = seen.state === "damaged" ? [] : seen.leaves.map(leafLine);
+  return [...lines, endLine(seen)].map((line) => line + "\n").join("");
+}
