@@ -18,11 +18,21 @@ from index import index_of, nearly_right  # noqa: E402 (the path is set above)
 from leaf import NEW, OLD, QUANTILE, Leaf, bits_of, double_of, limit_of, mean_and_spread  # noqa: E402
 
 # Document 01's thirteen cases marked *.
-STARRED = [["quantile", "0000000000000000", "7ff0000000000000"], ["quantile", "8000000000000000", "7ff0000000000000"], ["quantile", "4000000000000000", "fff0000000000000"],
-           ["quantile", "3ff0000000000000", "0000000000000000"], ["quantile", "bff0000000000000", "7ff8000000000000"], ["quantile", "4000000000000001", "7ff8000000000000"],
-           ["root", "4010000000000000", "4000000000000000"], ["root", "0000000000000001", "1e60000000000000"], ["root", "8000000000000000", "8000000000000000"],
-           ["index", "16a09e667f3bcc", "181"], ["index", "16a09e667f3bcd", "0"],
-           ["limit", "1", "100, 100", "1", "4059000000000000"], ["limit", "1", "90, 110", "500000", "4059000000000000"]]
+STARRED = [
+    ["quantile", "0000000000000000", "7ff0000000000000"],
+    ["quantile", "8000000000000000", "7ff0000000000000"],
+    ["quantile", "4000000000000000", "fff0000000000000"],
+    ["quantile", "3ff0000000000000", "0000000000000000"],
+    ["quantile", "bff0000000000000", "7ff8000000000000"],
+    ["quantile", "4000000000000001", "7ff8000000000000"],
+    ["root", "4010000000000000", "4000000000000000"],
+    ["root", "0000000000000001", "1e60000000000000"],
+    ["root", "8000000000000000", "8000000000000000"],
+    ["index", "16a09e667f3bcc", "181"],
+    ["index", "16a09e667f3bcd", "0"],
+    ["limit", "1", "100, 100", "1", "4059000000000000"],
+    ["limit", "1", "90, 110", "500000", "4059000000000000"],
+]
 STEPPED = ["releases", "marks", "beyond-even", "few-and-equal", "forms", "largest"]
 
 
@@ -118,8 +128,20 @@ def dates():
 def cases():
     with tempfile.TemporaryDirectory() as folder:
         stored = volumes(folder)
-    return {"starred": STARRED, "quantiles": text("crates/quantile_vectors/stdin"), "limits": limits(2000), "worked": worked(), "ways": ways(), "volumes": stored,
-            "journal": text("crates/journal_cases/stdin"), "steps": steps(), "pictures": pictures(), "indexes": indexes(), "decimals": decimals(), "dates": dates()}
+    return {
+        "starred": STARRED,
+        "quantiles": text("crates/quantile_vectors/stdin"),
+        "limits": limits(2000),
+        "worked": worked(),
+        "ways": ways(),
+        "volumes": stored,
+        "journal": text("crates/journal_cases/stdin"),
+        "steps": steps(),
+        "pictures": pictures(),
+        "indexes": indexes(),
+        "decimals": decimals(),
+        "dates": dates(),
+    }
 
 
 # ---- The sources: whole numbers alone where a bit counts, nothing that would reach out or make markup of a text.
@@ -127,7 +149,9 @@ def cases():
 EXACT = ["doubles.js", "pairs.js", "quantile.js", "limit.js"]
 ALLOWED = r"\[\d+\]|refusal: \d+|toString\(16\)|padStart\(16,|\b\d: \d+n"
 REFUSED_EXACT = r"Number|parseFloat|parseInt|Float64|(?<![\w$])\d[\w.]*(?<!n)\b"
-REFUSED = (r"Math\b|innerHTML|outerHTML|insertAdjacent|document\.write|\beval\b|new Function|\bfetch\b|XMLHttp|WebSocket|EventSource|sendBeacon|\bimport\b|setTimeout\(\"|https?:(?!//www\.w3\.org/2000/svg\")")
+MARKUP = r"innerHTML|outerHTML|insertAdjacent|document\.write|\beval\b|new Function"
+OUTSIDE = r"\bfetch\b|XMLHttp|WebSocket|EventSource|sendBeacon|\bimport\b|https?:(?!//www\.w3\.org/2000/svg\")"
+REFUSED = rf"Math\b|{MARKUP}|{OUTSIDE}"
 
 
 def faults():

@@ -22,7 +22,9 @@ function tries(R, given) {
     const [x, p] = line.split(" ");
     same("stored quantiles", x, R.hex(R.quantile(B(x))), p);
   }
-  for (const [form, ticks, chance, want] of given.limits) same("limits of both forms", `${form} ${chance} ${ticks}`, told(R.limit(BigInt(form), ticks.map(BigInt), BigInt(chance))), want);
+  for (const [form, ticks, chance, want] of given.limits) {
+    same("limits of both forms", `${form} ${chance} ${ticks}`, told(R.limit(BigInt(form), ticks.map(BigInt), BigInt(chance))), want);
+  }
 
   ways(R, given.ways, same, B);
   const w = given.worked, lines = (form) => R.limitSteps(form, w.times.map(BigInt), BigInt(w.chance));
@@ -32,8 +34,10 @@ function tries(R, given) {
   for (const [name, hex, listing] of given.volumes) same("volumes listed", name, R.listingOf(R.survey(bytes(hex))), listing);
   for (const [hex, i, want] of given.steps) {
     const leaf = R.survey(bytes(hex)).leaves[i];
-    const blocks = leaf.chances.map((c, k) => `record ${i}, chance ${c}:\n${R.limitSteps(leaf.form, leaf.ticks, c).join("\n")}\n9    limit that stands  ${R.hex(leaf.limits[k])}\n`);
-    same("records' steps, beside tools/recompute", `record ${i}`, `record ${i}: ${leaf.name}, form ${leaf.form}, day ${leaf.day}, ${leaf.ticks.length} times\n` + blocks.join(""), want);
+    const steps = (c) => R.limitSteps(leaf.form, leaf.ticks, c).join("\n");
+    const blocks = leaf.chances.map((c, k) => `record ${i}, chance ${c}:\n${steps(c)}\n9    limit that stands  ${R.hex(leaf.limits[k])}\n`);
+    const first = `record ${i}: ${leaf.name}, form ${leaf.form}, day ${leaf.day}, ${leaf.ticks.length} times\n`;
+    same("records' steps, beside tools/recompute", `record ${i}`, first + blocks.join(""), want);
   }
   for (const [hex, index, own] of given.indexes) {
     const made = R.indexOf(R.survey(bytes(hex)).leaves), memory = bytes(index);
@@ -48,7 +52,10 @@ function tries(R, given) {
 }
 
 // The way that an argument takes, as section 13 names it: by what the working notes, and by what the core chooses.
-const SEEN = { central: ["7.1", "A"], tail: ["7.4", "X"], middle: ["7.3", "K"], taylor: ["7.2", "Z"], "short rational": ["7.4", "Q4"], "long rational": ["7.4", "G6"] };
+const SEEN = {
+  central: ["7.1", "A"], tail: ["7.4", "X"], middle: ["7.3", "K"], taylor: ["7.2", "Z"],
+  "short rational": ["7.4", "Q4"], "long rational": ["7.4", "G6"],
+};
 function ways(R, { quantile, inverse }, same, B) {
   for (const [x, way] of quantile) {
     const steps = R.stepsOf(() => R.quantile(B(x))), has = ([section, name]) => steps.some((step) => step.section === section && step.name === name);
@@ -91,7 +98,8 @@ function pictures(R, given, same, bytes) {
     mine.forEach(([tag, attributes, text], i) => {
       const [wantTag, want, wantText] = marks[i], keys = Object.keys(want).filter((key) => /^(data-|[xyr]|c[xy])/.test(key));
       const differs = keys.find((key) => !near(String(attributes[key]), want[key]));
-      same("pictures' marks, beside tools/plot", `${name}, mark ${i}, ${differs}`, `${tag} ${text ?? null} ${differs && attributes[differs]}`, `${wantTag} ${wantText} ${differs && want[differs]}`);
+      const mark = (t, words, values) => `${t} ${words ?? null} ${differs && values[differs]}`;
+      same("pictures' marks, beside tools/plot", `${name}, mark ${i}, ${differs}`, mark(tag, text, attributes), mark(wantTag, wantText, want));
     });
   }
 }
@@ -103,7 +111,8 @@ function operations(R, same) {
   const ALL = (1n << 64n) - 1n, LEAD = 1n << 52n;
   let seed = 88172645463325252n;
   const random = () => { seed ^= (seed << 13n) & ALL; seed ^= seed >> 7n; seed ^= (seed << 17n) & ALL; return seed; };
-  const special = ["0", "8000000000000000", "1", "8000000000000001", "fffffffffffff", "10000000000000", "3ff0000000000000", "7fefffffffffffff", "7ff0000000000000", "fff0000000000000", "7ff8000000000000", "fff0000000000001"];
+  const special = ["0", "8000000000000000", "1", "8000000000000001", "fffffffffffff", "10000000000000", "3ff0000000000000", "7fefffffffffffff",
+    "7ff0000000000000", "fff0000000000000", "7ff8000000000000", "fff0000000000001"];
   function literal(s, n, d) {
     let k = 0n;
     while (n >= (d << 53n) << k) k += 1n;
@@ -130,7 +139,9 @@ function operations(R, same) {
       same("operations beside section 3.1", `over ${of}`, R.over(x, y), literal(s, R.count(x) << 1074n, R.count(y)));
     }
   }
-  for (const n of hardRoots()) for (const x of [Number(n), Number(n) / 4 ** 60]) same("roots next to a midpoint", n, R.hex(R.root(BigInt("0x" + bits(x)))), bits(Math.sqrt(x)));
+  for (const x of hardRoots().flatMap((n) => [Number(n), Number(n) / 4 ** 60])) {
+    same("roots next to a midpoint", x, R.hex(R.root(BigInt("0x" + bits(x)))), bits(Math.sqrt(x)));
+  }
 }
 
 // Whole numbers n of 53 digits with n * 2^54 = c * c + d for an odd c of 54 digits and a small d: their roots lie next to the midpoint c / 2^27.
