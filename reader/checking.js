@@ -68,7 +68,13 @@ function turn() {
 async function run() {
   if (running) return;
   running = true;
-  for (let file; (file = files.find(({ status }) => status === "waiting")); ) await check(file);
+  for (let file; (file = files.find(({ status }) => status === "waiting")); ) {
+    try {
+      await check(file);
+    } catch (error) {
+      Object.assign(file, { status: "unread", problem: `${error.message}.` });
+    }
+  }
   running = false;
   drawAll();
 }
@@ -79,8 +85,8 @@ async function check(file) {
   let tenth = 0;
   while (file.status === "checking" && files.includes(file)) {
     const until = performance.now() + SLICE;
-    let step = { done: false };
-    while (!step.done && performance.now() < until) step = file.steps.next();
+    let step;
+    do step = file.steps.next(); while (!step.done && performance.now() < until);
     if (step.done) return finish(file, step.value);
     file.place = step.value;
     tenth = progress(file, tenth);
