@@ -26,6 +26,7 @@ function tries(R, given) {
     same("limits of both forms", `${form} ${chance} ${ticks}`, told(R.limit(BigInt(form), ticks.map(BigInt), BigInt(chance))), want);
   }
 
+  remembering(R, same);
   ways(R, given.ways, same, B);
   const w = given.worked, lines = (form) => R.limitSteps(form, w.times.map(BigInt), BigInt(w.chance));
   const plain = w[2].map((line, i) => { const k = w.places.indexOf(i); return k < 0 ? line : w.differing[k]; });
@@ -49,6 +50,13 @@ function tries(R, given) {
   pictures(R, given.pictures, same, bytes);
   operations(R, same);
   return [...topics].map(([topic, { tried, wrong }]) => ({ topic, tried, wrong: wrong.slice(0, 5), differing: wrong.length }));
+}
+
+// Quantiles that are remembered: chances that are alike in their low digits, each asked for again behind the others.
+function remembering(R, same) {
+  const view = new DataView(new ArrayBuffer(8)), bits = (n) => { view.setFloat64(0, n); return view.getBigUint64(0); };
+  const chances = [1, 1000, 500000].flatMap((c) => [c, c + 256, c + 65536, c + 131072]);
+  for (const c of [...chances, ...chances]) same("quantiles asked for again", c, R.limit(2n, [90n, 110n], BigInt(c)).e, R.quantile(R.over(bits(c), bits(500000))));
 }
 
 // The way that an argument takes, as section 13 names it: by what the working notes, and by what the core chooses.
