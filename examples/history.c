@@ -84,7 +84,7 @@ static void hand_index(const struct line *l)
 
 static uint32_t options_of(const struct line *l)
 {
-    return (l->x & WITH_INDEX ? JOURNAL_INDEX : 0) | (l->x & BY_PROFILE ? JOURNAL_PROFILE : 0);
+    return (l->x & WITH_INDEX ? AWAQLLA_OPTION_INDEX : 0) | (l->x & BY_PROFILE ? AWAQLLA_OPTION_PROFILE : 0);
 }
 
 /* The call of times, by the function that takes what it is handed and no more. */
@@ -93,12 +93,12 @@ static void append(const struct line *l, int all)
     const uint16_t day = (uint16_t)l->x;
     const uint32_t options = options_of(l);
     if (options != 0)
-        journal_append_with(slice, size, len, day, name, name_len, chances, chances_len, times, times_len, all ? SIZE_MAX : l->y, index_buffer,
+        awaqlla_append_with(slice, size, len, day, name, name_len, chances, chances_len, times, times_len, all ? SIZE_MAX : l->y, index_buffer,
             index_size, options, answer);
     else if (all)
-        journal_append(slice, size, len, day, name, name_len, chances, chances_len, times, times_len, answer);
+        awaqlla_append(slice, size, len, day, name, name_len, chances, chances_len, times, times_len, answer);
     else
-        journal_append_upto(slice, size, len, day, name, name_len, chances, chances_len, times, times_len, l->y, answer);
+        awaqlla_append_upto(slice, size, len, day, name, name_len, chances, chances_len, times, times_len, l->y, answer);
 }
 
 /* The same through the log of z bytes. */
@@ -110,12 +110,12 @@ static void append_log(const struct line *l, int all)
     if (l->z > sizeof name - LOG_AT)
         stop("no such log", l);
     if (options != 0)
-        journal_append_log_with(slice, size, len, day, name, name_len, chances, chances_len, log, l->z, all ? SIZE_MAX : l->y, index_buffer,
+        awaqlla_append_log_with(slice, size, len, day, name, name_len, chances, chances_len, log, l->z, all ? SIZE_MAX : l->y, index_buffer,
             index_size, options, answer);
     else if (all)
-        journal_append_log(slice, size, len, day, name, name_len, chances, chances_len, log, l->z, answer);
+        awaqlla_append_log(slice, size, len, day, name, name_len, chances, chances_len, log, l->z, answer);
     else
-        journal_append_log_upto(slice, size, len, day, name, name_len, chances, chances_len, log, l->z, l->y, answer);
+        awaqlla_append_log_upto(slice, size, len, day, name, name_len, chances, chances_len, log, l->z, l->y, answer);
 }
 
 /* Only a length that append answers changes the journal's. */
@@ -125,7 +125,7 @@ static void call(const struct line *l)
         append(l, l->letter == 'A');
     else
         append_log(l, l->letter == 'B');
-    if (answer[0] == JOURNAL_EXTENDED)
+    if (answer[0] == AWAQLLA_DONE)
         len = answer[1];
 }
 
@@ -153,7 +153,7 @@ static void follow(const struct line *l)
     case 'i': put(l, index_buffer, INDEX_ROOM); put(l, index_expected, INDEX_ROOM); break;
     case 'y': put(l, index_expected, INDEX_ROOM); break;
     case 'm': hand_index(l); break;
-    case 'f': journal_index(slice, size, len, index_buffer, index_size, answer); break;
+    case 'f': awaqlla_index(slice, size, len, index_buffer, index_size, answer); break;
     default: stop("no such letter", l);
     }
 }

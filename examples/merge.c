@@ -81,7 +81,7 @@ static int is_as_expected(const char *words)
     memset(third, UNTOUCHED, ROOM);
     memset(expected, UNTOUCHED, ROOM);
     put(result, expected);
-    journal_merge(first, a_size, length_of(a_length, a_size), second, b_size, length_of(b_length, b_size), third, room, got);
+    awaqlla_merge(first, a_size, length_of(a_length, a_size), second, b_size, length_of(b_length, b_size), third, room, got);
     return memcmp(got, want, sizeof got) == 0 && memcmp(third, expected, ROOM) == 0;
 }
 

@@ -72,7 +72,7 @@ static int is_tried(const char *words)
     uint64_t answer[WORDS];
     const size_t position = (size_t)strtoull(words, &end, 10);
     memset(answer, 0xa5, sizeof answer);
-    journal_trial(log_buffer, log_len, volume, volume_size, length, index_buffer, index_size, position, answer);
+    awaqlla_trial(log_buffer, log_len, volume, volume_size, length, index_buffer, index_size, position, answer);
     return has_words(answer, WORDS, end);
 }
 
@@ -81,7 +81,7 @@ static int is_unknown(const char *words)
 {
     uint64_t answer[3];
     memset(answer, 0xa5, sizeof answer);
-    journal_trial_unknown(log_buffer, log_len, volume, volume_size, length, index_buffer, index_size, answer);
+    awaqlla_trial_unknown(log_buffer, log_len, volume, volume_size, length, index_buffer, index_size, answer);
     return has_words(answer, 3, words);
 }
 

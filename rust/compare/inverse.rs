@@ -78,7 +78,7 @@ impl Run<'_> {
         let (mut count, mut differ, mut most) = (0u64, 0u64, 0);
         let mut list = Vec::new();
         for bits in inputs {
-            let answer = ours::f_erfinv_bits(bits);
+            let answer = ours::awaqlla_f_erfinv_bits(bits);
             let paper = original::bits_of(f_erfinv(f64::from_bits(bits)));
             tally.take([[answer], [paper]], || hex(&[bits]));
             let rust = original::f_erfinv_raw(bits);
