@@ -15,7 +15,7 @@ sys.dont_write_bytecode = True
 ROOT = pathlib.Path(__file__).resolve().parent.parent.parent
 sys.path.insert(0, str(ROOT / "tools"))
 from index import index_of, nearly_right  # noqa: E402 (the path is set above)
-from leaf import NEW, OLD, QUANTILE, Leaf, bits_of, double_of, limit_of, mean_and_spread  # noqa: E402
+from leaf import NEW, OLD, Leaf, bits_of, double_of, limit_of, mean_and_spread, quantiles  # noqa: E402
 
 # Document 01's thirteen cases marked *.
 STARRED = [
@@ -44,10 +44,10 @@ def limits(number):
     """Random times at chances whose quantile is stored, under both forms: what document 01's formula gives in this machine's doubles."""
     chance, found = random.Random(45), []
     for k in range(number):
-        form, c = (OLD, NEW)[k % 2], chance.choice(sorted(QUANTILE))
+        form, c = (OLD, NEW)[k % 2], chance.choice(sorted(quantiles()))
         most = chance.choice([3, 200, 1048575])
         times = [chance.randint(1, most) for _ in range(chance.choice([2, 3, 8, 40, 128]))]
-        values = [*mean_and_spread(times, form), QUANTILE[c], limit_of(times, c, form)]
+        values = [*mean_and_spread(times, form), quantiles()[c], limit_of(times, c, form)]
         found.append([form, times, c, " ".join(f"{bits_of(x):016x}" for x in values)])
     return found
 
