@@ -167,6 +167,9 @@ class Definitions:
         if kind == "record":
             fields = {name: self.value(inner, scope) for name, inner in what[1]}
             return (fields["lo"], fields["hi"]) if set(fields) == set(FIELDS) else fields
+        if kind == "op" and what[1] in ("||", "&&"):
+            left = self.value(what[2], scope)
+            return left if left == (what[1] == "||") else self.value(what[3], scope)
         if kind == "op":
             return self.operator(what[1], self.value(what[2], scope), self.value(what[3], scope))
         head, arguments = (what, []) if kind == "name" else (what[1], what[2])
@@ -187,10 +190,6 @@ class Definitions:
     def operator(sign, left, right):
         if sign == "∷":
             return [left] + right
-        if sign == "||":
-            return left or right
-        if sign == "&&":
-            return left and right
         if sign == "++":
             return left + right
         return {"+": left + right, "-": left - right, "*": left * right}[sign]

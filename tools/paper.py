@@ -180,3 +180,23 @@ class Symbols:
         if name == "short":
             return self.turn % 2 == 1
         return (self.symbol(name, "low"), self.symbol(name, "high")) if name[0].isupper() else self.symbol(name)
+
+
+class Paths(Symbols):
+    """Symbols whose comparisons answer as they are told, so that every path through a function can be taken, each once."""
+
+    def chance(self, *what):
+        if what not in self.taken:
+            self.taken[what] = self.told[len(self.taken)] if len(self.taken) < len(self.told) else True
+        return self.taken[what]
+
+    def tree(self, function):
+        """The function as its tree: each path's tests, in their order and with what they answered, and the symbol that it answers."""
+        found, left = [], [[]]
+        while left:
+            self.told, self.taken = left.pop(), {}
+            answer = function()
+            found.append((tuple(self.taken.items()), answer))
+            answers = list(self.taken.values())
+            left += [answers[:k] + [False] for k in range(len(self.told), len(answers))]
+        return sorted(found, key=str)

@@ -1,6 +1,6 @@
 // The square root of a double, correctly rounded: document 01's Root. The body goes as IEEE 754
 // does: special operands, the exact root of the scaled significand with its remainder, one rounding.
-// docs/DEFINITION.md, section 4, sets the standard's clauses beside these lines and their contracts.
+// docs/DEFINITION.md, section 16.1, sets the standard's clauses beside these lines and their contracts.
 ghost use mathlib.Core.Path.{_≡_};
 ghost use mathlib.Core.Bool.{false};
 ghost use lib.Ieee.{binary64, ofBits, toBits, lt};
