@@ -23,9 +23,9 @@ int main(int argc, char **argv)
     for (size_t i = 0; i < n; i++)
         times[i] = number("band", argv[i + 2]);
     uint64_t out[3];
-    band_bits(times, n, number("band", argv[1]), out);
+    awaqlla_band_bits(times, n, number("band", argv[1]), out);
     free(times);
-    if (out[0] == BAND_REFUSED) {
+    if (out[0] == AWAQLLA_DECLINED) {
         printf("refused %" PRIu64 "\n", out[1]);
         return ended("band", 1);
     }

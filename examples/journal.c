@@ -1,5 +1,5 @@
 /* journal: makes a volume in memory, cuts an append, appends again over the torn end, and prints what the library's calls answer.
-   Shows how a C program calls the library; examples/journal.expected has what it prints. */
+   Shows how a C program calls the library; tests/journal.expected has what it prints. */
 #include <inttypes.h>
 #include <stdio.h>
 
@@ -13,10 +13,10 @@ static size_t length; /* the volume's length in bytes */
 /* The answer of an append; where it is a length, that is the volume's from now on. */
 static void answer(const char *name, const uint64_t out[3])
 {
-    if (out[0] == JOURNAL_EXTENDED) {
+    if (out[0] == AWAQLLA_DONE) {
         length = (size_t)out[1];
         printf("%s: length %zu\n", name, length);
-    } else if (out[0] == JOURNAL_DECLINED) {
+    } else if (out[0] == AWAQLLA_DECLINED) {
         printf("%s: declined %" PRIu64 "\n", name, out[1]);
     } else {
         printf("%s: damaged %" PRIu64 " %" PRIu64 "\n", name, out[1], out[2]);
@@ -29,7 +29,7 @@ static void append(const char *name, uint16_t day, uint32_t first, uint32_t seco
 {
     const uint32_t times[] = {first, second};
     uint64_t out[3];
-    journal_append(volume, ROOM, length, day, (const uint8_t *)name, 1, chances, 1, times, 2, out);
+    awaqlla_append(volume, ROOM, length, day, (const uint8_t *)name, 1, chances, 1, times, 2, out);
     answer(name, out);
 }
 
@@ -38,16 +38,16 @@ static void append_upto(const char *name, uint16_t day, uint32_t first, uint32_t
 {
     const uint32_t times[] = {first, second};
     uint64_t out[3];
-    journal_append_upto(volume, ROOM, length, day, (const uint8_t *)name, 1, chances, 1, times, 2, budget, out);
+    awaqlla_append_upto(volume, ROOM, length, day, (const uint8_t *)name, 1, chances, 1, times, 2, budget, out);
     answer(name, out);
 }
 
 /* The listing, a line at a time; behind its last line there are no bytes. */
 static void list(void)
 {
-    uint8_t line[JOURNAL_MAX_LINE];
+    uint8_t line[AWAQLLA_MAX_LINE];
     size_t size;
-    for (size_t i = 0; (size = journal_line(volume, length, i, line, sizeof line)) > 0; i++)
+    for (size_t i = 0; (size = awaqlla_line(volume, length, i, line, sizeof line)) > 0; i++)
         fwrite(line, 1, size, stdout);
 }
 
@@ -55,7 +55,7 @@ static void list(void)
 static void scan(void)
 {
     uint64_t out[3];
-    journal_scan(volume, ROOM, length, out);
+    awaqlla_scan(volume, ROOM, length, out);
     printf("scan: %" PRIu64 " %" PRIu64 " %" PRIu64 "\n", out[0], out[1], out[2]);
 }
 
@@ -63,8 +63,8 @@ static void scan(void)
 static void record(size_t i)
 {
     uint64_t out[2];
-    uint64_t mark = journal_mark(volume, ROOM, length, i);
-    journal_part(volume, ROOM, length, i, out);
+    uint64_t mark = awaqlla_mark(volume, ROOM, length, i);
+    awaqlla_part(volume, ROOM, length, i, out);
     printf("record %zu: place %" PRIu64 ", bytes %" PRIu64 ", ", i, out[0], out[1]);
     if (mark < 'A')
         printf("refused %" PRIu64 "\n", mark);
@@ -74,9 +74,9 @@ static void record(size_t i)
 
 int main(void)
 {
-    printf("root of 4: %016" PRIx64 "\n", sqrt_bits(0x4010000000000000));
-    printf("quantile of 1: %016" PRIx64 "\n", f_erfcinv_bits(0x3ff0000000000000));
-    printf("quantile of 2: %016" PRIx64 "\n", f_erfcinv_bits(0x4000000000000000));
+    printf("root of 4: %016" PRIx64 "\n", awaqlla_sqrt_bits(0x4010000000000000));
+    printf("quantile of 1: %016" PRIx64 "\n", awaqlla_f_erfcinv_bits(0x3ff0000000000000));
+    printf("quantile of 2: %016" PRIx64 "\n", awaqlla_f_erfcinv_bits(0x4000000000000000));
     list();
     append("A", 1, 100, 100);
     append_upto("B", 2, 90, 110, 20); /* cut after 20 bytes of its 33 */

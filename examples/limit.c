@@ -29,9 +29,9 @@ int main(int argc, char **argv)
     for (size_t i = 0; i < n; i++)
         times[i] = number("limit", argv[(size_t)at + 1 + i]);
     uint64_t out[5];
-    limit_bits(form, times, n, number("limit", argv[at]), out);
+    awaqlla_limit_bits(form, times, n, number("limit", argv[at]), out);
     free(times);
-    if (out[0] == LIMIT_REFUSED) {
+    if (out[0] == AWAQLLA_DECLINED) {
         printf("refused %" PRIu64 "\n", out[1]);
         return ended("limit", 1);
     }

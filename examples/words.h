@@ -1,4 +1,4 @@
-/* What limit.c and band.c share: a word of the command line as a number, and the end of a program, whose output must have been written. */
+/* What the programs of figures share: a word of the command line as a number, and the end of a program, whose output must have been written. */
 #ifndef WORDS_H
 #define WORDS_H
 
@@ -9,7 +9,7 @@
 #include <string.h>
 
 /* A decimal number of 32 bits without leading zeros; anything else ends the program. */
-static uint32_t number(const char *program, const char *text)
+static inline uint32_t number(const char *program, const char *text)
 {
     char *end;
     errno = 0;
@@ -22,7 +22,7 @@ static uint32_t number(const char *program, const char *text)
 }
 
 /* The exit status, which is 2 where standard output could not be written. */
-static int ended(const char *program, int status)
+static inline int ended(const char *program, int status)
 {
     if (fflush(stdout) == 0 && !ferror(stdout))
         return status;

@@ -1,8 +1,8 @@
 """Document 01's Limit, Leaf and mark, with document 02's two forms, its order of the marks and its profile, for the tools that make volumes:
 written from the papers alone, and not from our code.
 
-The quantile is not worked out here. Its bits come from the Rust: tools/journal_quantiles has those of ten chances, and the
-list crates/quantile_vectors/stdin, which tools/quantile-vectors makes, those of some more. The rest of a limit is worked out in
+The quantile is not worked out here. Its bits come from the Rust: tools/leaf-quantiles has those of ten chances, and the
+list crates/replay_quantile/stdin, which tools/quantile-vectors makes, those of some more. The rest of a limit is worked out in
 this machine's doubles, whose +, *, / and sqrt round correctly.
 """
 import functools
@@ -33,13 +33,14 @@ def pairs_of(path):
 
 
 def quantiles_of_ten():
-    return {int(chance): int(bits, 16) for chance, bits in pairs_of("tools/journal_quantiles")}
+    return {int(chance): int(bits, 16) for chance, bits in pairs_of("tools/leaf-quantiles")}
 
 
+@functools.cache
 def quantiles_stored():
     """The lines of the stored list whose argument is chance / 500000 of some chance."""
     found = {}
-    for argument, result in pairs_of("crates/quantile_vectors/stdin"):
+    for argument, result in pairs_of("crates/replay_quantile/stdin"):
         x = double_of(int(argument, 16))
         chance = round(x * 500000) if 0 < x < 2 else 0
         if chance > 0 and chance / 500000 == x:
@@ -47,13 +48,17 @@ def quantiles_stored():
     return found
 
 
-BITS = {**quantiles_stored(), **quantiles_of_ten()}
-assert quantiles_stored().items() <= BITS.items(), "the two lists of quantiles differ"
-QUANTILE = {chance: double_of(bits) for chance, bits in BITS.items()}
+@functools.cache
+def quantiles():
+    """The quantile of each chance that stands in a list, read when the first is asked for."""
+    bits = {**quantiles_stored(), **quantiles_of_ten()}
+    assert quantiles_stored().items() <= bits.items(), "the two lists of quantiles differ"
+    return {chance: double_of(pattern) for chance, pattern in bits.items()}
+
+
 EIGHT = [1, 2, 1000, 250000, 500000, 750000, 999998, 999999]  # over the whole range that a reader takes
 OFFERED = [1, 10, 100, 1000, 10000, 100000, 250000, 500000]  # eight that append takes (document 02, 2026-10)
 PROFILE = (1, 10, 100, 1000)  # those of a leaf of the profile, exactly (document 02, 2026-14)
-STORED = sorted(quantiles_stored())  # those of the stored list of the quantile
 
 
 # ---- Limit, mark and Leaf.
@@ -73,7 +78,7 @@ def mean_and_spread(times, form):
 def limit_of(times, chance, form):
     """mean + (spread * 1.4142135623730951) * e, one rounding an operation, products from the left."""
     mean, spread = mean_and_spread(times, form)
-    return mean + (spread * 1.4142135623730951) * QUANTILE[chance]
+    return mean + (spread * 1.4142135623730951) * quantiles()[chance]
 
 
 def mark_of(times):
@@ -130,3 +135,31 @@ class Leaf:
         moments = [f"{bits_of(x):016x}" for x in mean_and_spread(self.times, self.form)]
         pairs = [f"{chance}:{limit:016x}" for chance, limit in zip(self.chances, self.limits)]
         return " ".join([self.name.decode("ascii"), str(self.day), mark_of(self.times), *moments, *pairs]) + "\n"
+
+
+# ---- A volume's leaves, read by their counts and not judged.
+
+
+def leaf_at(volume, at):
+    """The leaf that starts at a place, and the place behind it; struct.error where the volume ends before that."""
+    form, day = struct.unpack_from("<HH", volume, at)
+    at += 4
+    sections = []
+    for kind in "BIIQ":
+        (count,) = struct.unpack_from("<H", volume, at)
+        sections.append(struct.unpack_from(f"<{count}{kind}", volume, at + 2))
+        at += 2 + struct.calcsize(f"<{count}{kind}")
+    name, chances, times, limits = sections
+    return Leaf(day, name, chances, times, form, limits), at
+
+
+def leaves_of(volume):
+    """Each leaf with its start; a torn end is left out."""
+    at = 0
+    while at < len(volume):
+        try:
+            leaf, end = leaf_at(volume, at)
+        except struct.error:
+            return
+        yield at, leaf
+        at = end

@@ -1,4 +1,4 @@
-/* The listing of a volume from standard input in plain C, over the archive's scan: what tools/time-list times the program list beside.
+/* The listing of a volume from standard input in plain C, over the library's scan: what tools/time-list times the program list beside.
    Each line is made in a buffer and handed to stdio, which writes in pieces. */
 #include <math.h>
 #include <stdint.h>
@@ -7,7 +7,7 @@
 
 #include "awaqlla.h"
 
-static uint8_t volume[JOURNAL_MAX_LENGTH + 1];
+static uint8_t volume[AWAQLLA_MAX_LENGTH + 1];
 
 static uint64_t number(const uint8_t *b, int width)
 {
@@ -63,7 +63,7 @@ static char *put_figures(char *p, uint64_t form, const uint8_t *times, uint64_t 
 /* A record's line; answers the place behind the record. */
 static const uint8_t *print_line(const uint8_t *b)
 {
-    char text[JOURNAL_MAX_LINE], *p = text;
+    char text[AWAQLLA_MAX_LINE], *p = text;
     uint64_t form = number(b, 2), day = number(b + 2, 2), size = number(b + 4, 2);
     const uint8_t *chances = b + 6 + size + 2;
     uint64_t n = number(chances - 2, 2);
@@ -90,13 +90,13 @@ int main(void)
 {
     size_t len = fread(volume, 1, sizeof volume, stdin);
     uint64_t state[3];
-    journal_scan(volume, len, len, state);
-    if (state[0] != JOURNAL_DAMAGED) {
+    awaqlla_scan(volume, len, len, state);
+    if (state[0] != AWAQLLA_DAMAGED) {
         const uint8_t *b = volume;
         for (uint64_t i = 0; i < state[1]; i++)
             b = print_line(b);
     }
-    const char *word = state[0] == JOURNAL_WHOLE ? "whole" : state[0] == JOURNAL_TORN ? "torn" : "damaged";
+    const char *word = state[0] == AWAQLLA_WHOLE ? "whole" : state[0] == AWAQLLA_TORN ? "torn" : "damaged";
     printf("%s %llu %llu\n", word, (unsigned long long)state[1], (unsigned long long)state[2]);
     return 0;
 }

@@ -1,33 +1,14 @@
 """The blocks of steps of docs/DEFINITION.md as functions, and symbols to compare steps by.
 
-Used by tools/recompute_test, which holds the functions of tools/recompute to the blocks, and by tools/definition-check, which
+Used by tests/recompute-check, which holds the functions of tools/recompute to the blocks, and by tests/definition-check, which
 holds the blocks to the definitions of the crates.
 """
-import importlib.machinery
-import importlib.util
-import pathlib
 import random
 import re
-import sys
 
-ROOT = pathlib.Path(__file__).resolve().parent.parent
+from tool import ROOT, load_recompute, load_tool  # noqa: F401 (the tests import the loaders from here)
+
 PAPER = ROOT / "docs/DEFINITION.md"
-
-
-def load_tool(name):
-    """A tool as a module."""
-    sys.dont_write_bytecode = True
-    loader = importlib.machinery.SourceFileLoader(name, str(ROOT / "tools" / name))
-    module = importlib.util.module_from_spec(importlib.util.spec_from_loader(name, loader))
-    loader.exec_module(module)
-    return module
-
-
-def load_recompute():
-    """tools/recompute with the paper's constants read."""
-    module = load_tool("recompute")
-    module.load(PAPER)
-    return module
 
 
 class Double:

@@ -51,17 +51,17 @@ fn row(records: usize, names: usize) {
         1e3 * least(|| {
             index.copy_from_slice(&right);
             let words =
-                ours::journal_append_with(&mut v, len, offer(), usize::MAX, &mut index, options);
+                ours::awaqlla_append_with(&mut v, len, offer(), usize::MAX, &mut index, options);
             assert_eq!(words, [0, (len + SIZE) as u64, 0]);
         })
     });
     let made = 1e3
         * least(|| {
-            black_box(ours::journal_index(&v, len, &mut index));
+            black_box(ours::awaqlla_index(&v, len, &mut index));
         });
     let scan = 1e3
         * least(|| {
-            black_box(ours::journal_scan(&v, len));
+            black_box(ours::awaqlla_scan(&v, len));
         });
     let [plain, with] = times;
     println!(

@@ -1,6 +1,7 @@
 // Times our functions beside the Rust's and prints a table in markdown.
 // Both sides are called through one driver, on bit patterns, by the C convention, and take turns.
 
+mod guard;
 mod index;
 mod log;
 mod merge;
@@ -39,7 +40,7 @@ fn main() {
     print_row(
         "sqrt",
         race(
-            [ours::sqrt_bits as OnBits, original::sqrt_bits],
+            [guard::sqrt_bits as OnBits, original::sqrt_bits],
             &inputs,
             call_bits,
         ),
@@ -50,6 +51,7 @@ fn main() {
     merge::rows(&mut random);
     index::rows();
     trial::rows(&mut random);
+    guard::rows(&mut random);
 }
 
 /// The append of a largest record to journals of rising length, beside the scan of the same journal: what is left is the record's own cost.
@@ -95,7 +97,7 @@ fn log_ours(name: &[u8], log: &[u8]) -> u64 {
         chances: &[500_000],
         times: &[],
     };
-    let answer = ours::journal_append_log_upto(&mut [0; 652], 0, offer, log, 0);
+    let answer = ours::awaqlla_append_log_upto(&mut [0; 652], 0, offer, log, 0);
     assert_eq!(answer, [0, 0, 0]);
     log::TIMES as u64
 }
@@ -114,13 +116,13 @@ fn append_largest(journal: &RefCell<Vec<u8>>, len: usize) -> u64 {
         chances: &[1, 10, 100, 1_000, 10_000, 100_000, 250_000, 500_000],
         times: &times,
     };
-    let answer = ours::journal_append_upto(&mut journal.borrow_mut(), len, offer, usize::MAX);
+    let answer = ours::awaqlla_append_upto(&mut journal.borrow_mut(), len, offer, usize::MAX);
     assert_eq!(answer, [0, (len + LARGEST) as u64, 0]);
     answer[1]
 }
 
 fn scan_part(journal: &RefCell<Vec<u8>>, len: usize) -> u64 {
-    ours::journal_scan(&journal.borrow(), len)[1]
+    ours::awaqlla_scan(&journal.borrow(), len)[1]
 }
 
 fn quantile_rows(random: &mut Random) {
@@ -134,7 +136,7 @@ fn quantile_rows(random: &mut Random) {
 
 fn quantile_row(range: &str, inputs: &[u64]) {
     let times = race(
-        [ours::f_erfcinv_bits as OnBits, original::f_erfcinv_bits],
+        [guard::f_erfcinv_bits as OnBits, original::f_erfcinv_bits],
         inputs,
         call_bits,
     );

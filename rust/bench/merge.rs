@@ -73,12 +73,12 @@ fn row(name: &str, a: &[u8], b: &[u8]) {
         _ => [1, 9, 0, 0],
     };
     let ours = least(|| {
-        let words = ours::journal_merge((a, a.len()), (b, b.len()), black_box(&mut out));
+        let words = ours::awaqlla_merge((a, a.len()), (b, b.len()), black_box(&mut out));
         assert_eq!(words, length);
     });
     let scans = least(|| {
-        black_box(ours::journal_scan(a, a.len()));
-        black_box(ours::journal_scan(b, b.len()));
+        black_box(ours::awaqlla_scan(a, a.len()));
+        black_box(ours::awaqlla_scan(b, b.len()));
     });
     let rust = least(|| {
         black_box(merge((a, a.len()), (b, b.len()), black_box(&mut out)));

@@ -53,7 +53,7 @@ fn renew(random: &mut Random, last: &mut Vec<u32>, chances: &mut Vec<u32>) {
 
 /// The number of records that stand, where the journal is whole.
 fn scan_ours(v: &[u8]) -> u64 {
-    ours::journal_scan(v, v.len())[1]
+    ours::awaqlla_scan(v, v.len())[1]
 }
 
 fn scan_reference(v: &[u8]) -> u64 {

@@ -52,7 +52,7 @@ fn compare_random(options: &Options, totals: &mut Totals) {
 }
 
 fn compare_at(times: &[u32], share: u32, tally: &mut Tally) {
-    let sides = [ours::band_bits(times, share), answer(band(times, share))];
+    let sides = [ours::awaqlla_band_bits(times, share), answer(band(times, share))];
     tally.take(sides, || format!("times {times:?} at {share}"));
 }
 

@@ -76,7 +76,7 @@ pub fn random_times(random: &mut Random) -> Vec<u32> {
 fn compare_at((form, times, chance): (u32, &[u32], u32), tally: &mut Tally, limits: &mut Extremes) {
     let expected = limit(form, times, chance);
     let input = || format!("times {times:?} at {chance} under form {form}");
-    let sides = [ours::limit_bits(form, times, chance), answer(expected)];
+    let sides = [ours::awaqlla_limit_bits(form, times, chance), answer(expected)];
     tally.take(sides, input);
     if let Ok([.., limit]) = expected {
         limits.take(limit, tally, input);

@@ -2,12 +2,14 @@
 // Scale N multiplies the numbers of random inputs; 1, the default, is the gate's size.
 
 mod band;
+mod beside;
 mod functions;
 mod inverse;
 mod journal;
 mod limit;
 mod logarithms;
 mod options;
+mod order;
 mod product;
 mod quantile;
 mod root;
@@ -69,6 +71,7 @@ fn numbers(options: &Options) -> Totals {
         logarithms::compare(&mut totals);
         root::compare(options, &mut totals);
         quantile::compare(options, &mut totals);
+        law_order::compare(&mut totals);
         limit::compare(options, &mut totals);
     }
     totals

@@ -75,7 +75,7 @@ impl Run<'_> {
         let mut tally = Tally::new(format!("f_erfcinv, {name}"));
         let mut slow = 0;
         for bits in inputs {
-            let sides = [ours::f_erfcinv_bits(bits), original::f_erfcinv_raw(bits)];
+            let sides = [ours::awaqlla_f_erfcinv_bits(bits), original::f_erfcinv_raw(bits)];
             tally.take(sides.map(|answer| [answer]), || hex(&[bits]));
             let branch = Branch::of(bits);
             *self.branches.entry(branch).or_default() += 1;

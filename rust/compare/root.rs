@@ -9,7 +9,7 @@ use inputs::random::Random;
 pub fn compare(options: &Options, totals: &mut Totals) {
     let mut tally = Tally::new("sqrt");
     let mut take = |bits: u64| {
-        let sides = [[ours::sqrt_bits(bits)], [original::sqrt_bits(bits)]];
+        let sides = [[ours::awaqlla_sqrt_bits(bits)], [original::sqrt_bits(bits)]];
         tally.take(sides, || hex(&[bits]));
     };
     let mut random = options.random("sqrt");

@@ -27,15 +27,22 @@ impl Tally {
 
     /// Takes a result of ours and the Rust's; the input is put in words only where it is shown.
     pub fn take<const N: usize>(&mut self, sides: [[u64; N]; 2], input: impl Fn() -> String) {
-        self.results += 1;
         let [ours, rust] = sides;
-        if ours == rust {
+        self.hold(ours == rust, || {
+            let (ours, rust) = (hex(&ours), hex(&rust));
+            format!("{} gives {ours}, in the Rust {rust}", input())
+        });
+    }
+
+    /// Takes a result that is as it must be, or counts as one that differs; what it is is put in words only where it is shown.
+    pub fn hold(&mut self, holds: bool, words: impl Fn() -> String) {
+        self.results += 1;
+        if holds {
             return;
         }
         self.differ += 1;
         if self.differ <= SHOWN {
-            let (name, ours, rust) = (&self.name, hex(&ours), hex(&rust));
-            println!("  {name}: {} gives {ours}, in the Rust {rust}", input());
+            println!("  {}: {}", self.name, words());
         }
     }
 

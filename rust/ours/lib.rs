@@ -1,5 +1,5 @@
-// Our functions, as the archives of the crates capi and capi_port export them.
-// Nothing checks these declarations against the Rattle source: those crates rule.
+// Our functions, as the library (include/awaqlla.h) and the archive of crate capi_port export them.
+// Nothing checks these declarations against theirs: the header and that crate rule.
 
 #[macro_use]
 #[path = "../functions.rs"]
@@ -9,9 +9,9 @@ mod functions;
 pub type Step = extern "C" fn(number: u32, input: &[u64; 6], out: &mut [u64; 2]);
 
 unsafe extern "C" {
-    pub safe fn sqrt_bits(x: u64) -> u64;
-    pub safe fn f_erfcinv_bits(x: u64) -> u64;
-    pub safe fn f_erfinv_bits(x: u64) -> u64;
+    pub safe fn awaqlla_sqrt_bits(x: u64) -> u64;
+    pub safe fn awaqlla_f_erfcinv_bits(x: u64) -> u64;
+    pub safe fn awaqlla_f_erfinv_bits(x: u64) -> u64;
     pub safe fn px_step(number: u32, input: &[u64; 6], out: &mut [u64; 2]);
 }
 
@@ -28,24 +28,24 @@ macro_rules! name_numbers {
 with_functions!(name_numbers);
 
 /// Mean, spread, quantile and limit of some times at a chance under a form: {0, their bits} or {1, refusal, 0, 0, 0}.
-pub fn limit_bits(form: u32, times: &[u32], chance: u32) -> [u64; 5] {
+pub fn awaqlla_limit_bits(form: u32, times: &[u32], chance: u32) -> [u64; 5] {
     unsafe extern "C" {
-        fn limit_bits(form: u32, times: *const u32, n: usize, chance: u32, out: *mut [u64; 5]);
+        fn awaqlla_limit_bits(form: u32, times: *const u32, n: usize, chance: u32, out: *mut [u64; 5]);
     }
     let mut out = [0; 5];
     // The pointer and the length are those of a slice, and out has its five places.
-    unsafe { limit_bits(form, times.as_ptr(), times.len(), chance, &mut out) };
+    unsafe { awaqlla_limit_bits(form, times.as_ptr(), times.len(), chance, &mut out) };
     out
 }
 
 /// The band of some times at a share: {0, low, high} in bits, or {1, refusal, 0}.
-pub fn band_bits(times: &[u32], share: u32) -> [u64; 3] {
+pub fn awaqlla_band_bits(times: &[u32], share: u32) -> [u64; 3] {
     unsafe extern "C" {
-        fn band_bits(times: *const u32, n: usize, share: u32, out: *mut [u64; 3]);
+        fn awaqlla_band_bits(times: *const u32, n: usize, share: u32, out: *mut [u64; 3]);
     }
     let mut out = [u64::MAX; 3];
     // The pointer and the length are those of a slice, and out has its three places.
-    unsafe { band_bits(times.as_ptr(), times.len(), share, &mut out) };
+    unsafe { awaqlla_band_bits(times.as_ptr(), times.len(), share, &mut out) };
     out
 }
 
@@ -87,19 +87,19 @@ macro_rules! reading {
 
 reading! {
     /// The scan of the first `len` bytes of a slice: {0 whole or 1 torn, records, committed} or {2, number, place}.
-    journal_scan,
+    awaqlla_scan,
     /// The part of record i: {start, length}.
-    journal_part,
+    awaqlla_part,
     /// The letter of record i's mark, or the refusal's number.
-    journal_mark
+    awaqlla_mark
 }
 reading! {
     /// The same by the profile.
-    journal_profile_scan,
+    awaqlla_profile_scan,
     /// The same by the profile.
-    journal_profile_part,
+    awaqlla_profile_part,
     /// The same by the profile.
-    journal_profile_mark
+    awaqlla_profile_mark
 }
 
 /// What an append offers.
@@ -110,7 +110,7 @@ pub struct Offer<'a> {
     pub times: &'a [u32],
 }
 
-/// What `journal_append_with` and `journal_append_log_with` are asked besides: an index is handed; to go by the profile.
+/// What `awaqlla_append_with` and `awaqlla_append_log_with` are asked besides: an index is handed; to go by the profile.
 pub const INDEX: u32 = 1;
 pub const PROFILE: u32 = 2;
 
@@ -172,33 +172,33 @@ macro_rules! append {
 
 append! {
     /// The append of an offer: {0, length, 0}, {1, declined by, 0} or {2, number, place}.
-    journal_append(offer), offer.times => u32
+    awaqlla_append(offer), offer.times => u32
 }
 append! {
     /// The same up to a budget.
-    journal_append_upto(offer; budget), offer.times => u32
+    awaqlla_append_upto(offer; budget), offer.times => u32
 }
 append! {
     /// The same with options.
-    journal_append_with(offer; budget, index, options), offer.times => u32
+    awaqlla_append_with(offer; budget, index, options), offer.times => u32
 }
 append! {
     /// The append through a log: as above, or {3, number, place in the log}. The offer's times are not looked at.
-    journal_append_log(offer, log), log => u8
+    awaqlla_append_log(offer, log), log => u8
 }
 append! {
     /// The same up to a budget.
-    journal_append_log_upto(offer, log; budget), log => u8
+    awaqlla_append_log_upto(offer, log; budget), log => u8
 }
 append! {
     /// The same with options.
-    journal_append_log_with(offer, log; budget, index, options), log => u8
+    awaqlla_append_log_with(offer, log; budget, index, options), log => u8
 }
 
 /// The index made afresh at a buffer's front: {0, length, 0}, {1, 15, 0} or {2, number, place}.
-pub fn journal_index(v: &[u8], len: usize, index: &mut [u8]) -> [u64; 3] {
+pub fn awaqlla_index(v: &[u8], len: usize, index: &mut [u8]) -> [u64; 3] {
     unsafe extern "C" {
-        fn journal_index(
+        fn awaqlla_index(
             v: *const u8,
             size: usize,
             len: usize,
@@ -210,7 +210,7 @@ pub fn journal_index(v: &[u8], len: usize, index: &mut [u8]) -> [u64; 3] {
     let mut out = [u64::MAX; 3];
     // Each pointer and the length behind it are those of a slice, and out has its three places.
     unsafe {
-        journal_index(
+        awaqlla_index(
             v.as_ptr(),
             v.len(),
             len,
@@ -269,18 +269,18 @@ macro_rules! trial {
 trial! {
     /// The trial of an entry of the index: {0, links, chances, the lowest exceeded chance or 0, overs by chance, 0 ..}, {1, 14 or 10, 0 ..},
     /// {2, number, place, 0 ..} or {3, 11, place in the log, 0 ..}.
-    journal_trial(position) -> 12
+    awaqlla_trial(position) -> 12
 }
 trial! {
     /// The lines with unknown names: {0, lines, 0}, {1, 14, 0}, {2, number, place} or {3, 11, place in the log}.
-    journal_trial_unknown() -> 3
+    awaqlla_trial_unknown() -> 3
 }
 
 /// Two journals, each a slice and its length in it, merged into a third buffer: {0, length, 0, 0}, {1, 9, 0, 0}, {1, 13, place, 0},
 /// {2, number, place, whose} or {3, 16, 0, whose}.
-pub fn journal_merge(a: (&[u8], usize), b: (&[u8], usize), c: &mut [u8]) -> [u64; 4] {
+pub fn awaqlla_merge(a: (&[u8], usize), b: (&[u8], usize), c: &mut [u8]) -> [u64; 4] {
     unsafe extern "C" {
-        fn journal_merge(
+        fn awaqlla_merge(
             a: *const u8,
             a_size: usize,
             a_len: usize,
@@ -295,7 +295,7 @@ pub fn journal_merge(a: (&[u8], usize), b: (&[u8], usize), c: &mut [u8]) -> [u64
     let mut out = [u64::MAX; 4];
     // Each pointer and the size behind it are those of a slice, and out has its four places.
     unsafe {
-        journal_merge(
+        awaqlla_merge(
             a.0.as_ptr(),
             a.0.len(),
             a.1,

@@ -1,6 +1,7 @@
 // Prints the stored list of the quantile: lines of an input's bits and the Rust's answer's bits, sorted by branch.
 // It has every branch and its edges, and reads every entry of the logarithms' tables through both logarithms.
-// Given chances, it prints those instead, each with the bits of its quantile: tools/journal_quantiles.
+// Given chances, it prints those instead, each with the bits of its quantile: tools/leaf-quantiles. Given --quantiles, it prints the quantile of
+// every chance, the 999,999 lines of docs/DEFINITION.md, section 13.
 
 use inputs::doubles::{around, edges};
 use inputs::quantile::{
@@ -9,6 +10,7 @@ use inputs::quantile::{
 };
 use inputs::random::Random;
 use original::{f_erfcinv_bits, Branch};
+use std::io::{BufWriter, Write};
 use std::ops::Range;
 
 fn main() {
@@ -16,10 +18,22 @@ fn main() {
     if words.is_empty() {
         print_list();
     }
+    if words == ["--quantiles"] {
+        print_quantiles().expect("standard output can be written");
+        return;
+    }
     for word in words {
         let c = word.parse().expect("a chance in a million");
         println!("{c} {:016x}", f_erfcinv_bits(chance(c)));
     }
+}
+
+fn print_quantiles() -> std::io::Result<()> {
+    let mut out = BufWriter::new(std::io::stdout().lock());
+    for x in CHANCES.map(chance) {
+        writeln!(out, "{:016x}", f_erfcinv_bits(x))?;
+    }
+    out.flush()
 }
 
 fn print_list() {

@@ -25,7 +25,7 @@ use Rattle.journal.specs.Answers.{appendMeaning, outcomeOf}
 use Rattle.journal.specs.declared.Fault.{Fault}
 use Rattle.journal.specs.declared.Appended.{Appended}
 use Rattle.journal.specs.declared.Appended.the-variants as A
-use Rattle.indexing.specs.Outcome.{indexedOutcome}
+use Rattle.journal_index.specs.Outcome.{indexedOutcome}
 use Rattle.append.specs.Extension.{committedIn, startIn, endIn, partIn, handed, allOf, appendAll, outcomeWith, Extends}
 use Rattle.append.proofs.Committed.{committed-inside, committed-found}
 
@@ -135,13 +135,6 @@ empty s o (declinedAt n p) u = record { starts = refl; ends = refl; part = refl 
 empty s o (damaged n p) u = record { starts = refl; ends = refl; part = refl }
 
 -- ---- with an index or without one
-
--- no flag is both set and unset
-pub not-both : {A : Type 0} (flag : Bool) → flag ≡ true → flag ≡ false → A
-not-both flag set unset =
-    let x : true ≡ false = sym set ∙ unset in
-    let z : _≡_ {A = ℕ} 0 1 = cc in
-    absurd (omega arith)
 
 module _ (indexed : Bool) (len : ℕ) (r : Appended) (after left slice : List ℕ) (rule : Rule) (o : Offer) (index : List ℕ) where
   pub with-index : indexed ≡ true → indexedOutcome len r after left ≡ appendAll slice len rule o (some index)

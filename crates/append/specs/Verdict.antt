@@ -2,10 +2,10 @@
 -- line of the log that is refused; or `damaged`, number and place, as in the listing.
 use Prim.Native.Nat.{ℕ}
 use mathlib.Core.List.{List, [], _∷_}
-use Rattle.hex.specs.Hex.{decimalDigits}
+use Rattle.text_digits.specs.Hex.{decimalDigits}
 use Rattle.journal_spec.specs.Scan as Scan
 use Rattle.journal_spec.specs.Request.{AppendResult, extended, declined, declinedAt, damaged}
-use Rattle.listing.specs.Listing.{lineOf, wordDeclined, stateLine}
+use Rattle.journal_listing.specs.Listing.{lineOf, wordDeclined, stateLine}
 
 -- the words `extended` and `log`
 unfoldable pub wordExtended : List ℕ

@@ -23,7 +23,7 @@ pub(crate) fn open_index(path: &[u8], index: &mut [u8]) -> i32 {
     let fd = opened.fd;
     let size = opened.size;
     if size == 0 {
-        entries::put_count(index, 0);
+        journal_entries::put_count(index, 0);
     }
     fd
 }
@@ -38,7 +38,7 @@ pub(crate) fn ready_index(path: &[u8], fd: i32) -> i32 {
     if file < 0 {
         return file;
     }
-    if !arguments::sync_folder(b"append: ", path) {
+    if !command_io::sync_folder(b"append: ", path) {
         return -1;
     }
     if !write_front(file, b"\0\0") {
@@ -63,7 +63,7 @@ pub(crate) fn write_index(path: &[u8], file: i32, index: &[u8]) -> bool {
 fn index_size(index: &[u8]) -> usize
     ensures { λ r. ⌜ r ≤ length (now (index .entry)) ⌝ }
 {
-    let end = entries::end_of(index);
+    let end = journal_entries::end_of(index);
     let place = end.place;
     if index.len() < place {
         return 0;

@@ -7,11 +7,11 @@ ghost use lib.ListN.{length};
 ghost use Rattle.journal_spec.specs.Scan.{maxLength};
 ghost use Rattle.journal.specs.Handed.{asRule, offerFrom};
 ghost use Rattle.append.specs.Extension.{handed, appendAll, outcomeWith, Extends};
-use indexing::append_indexed;
 use journal::Appended;
 use journal::Budget;
 use journal::Rule;
 use journal::append_with;
+use journal_index::append_indexed;
 
 // Where the written part starts and ends, both 0 where nothing is written, and the answer.
 pub struct Extension {

@@ -24,7 +24,7 @@ pub(crate) fn append_to_file(
     ticks: &[u32],
     rule: Rule,
 ) {
-    if !arguments::streams_are_open(b"append: ") {
+    if !command_io::streams_are_open(b"append: ") {
         return;
     }
     let mut path = io::buffer();
@@ -68,7 +68,7 @@ fn append_beside(
         complain(b"INDEX: an empty name, or one of more than 4096 bytes");
         return;
     }
-    if hex::same(path, &beside[..size]) {
+    if text_digits::same(path, &beside[..size]) {
         complain(b"INDEX: the name of FILE, and the index is another file");
         return;
     }
@@ -104,7 +104,7 @@ fn append_at(
     index_fd: i32,
     index: &mut [u8],
 ) {
-    let mut room = arguments::input_room();
+    let mut room = command_io::input_room();
     let opened = open_file(path, &mut room);
     let fd = opened.fd;
     let size = opened.size;
@@ -204,7 +204,7 @@ fn write_record(path: &[u8], fd: i32, len: usize, start: usize, record: &[u8]) -
     }
     // Before a file's first record, whoever made the file, its name is made to stay.
     if start == 0 {
-        if !arguments::sync_folder(b"append: ", path) {
+        if !command_io::sync_folder(b"append: ", path) {
             return false;
         }
     }

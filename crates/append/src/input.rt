@@ -4,8 +4,8 @@ ghost use mathlib.Core.Path.{_≡_};
 ghost use Prim.Native.Nat.{ℕ, _<_, _≤_, _^_};
 ghost use lib.ListN.{length};
 ghost use Rattle.io.specs.Counts.{Counts};
-ghost use Rattle.arguments.specs.declared.digit.Number.the-variants as N;
-use arguments::Number;
+ghost use Rattle.command_io.specs.declared.digit.Number.the-variants as N;
+use command_io::Number;
 use journal::Rule;
 
 // The largest day.
@@ -29,7 +29,7 @@ pub(crate) struct Options {
 pub(crate) fn asked() -> Options
     ensures { λ r. ⌜ r .from ≤ 5 ⌝ }
 {
-    if arguments::is_argument(1, b"--profile") {
+    if command_io::is_argument(1, b"--profile") {
         return asked_from(2, Rule::Profile);
     }
     asked_from(1, Rule::Plain)
@@ -40,7 +40,7 @@ fn asked_from(at: usize, rule: Rule) -> Options
     requires { ⌜ at ≤ 2 ⌝ }
     ensures { λ r. ⌜ r .from ≤ 5 ⌝ }
 {
-    if arguments::is_argument(at, b"--index") {
+    if command_io::is_argument(at, b"--index") {
         return asked_with(at + 2, at + 1, rule);
     }
     asked_with(at, 0, rule)
@@ -51,7 +51,7 @@ fn asked_with(at: usize, index: usize, rule: Rule) -> Options
     requires { ⌜ at ≤ 4 ⌝ }
     ensures { λ r. ⌜ r .from ≤ 5 ⌝ }
 {
-    if arguments::is_argument(at, b"--log") {
+    if command_io::is_argument(at, b"--log") {
         return Options {
             from: at + 1,
             index,
@@ -73,7 +73,7 @@ pub(crate) fn day(at: usize) -> Number
 {
     let mut word = [0u8; 32];
     let size = os::arg(at, &mut word);
-    arguments::read_number(&word[..size], MAX_DAY)
+    command_io::read_number(&word[..size], MAX_DAY)
 }
 
 // The name at a place, or as much of it as there is room for; how many bytes of the buffer it takes.
@@ -115,7 +115,7 @@ pub(crate) fn chances(from: usize, out: &mut [u32]) -> Counted
 fn chance(i: usize) -> Number {
     let mut word = [0u8; 32];
     let size = os::arg(i, &mut word);
-    arguments::read_number(&word[..size], u32::MAX)
+    command_io::read_number(&word[..size], u32::MAX)
 }
 
 // Stores a number where there is room for it, and answers the place behind it.

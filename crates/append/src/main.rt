@@ -12,7 +12,7 @@ mod opening;
 mod output;
 mod verdict;
 
-use arguments::Number;
+use command_io::Number;
 use input::Options;
 use journal::Rule;
 
@@ -73,8 +73,8 @@ fn append_on(o: Options, day: u16)
 
 // The ticks' text, where the arguments are as they should be.
 fn append_ticks(from: usize, index: usize, day: u16, name: &[u8], chances: &[u32], rule: Rule) {
-    let mut text = arguments::input_room();
-    let read = arguments::read_input(0, &mut text);
+    let mut text = command_io::input_room();
+    let read = command_io::read_input(0, &mut text);
     let size = read.size;
     if read.failed {
         os::fail(b"append: standard input");
@@ -98,7 +98,7 @@ fn append_text(
     rule: Rule,
 ) {
     let mut ticks = input::ticks_room();
-    let read = arguments::read_numbers(text, u32::MAX, &mut ticks);
+    let read = command_io::read_numbers(text, u32::MAX, &mut ticks);
     let count = read.count;
     let pending = read.pending;
     match pending {

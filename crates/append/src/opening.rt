@@ -23,7 +23,7 @@ pub(crate) fn open_file(path: &[u8], out: &mut [u8]) -> Opened {
         refuse_file(path, b"not a regular file");
         return Opened { fd: -2, size: 0 };
     }
-    let read = arguments::read_input(fd, out);
+    let read = command_io::read_input(fd, out);
     let size = read.size;
     if read.failed {
         fail_file(path);

@@ -5,14 +5,14 @@ use journal::Appended;
 
 // The verdict, as the last line of the output.
 pub(crate) fn print_verdict(answer: Appended) {
-    let mut out = [0u8; listing::MAX_LINE];
+    let mut out = [0u8; journal_listing::MAX_LINE];
     let size = verdict_line(answer, &mut out);
-    arguments::print(&out[..size], b"append: standard output");
+    command_io::print(&out[..size], b"append: standard output");
 }
 
 // What the last call that failed says of a file.
 pub(crate) fn fail_file(path: &[u8]) {
-    arguments::fail_file(b"append: ", path);
+    command_io::fail_file(b"append: ", path);
 }
 
 // What is wrong with a file.
@@ -26,7 +26,7 @@ pub(crate) fn refuse_file(path: &[u8], what: &[u8]) {
 
 // A line of its own.
 pub(crate) fn complain(what: &[u8]) {
-    arguments::complain(b"append: ", what);
+    command_io::complain(b"append: ", what);
 }
 
 // The word of a kind, counted from 1, that is no number, and between which numbers one is good.
@@ -49,7 +49,7 @@ pub(crate) fn malformed_tick(before: usize) {
 
 // The help, if it is what the first argument asks for; fewer arguments than are needed are wrong.
 pub(crate) fn usage() {
-    arguments::usage(
+    command_io::usage(
         b"usage: append [--profile] [--index INDEX] FILE DAY NAME CHANCE.. < TICKS\n\
         \x20      append [--profile] [--index INDEX] --log FILE DAY NAME CHANCE.. < LOG\n\
         Appends a record to the volume FILE, which is made if it is missing. The day counts from 1 January 2000,\n\

@@ -1,11 +1,11 @@
 // The verdict of an append as a line of text, put at the front of a lent buffer.
 // Its words and numbers are put as the listing puts its own.
-ghost use Rattle.hex.specs.Text.{Put};
+ghost use Rattle.text_digits.specs.Text.{Put};
 ghost use Rattle.journal.specs.Answers.{appendMeaning};
 ghost use Rattle.append.specs.Verdict.{verdictLine};
 use journal::Appended;
-use listing::put_word;
-use listing::put_words;
+use journal_listing::put_word;
+use journal_listing::put_words;
 
 // Writes the line, and answers how many bytes it takes.
 pub fn verdict_line(answer: Appended, out: &mut [u8]) -> usize

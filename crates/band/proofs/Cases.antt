@@ -14,17 +14,16 @@ use Rattle.pxfm.specs.Inverfc.{taylor, taylor4Of, horner10, quickRational, roun
 use Rattle.pxfm.specs.Inverf.{withSign, fErfinv}
 use Rattle.limit.specs.Times.{inRange, timeInRange, allInRange, timesInRange, sumOf, squaresOf}
 use Rattle.limit.specs.Formula.{meanOf, spreadBy, divisorOf, spreadOf}
-use Rattle.limit.specs.Answer.{timesRefusal}
-use Rattle.band.specs.Answer.{banded, refused, shareRefusal}
+use Rattle.band.specs.Answer.{banded, refused}
 use Rattle.band.specs.Band.{shareInRange, inverseOf, endsFrom, endsOf, judge, bandOf}
 
 pub record BandCases : Type 0 where
-  pub share-zero : bandOf (100 ∷ 100 ∷ []) 0 ≡ refused shareRefusal
-  pub share-million : bandOf (100 ∷ 100 ∷ []) 1_000_000 ≡ refused shareRefusal
-  pub no-times : bandOf [] 1 ≡ refused timesRefusal
-  pub one-time : bandOf (100 ∷ []) 999_999 ≡ refused timesRefusal
-  pub time-beyond : bandOf (1_048_576 ∷ 100 ∷ []) 1 ≡ refused timesRefusal
-  pub share-first : bandOf [] 0 ≡ refused shareRefusal
+  pub share-zero : bandOf (100 ∷ 100 ∷ []) 0 ≡ refused 18
+  pub share-million : bandOf (100 ∷ 100 ∷ []) 1_000_000 ≡ refused 18
+  pub no-times : bandOf [] 1 ≡ refused 6
+  pub one-time : bandOf (100 ∷ []) 999_999 ≡ refused 6
+  pub time-beyond : bandOf (1_048_576 ∷ 100 ∷ []) 1 ≡ refused 6
+  pub share-first : bandOf [] 0 ≡ refused 18
   pub equal-times : bandOf (100 ∷ 100 ∷ []) 1
       ≡ banded (record { low = ofBits binary64 0x4059_0000_0000_0000; high = ofBits binary64 0x4059_0000_0000_0000 })
 
@@ -44,6 +43,15 @@ band-cases =
       share-first = refl;
       equal-times = refl;
     }
+
+-- one thing wrong at a time: its number
+pub record RefusalNumbers : Type 0 where
+  pub share : bandOf (100 ∷ 100 ∷ []) 0 ≡ refused 18
+  pub times : bandOf (100 ∷ []) 1 ≡ refused 6
+
+pub refusal-numbers : RefusalNumbers
+unfolding inRange timeInRange allInRange timesInRange shareInRange judge bandOf
+refusal-numbers = record { share = refl; times = refl }
 
 -- about 68 % of the links
 pub record UnequalTimes : Type 0 where

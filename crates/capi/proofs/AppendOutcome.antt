@@ -10,7 +10,7 @@ use Rattle.journal_spec.specs.Request.{Journal, upTo, Source, Outcome}
 use Rattle.journal_spec.specs.Append.{appendOf}
 use Rattle.journal.specs.declared.Appended.{Appended}
 use Rattle.journal.specs.Answers.{appendMeaning, outcomeOf}
-use Rattle.indexing.specs.Outcome.{indexedOutcome}
+use Rattle.journal_index.specs.Outcome.{indexedOutcome}
 use Rattle.capi.specs.Append.{appendWords, ruleOf, handedBy, requestBy, leftIn, Leaves}
 
 pub outcome-told : (len : ℕ) (r : Appended) (slice words : List ℕ) (o : Outcome) → outcomeOf len r slice ≡ o → words ≡ appendWords (appendMeaning r)

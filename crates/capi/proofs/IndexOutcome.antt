@@ -4,8 +4,8 @@ use mathlib.Core.Path.{_≡_, ap, _∙_}
 use Prim.Native.Nat.{ℕ}
 use mathlib.Core.List.{List}
 use Rattle.journal_spec.specs.MakeIndex.{Made}
-use Rattle.indexing.specs.declared.make.IndexMade.{IndexMade}
-use Rattle.indexing.specs.Made.{madeMeaning, madeOutcome}
+use Rattle.journal_index.specs.declared.make.IndexMade.{IndexMade}
+use Rattle.journal_index.specs.Made.{madeMeaning, madeOutcome}
 use Rattle.capi.specs.Index.{indexWords}
 
 pub made-told : (r : IndexMade) (buffer words : List ℕ) (o : Made) → madeOutcome r buffer ≡ o → words ≡ indexWords (madeMeaning r)

@@ -6,7 +6,7 @@ use Prim.Native.Nat.{ℕ, zero, suc, _-_, _<_}
 use mathlib.Core.List.{List, []}
 use native.Mathlib.Omega.{arith}
 use Rattle.journal_spec.specs.Profile.{plain}
-use Rattle.listing.specs.Lines.{Position, endOf, noLine, step, startOf}
+use Rattle.journal_listing.specs.Lines.{Position, endOf, noLine, step, startOf}
 use Rattle.capi.specs.Line.{positionAfter, lineAt}
 
 -- one line more

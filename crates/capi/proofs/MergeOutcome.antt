@@ -3,9 +3,9 @@
 use mathlib.Core.Path.{_≡_, ap, _∙_}
 use Prim.Native.Nat.{ℕ}
 use mathlib.Core.List.{List}
-use Rattle.merge_spec.specs.Merge.{MergeOutcome}
-use Rattle.merging.specs.declared.Merged.{Merged}
-use Rattle.merging.specs.Answers.{answerOf, outcomeOf}
+use Rattle.journal_merge_spec.specs.Merge.{MergeOutcome}
+use Rattle.journal_merge.specs.declared.Merged.{Merged}
+use Rattle.journal_merge.specs.Answers.{answerOf, outcomeOf}
 use Rattle.capi.specs.Merge.{mergeWords}
 
 pub merge-told : (r : Merged) (buffer words : List ℕ) (o : MergeOutcome) → outcomeOf r buffer ≡ o → words ≡ mergeWords (answerOf r)

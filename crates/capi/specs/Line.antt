@@ -1,9 +1,9 @@
 -- Line i of a listing (document 01, Marks and listing), counted from 0.
--- Lines follow as crate listing defines them.
+-- Lines follow as crate journal_listing defines them.
 use Prim.Native.Nat.{ℕ, zero, suc}
 use mathlib.Core.List.{List, [], _++_}
 use Rattle.journal_spec.specs.Profile.{plain}
-use Rattle.listing.specs.Lines.{Position, startOf, step}
+use Rattle.journal_listing.specs.Lines.{Position, startOf, step}
 
 -- where a listing stands after so many lines more
 unfoldable pub positionAfter : ℕ → Position → List ℕ → Position

@@ -3,25 +3,21 @@
 use Prim.Native.Nat.{ℕ}
 use mathlib.Core.List.{List, [], _∷_, _++_, replicate}
 use lib.ListN.{length, getD}
-use Rattle.trial_spec.specs.Trial.{Refusal, unread, damaged, declined, refusalNumber, refusalPlace, TrialResult, tried, untried}
-use Rattle.trial_spec.specs.Trial.{UnknownResult, unknown, uncounted}
-use Rattle.trying.specs.Counting.{eight}
-use Rattle.trying.specs.Answers.{padded, lowestWord}
-use Rattle.trying.specs.declared.leaf.Answer.{Answer}
-use Rattle.trying.specs.declared.leaf.Answer.the-variants as A
-use Rattle.trying.specs.declared.leaf.Trial.{Trial}
-use Rattle.trying.specs.declared.strangers.Unknown.{Unknown}
-use Rattle.trying.specs.declared.strangers.Unknown.the-variants as U
+use Rattle.journal_trial_spec.specs.Trial.{Refusal, declinedAt, damaged, declined, TrialResult, tried, untried}
+use Rattle.journal_trial_spec.specs.Trial.{UnknownResult, unknown, uncounted}
+use Rattle.journal_trial.specs.Counting.{eight}
+use Rattle.journal_trial.specs.Answers.{padded, lowestWord}
+use Rattle.journal_trial.specs.declared.leaf.Answer.{Answer}
+use Rattle.journal_trial.specs.declared.leaf.Answer.the-variants as A
+use Rattle.journal_trial.specs.declared.leaf.Trial.{Trial}
+use Rattle.journal_trial.specs.declared.strangers.Unknown.{Unknown}
+use Rattle.journal_trial.specs.declared.strangers.Unknown.the-variants as U
 
--- 1 where it is declined, 2 where the journal is damaged, 3 where a line of the log is refused
-unfoldable pub refusalKind : Refusal → ℕ
-refusalKind (declined n) = 1
-refusalKind (damaged n p) = 2
-refusalKind (unread p) = 3
-
--- its kind, number and place
+-- 1 where it is declined, 2 where the journal is damaged, 3 where a line of the log is refused; with the number, and the place if it has one
 unfoldable pub refusalWords : Refusal → List ℕ
-refusalWords r = refusalKind r ∷ refusalNumber r ∷ refusalPlace r ∷ []
+refusalWords (declined n) = 1 ∷ n ∷ 0 ∷ []
+refusalWords (damaged n p) = 2 ∷ n ∷ p ∷ []
+refusalWords (declinedAt n p) = 3 ∷ n ∷ p ∷ []
 
 -- 0, the links, how many chances there are, the lowest that was exceeded or 0, and the overs by chance, 0 where there is none
 unfoldable pub trialWords : TrialResult → List ℕ
@@ -39,7 +35,7 @@ unfoldable pub answerWords : Answer → List ℕ → List ℕ
 answerWords (A.Tried links chances lowest) overs = 0 ∷ links ∷ chances ∷ lowest ∷ eight (λ j. getD overs j 0)
 answerWords (A.Declined n) overs = refusalWords (declined n) ++ replicate 9 0
 answerWords (A.Damaged f) overs = refusalWords (damaged (f .number) (f .place)) ++ replicate 9 0
-answerWords (A.Unread p) overs = refusalWords (unread p) ++ replicate 9 0
+answerWords (A.DeclinedAt f) overs = refusalWords (declinedAt (f .number) (f .place)) ++ replicate 9 0
 
 unfoldable pub wordsOf : Trial → List ℕ
 wordsOf t = answerWords (t .answer) (t .overs)
@@ -48,4 +44,4 @@ unfoldable pub wordsOfUnknown : Unknown → List ℕ
 wordsOfUnknown (U.Lines n) = 0 ∷ n ∷ 0 ∷ []
 wordsOfUnknown (U.Declined n) = refusalWords (declined n)
 wordsOfUnknown (U.Damaged f) = refusalWords (damaged (f .number) (f .place))
-wordsOfUnknown (U.Unread p) = refusalWords (unread p)
+wordsOfUnknown (U.DeclinedAt f) = refusalWords (declinedAt (f .number) (f .place))

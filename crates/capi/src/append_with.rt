@@ -6,13 +6,13 @@ ghost use Rattle.journal_spec.specs.Append.{appendOf};
 ghost use Rattle.journal.specs.Handed.{asRule};
 ghost use Rattle.capi.specs.Append.{appendWords, ruleOf, requestBy, leftIn, Leaves};
 use crate::append::put_words;
-use indexing::append_indexed;
-use indexing::append_log_indexed;
 use journal::Appended;
 use journal::Budget;
 use journal::Rule;
 use journal::append_log_with;
 use journal::append_with;
+use journal_index::append_indexed;
+use journal_index::append_log_indexed;
 
 #[no_mangle]
 pub extern "C" fn journal_append_with(

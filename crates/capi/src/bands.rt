@@ -4,7 +4,7 @@ ghost use mathlib.Core.Path.{_≡_};
 ghost use Rattle.band.specs.Band.{bandOf};
 ghost use Rattle.capi.specs.Band.{bandWords};
 use band::Answer;
-use sqrt::bits::bits_of;
+use double_bits::bits_of;
 
 #[no_mangle]
 pub extern "C" fn band_bits(times: &[u32], share: u32, out: &mut [u64; 3])

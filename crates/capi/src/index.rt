@@ -2,16 +2,16 @@
 // `v` is the slice, `len` the journal's length in it, `index` the buffer at whose front the index is to stand.
 ghost use mathlib.Core.Path.{_≡_};
 ghost use Rattle.journal_spec.specs.MakeIndex.{makeIndexOf};
-ghost use Rattle.indexing.specs.Made.{madeMeaning};
+ghost use Rattle.journal_index.specs.Made.{madeMeaning};
 ghost use Rattle.capi.specs.Index.{indexWords};
-use indexing::IndexMade;
+use journal_index::IndexMade;
 
 #[no_mangle]
 pub extern "C" fn journal_index(v: &[u8], len: usize, index: &mut [u8], out: &mut [u64; 3])
     ensures { λ r. ⌜ now (index .exit) ≡ makeIndexOf (record { slice = now (v .entry); len = len }) (now (index .entry)) .buffer ⌝ }
     ensures { λ r. ⌜ now (out .exit) ≡ indexWords (makeIndexOf (record { slice = now (v .entry); len = len }) (now (index .entry)) .answer) ⌝ }
 {
-    let m = indexing::make_index(v, len, index);
+    let m = journal_index::make_index(v, len, index);
     put_made(m, out);
 }
 

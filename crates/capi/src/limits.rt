@@ -3,8 +3,8 @@
 ghost use mathlib.Core.Path.{_≡_};
 ghost use Rattle.limit.specs.Limit.{limitOf};
 ghost use Rattle.capi.specs.Limit.{limitWords};
+use double_bits::bits_of;
 use limit::Answer;
-use sqrt::bits::bits_of;
 
 #[no_mangle]
 pub extern "C" fn limit_bits(form: u32, times: &[u32], chance: u32, out: &mut [u64; 5])

@@ -1,11 +1,11 @@
 // The merge of two journals into a third buffer, with its answer in four words.
 // `a` and `b` are the slices, `alen` and `blen` the journals' lengths in them, `c` is the third buffer.
 ghost use mathlib.Core.Path.{_≡_};
-ghost use Rattle.merge_spec.specs.Merge.{mergeOf};
-ghost use Rattle.merging.specs.Answers.{whoseOf, answerOf};
+ghost use Rattle.journal_merge_spec.specs.Merge.{mergeOf};
+ghost use Rattle.journal_merge.specs.Answers.{whoseOf, answerOf};
 ghost use Rattle.capi.specs.Merge.{whoseWord, mergeWords};
-use merging::Merged;
-use merging::Whose;
+use journal_merge::Merged;
+use journal_merge::Whose;
 
 #[no_mangle]
 pub extern "C" fn journal_merge(
@@ -19,7 +19,7 @@ pub extern "C" fn journal_merge(
     ensures { λ r. ⌜ now (c .exit) ≡ mergeOf (now (a .entry)) alen (now (b .entry)) blen (now (c .entry)) .buffer ⌝ }
     ensures { λ r. ⌜ now (out .exit) ≡ mergeWords (mergeOf (now (a .entry)) alen (now (b .entry)) blen (now (c .entry)) .answer) ⌝ }
 {
-    let m = merging::merge(a, alen, b, blen, c);
+    let m = journal_merge::merge(a, alen, b, blen, c);
     put_merged(m, out);
 }
 
@@ -32,17 +32,17 @@ fn put_merged(m: Merged, out: &mut [u64; 4])
         Merged::Length(n) => {
             *out = [0, n as u64, 0, 0];
         }
-        Merged::NoRoom => {
-            *out = [1, 9, 0, 0];
+        Merged::Declined(number) => {
+            *out = [1, number as u64, 0, 0];
         }
-        Merged::Falls(place) => {
-            *out = [1, 13, place as u64, 0];
+        Merged::DeclinedAt(fault) => {
+            *out = [1, fault.number as u64, fault.place as u64, 0];
         }
         Merged::Damaged { whose, fault } => {
             *out = [2, fault.number as u64, fault.place as u64, word_of(whose)];
         }
-        Merged::Torn(whose) => {
-            *out = [3, 16, 0, word_of(whose)];
+        Merged::DeclinedOf { whose, number } => {
+            *out = [3, number as u64, 0, word_of(whose)];
         }
     }
 }

@@ -2,12 +2,11 @@
 // in three. `log` is all of the log, `v` the slice, `len` the journal's length in it, `index` the buffer with the index at its front.
 ghost use mathlib.Core.Path.{_≡_};
 ghost use mathlib.Core.List.{_∷_, replicate};
-ghost use Rattle.trial_spec.specs.Trial.{tryEntry, tryUnknown};
+ghost use Rattle.journal_trial_spec.specs.Trial.{tryEntry, tryUnknown};
 ghost use Rattle.capi.specs.Trial.{trialWords, wordsOf, unknownWords, wordsOfUnknown};
-use trying::Answer;
-use trying::LINE_REFUSAL;
-use trying::Trial;
-use trying::Unknown;
+use journal_trial::Answer;
+use journal_trial::Trial;
+use journal_trial::Unknown;
 
 #[no_mangle]
 pub extern "C" fn journal_trial(
@@ -20,7 +19,7 @@ pub extern "C" fn journal_trial(
 )
     ensures { λ r. ⌜ now (out .exit) ≡ trialWords (tryEntry (now (log .entry)) (now (v .entry)) len (now (index .entry)) position) ⌝ }
 {
-    let t = trying::try_entry(log, v, len, index, position);
+    let t = journal_trial::try_entry(log, v, len, index, position);
     put_trial(t, out);
 }
 
@@ -34,7 +33,7 @@ pub extern "C" fn journal_trial_unknown(
 )
     ensures { λ r. ⌜ now (out .exit) ≡ unknownWords (tryUnknown (now (log .entry)) (now (v .entry)) len (now (index .entry))) ⌝ }
 {
-    let u = trying::try_unknown(log, v, len, index);
+    let u = journal_trial::try_unknown(log, v, len, index);
     put_unknown(u, out);
 }
 
@@ -69,7 +68,7 @@ fn put_trial(t: Trial, out: &mut [u64; 12])
         }
         Answer::Declined(n) => put_refusal(out, 1, n, 0),
         Answer::Damaged(f) => put_refusal(out, 2, f.number, f.place),
-        Answer::Unread(place) => put_refusal(out, 3, LINE_REFUSAL, place),
+        Answer::DeclinedAt(f) => put_refusal(out, 3, f.number, f.place),
     }
 }
 
@@ -94,8 +93,8 @@ fn put_unknown(u: Unknown, out: &mut [u64; 3])
         Unknown::Damaged(f) => {
             *out = [2, f.number as u64, f.place as u64];
         }
-        Unknown::Unread(place) => {
-            *out = [3, LINE_REFUSAL as u64, place as u64];
+        Unknown::DeclinedAt(f) => {
+            *out = [3, f.number as u64, f.place as u64];
         }
     }
 }

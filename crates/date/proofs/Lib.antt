@@ -1,2 +1,2 @@
--- The program's proofs need no law of its own: those of dates stand in crate calendar.
+-- The program's proofs need no law of its own: those of dates stand in crate text_dates.
 -- Assumes nothing.

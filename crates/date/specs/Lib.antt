@@ -1,2 +1,2 @@
--- No definitions: the program is thin over crate calendar.
+-- No definitions: the program is thin over crate text_dates.
 -- Assumes nothing.

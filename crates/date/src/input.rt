@@ -2,8 +2,8 @@
 // A word that is no day is none.
 ghost use mathlib.Core.Path.{_≡_};
 ghost use Prim.Native.Nat.{ℕ, _<_, _^_};
-ghost use Rattle.arguments.specs.declared.digit.Number.the-variants as N;
-use arguments::Number;
+ghost use Rattle.command_io.specs.declared.digit.Number.the-variants as N;
+use command_io::Number;
 
 // The largest day.
 const MAX_DAY: u32 = 65_535;
@@ -14,5 +14,5 @@ pub(crate) fn day(i: usize) -> Number
 {
     let mut word = [0u8; 32];
     let size = os::arg(i, &mut word);
-    arguments::read_number(&word[..size], MAX_DAY)
+    command_io::read_number(&word[..size], MAX_DAY)
 }

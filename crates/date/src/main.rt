@@ -1,11 +1,11 @@
 // Prints dates: date DAY [LAST], the date of each day from DAY to LAST, a line YYYY-MM-DD each. Day 0 is 1 January 2000.
-// The dates are made by crate calendar; here arguments are read and lines written.
+// The dates are made by crate text_dates; here arguments are read and lines written.
 ghost use Prim.Native.Nat.{_<_, _^_};
 
 mod input;
 mod output;
 
-use arguments::Number;
+use command_io::Number;
 
 fn main() {
     let count = os::arg_count();

@@ -1,14 +1,14 @@
 // Standard output: the dates line by line, or the help that was asked for.
 // Nothing but dates goes there; what fails is said on standard error.
 ghost use Prim.Native.Nat.{_<_, _^_};
-use calendar::put_date;
+use text_dates::put_date;
 
 // The dates from a day to a last one, which is not before it.
 pub(crate) fn print_rising(first: u32, last: u32)
     requires { ⌜ last < 2 ^ 16 ⌝ }
 {
     if last < first {
-        arguments::complain(b"date: ", b"LAST: a day before DAY");
+        command_io::complain(b"date: ", b"LAST: a day before DAY");
         return;
     }
     print_days(first, last);
@@ -31,12 +31,12 @@ pub(crate) fn print_days(first: u32, last: u32)
 fn print_day(day: u16) -> bool {
     let mut out = [b'\n'; 11];
     put_date(&mut out, 0, day);
-    arguments::print(&out, b"date: standard output")
+    command_io::print(&out, b"date: standard output")
 }
 
 // The help, if it is what the first argument asks for; anything but one or two days is wrong.
 pub(crate) fn usage() {
-    arguments::usage(
+    command_io::usage(
         b"usage: date DAY [LAST]\n\
         Prints the date of each day from DAY to LAST, or of DAY alone, as YYYY-MM-DD, a line each.\n\
         The days count from 1 January 2000, 0 to 65535.\n",

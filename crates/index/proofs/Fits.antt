@@ -15,8 +15,8 @@ use Rattle.journal_spec.specs.Append.{judgeIndexRoom}
 use Rattle.journal_spec.specs.MakeIndex.{Made, makeUnless, makeFrom, makeIndexOf}
 use Rattle.journal_spec.proofs.Judging.{unless-none}
 use Rattle.journal_spec.proofs.Placing.{written-length}
-use Rattle.indexing.specs.declared.make.IndexMade.{IndexMade}
-use Rattle.indexing.specs.Made.{madeMeaning, madeOutcome}
+use Rattle.journal_index.specs.declared.make.IndexMade.{IndexMade}
+use Rattle.journal_index.specs.Made.{madeMeaning, madeOutcome}
 use Rattle.index.specs.Made.{sizeOf}
 
 -- the made size is within the buffer after the call

@@ -10,17 +10,17 @@ use lib.Dec.{leb}
 use lib.ListN.{length, take}
 use lib.Seq.{length-take-le}
 use Rattle.io.specs.Counts.{Counts}
-use Rattle.hex.specs.Same.{sameBytes}
+use Rattle.text_digits.specs.Same.{sameBytes}
 use Rattle.journal_spec.specs.Profile.{plain}
 use Rattle.journal_spec.specs.Scan.{maxLength, scanOf}
 use Rattle.journal.specs.declared.Fault.{Fault}
 use Rattle.journal.specs.declared.Status.{Status}
 use Rattle.journal.specs.declared.Status.the-variants as S
 use Rattle.journal.specs.Answers.{meaning}
-use Rattle.listing.specs.Lines.{Position, positionOf, startOf, step}
-use Rattle.listing.specs.declared.Cursor.{Cursor}
-use Rattle.listing.proofs.Faults.{scan-place}
-use Rattle.records.specs.Front.{recordSize, recordName}
+use Rattle.journal_listing.specs.Lines.{Position, positionOf, startOf, step}
+use Rattle.journal_listing.specs.declared.Cursor.{Cursor}
+use Rattle.journal_listing.proofs.Faults.{scan-place}
+use Rattle.journal_parts.specs.Front.{recordSize, recordName}
 use Rattle.index.specs.Found.{firstLine, aloneBy, aloneLine, namedSize, otherLine, foundBy, foundLine}
 
 -- ---- the size of the name's record

@@ -5,13 +5,13 @@ use mathlib.Core.List.{List}
 use mathlib.Core.Bool.{cond}
 use lib.Dec.{leb, eqb}
 use lib.ListN.{length, take}
-use Rattle.hex.specs.Same.{sameBytes}
+use Rattle.text_digits.specs.Same.{sameBytes}
 use Rattle.journal_spec.specs.Profile.{plain}
 use Rattle.journal_spec.specs.Refusals.{indexRefusal}
 use Rattle.journal_spec.specs.Scan.{maxLength, ScanResult, whole, torn, damaged, scanOf}
-use Rattle.listing.specs.Listing.{wordDeclined, stateLine}
-use Rattle.listing.specs.Lines.{startOf, step}
-use Rattle.records.specs.Front.{recordSize, recordName}
+use Rattle.journal_listing.specs.Listing.{wordDeclined, stateLine}
+use Rattle.journal_listing.specs.Lines.{startOf, step}
+use Rattle.journal_parts.specs.Front.{recordSize, recordName}
 use Rattle.index.specs.Verdict.{numbered}
 
 -- the first line of a record's listing, as a volume of its own

@@ -2,11 +2,12 @@
 -- `declined` and 14 or 15; or `damaged`, number and place, as in the listing.
 use Prim.Native.Nat.{ℕ}
 use mathlib.Core.List.{List, [], _∷_}
-use Rattle.hex.specs.Hex.{decimalDigits}
-use Rattle.journal_spec.specs.Refusals.{indexRefusal}
+use Rattle.text_digits.specs.Hex.{decimalDigits}
 use Rattle.journal_spec.specs.Scan as Scan
-use Rattle.journal_spec.specs.MakeIndex.{IndexResult, made, declined, damaged, IndexCheck, own, notOwn, faulted}
-use Rattle.listing.specs.Listing.{lineOf, wordDeclined, stateLine}
+use Rattle.journal_spec.specs.MakeIndex.{IndexResult, made, declined, damaged}
+use Rattle.journal_spec.specs.CheckIndex.{IndexCheck, own}
+use Rattle.journal_spec.specs.CheckIndex as Check
+use Rattle.journal_listing.specs.Listing.{lineOf, wordDeclined, stateLine}
 
 -- the words `indexed` and `own`
 unfoldable pub wordIndexed : List ℕ
@@ -28,5 +29,5 @@ madeLine (damaged n p) = stateLine (Scan.damaged n p)
 -- whether an index is the volume's, by the length that the entries of the buffer come to
 unfoldable pub checkedLine : ℕ → IndexCheck → List ℕ
 checkedLine size own = numbered wordOwn size
-checkedLine size notOwn = numbered wordDeclined indexRefusal
-checkedLine size (faulted n p) = stateLine (Scan.damaged n p)
+checkedLine size (Check.declined n) = numbered wordDeclined n
+checkedLine size (Check.damaged n p) = stateLine (Scan.damaged n p)

@@ -5,7 +5,7 @@ ghost use mathlib.Core.Bool.{true};
 ghost use Rattle.io.specs.Counts.{Counts};
 use crate::found::MAX_LENGTH;
 use crate::made::holds_records;
-use arguments::Input;
+use command_io::Input;
 
 // Reads the volume that an argument names, from a place on. Where that fails, what failed is said.
 pub(crate) fn read_volume(i: usize, start: usize, out: &mut [u8]) -> Input
@@ -14,7 +14,7 @@ pub(crate) fn read_volume(i: usize, start: usize, out: &mut [u8]) -> Input
     let mut path = io::buffer();
     let size = os::arg(i, &mut path);
     if size == 0 {
-        arguments::complain(
+        command_io::complain(
             b"index: ",
             b"VOLUME: an empty name, or one of more than 4096 bytes",
         );
@@ -43,7 +43,7 @@ pub(crate) fn read_index(i: usize, out: &mut [u8]) -> Input
 }
 
 fn say_nameless() {
-    arguments::complain(
+    command_io::complain(
         b"index: ",
         b"INDEX: an empty name, or one of more than 4096 bytes",
     );
@@ -55,7 +55,7 @@ fn read_file(path: &[u8], start: usize, out: &mut [u8]) -> Input
 {
     let fd = os::open_read(path);
     if fd < 0 {
-        arguments::fail_file(b"index: ", path);
+        command_io::fail_file(b"index: ", path);
         return Input {
             size: 0,
             failed: true,
@@ -63,7 +63,7 @@ fn read_file(path: &[u8], start: usize, out: &mut [u8]) -> Input
     }
     let read = read_from(fd, start, out);
     if read.failed {
-        arguments::fail_file(b"index: ", path);
+        command_io::fail_file(b"index: ", path);
     }
     libc::close(fd);
     read
@@ -81,7 +81,7 @@ fn read_from(fd: i32, start: usize, out: &mut [u8]) -> Input
             };
         }
     }
-    arguments::read_input(fd, out)
+    command_io::read_input(fd, out)
 }
 
 // A place in the file. What is beyond the longest volume is its end.
@@ -110,7 +110,7 @@ fn write_file(path: &[u8], index: &[u8]) -> bool {
         return false;
     }
     if !write_over(fd, index) {
-        arguments::fail_file(b"index: ", path);
+        command_io::fail_file(b"index: ", path);
         return false;
     }
     true
@@ -123,15 +123,15 @@ fn opened(path: &[u8]) -> i32 {
         return admitted(path, fd);
     }
     if os::errno() != libc::ENOENT {
-        arguments::fail_file(b"index: ", path);
+        command_io::fail_file(b"index: ", path);
         return -1;
     }
     let new = os::create(path);
     if new < 0 {
-        arguments::fail_file(b"index: ", path);
+        command_io::fail_file(b"index: ", path);
         return -1;
     }
-    if !arguments::sync_folder(b"index: ", path) {
+    if !command_io::sync_folder(b"index: ", path) {
         return -1;
     }
     new
@@ -143,11 +143,11 @@ fn admitted(path: &[u8], fd: i32) -> i32 {
         refuse(path, b": not a regular file\n");
         return -1;
     }
-    let mut room = arguments::input_room();
-    let read = arguments::read_input(fd, &mut room);
+    let mut room = command_io::input_room();
+    let read = command_io::read_input(fd, &mut room);
     let size = read.size;
     if read.failed {
-        arguments::fail_file(b"index: ", path);
+        command_io::fail_file(b"index: ", path);
         return -1;
     }
     if holds_records(&room[..size]) {

@@ -4,21 +4,21 @@ ghost use mathlib.Core.Path.{_≡_};
 ghost use Prim.Native.Nat.{_≤_};
 ghost use lib.ListN.{length};
 ghost use Rattle.io.specs.Counts.{Counts};
-ghost use Rattle.hex.specs.Same.{sameBytes};
-ghost use Rattle.hex.specs.Text.{Put};
+ghost use Rattle.text_digits.specs.Same.{sameBytes};
+ghost use Rattle.text_digits.specs.Text.{Put};
 ghost use Rattle.journal_spec.specs.Profile.{plain};
 ghost use Rattle.journal_spec.specs.Scan.{maxLength, scanOf};
 ghost use Rattle.journal.specs.Answers.{meaning};
-ghost use Rattle.records.specs.Front.{recordName};
+ghost use Rattle.journal_parts.specs.Front.{recordName};
 ghost use Rattle.index.specs.Found.{firstLine, faultLine, aloneBy, aloneLine, namedSize, foundLine};
-use hex::same;
 use journal::Fault;
 use journal::Rule;
 use journal::Status;
-use listing::put_word;
-use listing::put_words;
-use records::record_name;
-use records::record_size;
+use journal_listing::put_word;
+use journal_listing::put_words;
+use journal_parts::record_name;
+use journal_parts::record_size;
+use text_digits::same;
 
 // The most bytes of a volume.
 pub(crate) const MAX_LENGTH: usize = 65_536;
@@ -98,8 +98,8 @@ fn alone_by(status: Status, one: &[u8], start: usize, out: &mut [u8]) -> usize
 fn first_line(one: &[u8], out: &mut [u8]) -> usize
     ensures { λ r. ⌜ Put (now (out .entry)) 0 (firstLine (now (one .entry))) (now (out .exit)) r ⌝ }
 {
-    let cursor = listing::start(one, Rule::Plain);
-    let line = listing::next_line(one, cursor, out);
+    let cursor = journal_listing::start(one, Rule::Plain);
+    let line = journal_listing::next_line(one, cursor, out);
     line.size
 }
 

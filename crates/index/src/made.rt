@@ -7,12 +7,12 @@ ghost use Rattle.journal_spec.specs.Profile.{plain};
 ghost use Rattle.journal_spec.specs.Scan.{damaged, scanOf};
 ghost use Rattle.journal_spec.specs.MakeIndex.{makeIndexOf};
 ghost use Rattle.journal.specs.Answers.{meaning};
-ghost use Rattle.indexing.specs.Made.{madeMeaning, madeOutcome};
+ghost use Rattle.journal_index.specs.Made.{madeMeaning, madeOutcome};
 ghost use Rattle.index.specs.Made.{sizeOf, holdsRecords};
-use indexing::IndexMade;
 use journal::Fault;
 use journal::Rule;
 use journal::Status;
+use journal_index::IndexMade;
 
 // The answer, and how many bytes the index takes at the buffer's front, 0 where none is made.
 pub(crate) struct Made {
@@ -34,7 +34,7 @@ pub(crate) fn indexed(v: &[u8], out: &mut [u8]) -> Made
     ensures { λ r. ⌜ r .size ≡ sizeOf (madeMeaning (r .answer)) ⌝ }
     ensures { λ r. ⌜ r .size ≤ length (now (out .exit)) ⌝ }
 {
-    let answer = indexing::make_index(v, v.len(), out);
+    let answer = journal_index::make_index(v, v.len(), out);
     let size = size_of(answer);
     Made { answer, size }
 }

@@ -6,21 +6,21 @@ mod made;
 mod output;
 mod verdict;
 
-use entries::Start;
+use journal_entries::Start;
 
 fn main() {
     if os::arg_count() != 4 {
         output::usage();
         return;
     }
-    if !arguments::streams_are_open(b"index: ") {
+    if !command_io::streams_are_open(b"index: ") {
         return;
     }
-    if arguments::is_argument(1, b"--make") {
+    if command_io::is_argument(1, b"--make") {
         make();
         return;
     }
-    if arguments::is_argument(1, b"--check") {
+    if command_io::is_argument(1, b"--check") {
         check();
         return;
     }
@@ -29,7 +29,7 @@ fn main() {
 
 // `--make`: the volume is read, then its index is made.
 fn make() {
-    let mut room = arguments::input_room();
+    let mut room = command_io::input_room();
     let read = files::read_volume(2, 0, &mut room);
     let size = read.size;
     if !read.failed {
@@ -53,7 +53,7 @@ fn make_of(v: &[u8]) {
 
 // `--check`: the volume is read, then the index.
 fn check() {
-    let mut room = arguments::input_room();
+    let mut room = command_io::input_room();
     let read = files::read_volume(2, 0, &mut room);
     let size = read.size;
     if !read.failed {
@@ -63,7 +63,7 @@ fn check() {
 
 // What stands behind the longest index is not read: it does not matter.
 fn check_with(v: &[u8]) {
-    let mut room = arguments::input_room();
+    let mut room = command_io::input_room();
     let read = files::read_index(3, &mut room);
     let size = read.size;
     if !read.failed {
@@ -73,7 +73,7 @@ fn check_with(v: &[u8]) {
 
 // A look-up: the index is read, and of the volume one record.
 fn look() {
-    let mut room = arguments::input_room();
+    let mut room = command_io::input_room();
     let read = files::read_index(2, &mut room);
     let size = read.size;
     if !read.failed {
@@ -85,7 +85,7 @@ fn look() {
 fn look_in(index: &[u8]) {
     let mut name = [0u8; 32];
     let size = os::arg(3, &mut name);
-    match entries::look_up(index, &name[..size]) {
+    match journal_entries::look_up(index, &name[..size]) {
         Start::At(start) => look_at(start, &name[..size]),
         Start::Absent => output::print_absent(),
     }

@@ -1,17 +1,17 @@
 // What became of an index as a line of text, put at the front of a lent buffer.
 // Its words and numbers are put as the listing puts its own.
 ghost use lib.ListN.{length};
-ghost use Rattle.hex.specs.Text.{Put};
-ghost use Rattle.journal_spec.specs.MakeIndex.{checkIndexOf};
-ghost use Rattle.entries.specs.Entries.{entriesIn};
-ghost use Rattle.entries.specs.Places.{endOf};
-ghost use Rattle.indexing.specs.Checked.{checkMeaning};
-ghost use Rattle.indexing.specs.Made.{madeMeaning};
+ghost use Rattle.text_digits.specs.Text.{Put};
+ghost use Rattle.journal_spec.specs.CheckIndex.{checkIndexOf};
+ghost use Rattle.journal_entries.specs.Entries.{entriesIn};
+ghost use Rattle.journal_entries.specs.Places.{endOf};
+ghost use Rattle.journal_index.specs.Checked.{checkMeaning};
+ghost use Rattle.journal_index.specs.Made.{madeMeaning};
 ghost use Rattle.index.specs.Verdict.{madeLine, checkedLine};
-use indexing::Checked;
-use indexing::IndexMade;
-use listing::put_word;
-use listing::put_words;
+use journal_index::Checked;
+use journal_index::IndexMade;
+use journal_listing::put_word;
+use journal_listing::put_words;
 
 // An index that is made, or not.
 pub fn made_line(answer: IndexMade, out: &mut [u8]) -> usize
@@ -30,9 +30,9 @@ pub fn checked_line(v: &[u8], index: &[u8], out: &mut [u8]) -> usize
         (checkedLine (endOf (entriesIn (now (index .entry))) .place)
         (checkIndexOf (record { slice = now (v .entry); len = length (now (v .entry)) }) (now (index .entry)))) (now (out .exit)) r ⌝ }
 {
-    let end = entries::end_of(index);
+    let end = journal_entries::end_of(index);
     let size = end.place;
-    let answer = indexing::check_index(v, v.len(), index);
+    let answer = journal_index::check_index(v, v.len(), index);
     said_line(answer, size, out)
 }
 
@@ -42,7 +42,7 @@ fn said_line(answer: Checked, size: usize, out: &mut [u8]) -> usize
 {
     match answer {
         Checked::Own => put_word(out, b"own", size as u64),
-        Checked::Other => put_word(out, b"declined", 14),
+        Checked::Declined(n) => put_word(out, b"declined", n as u64),
         Checked::Damaged(f) => put_words(out, b"damaged", f.number as u64, f.place as u64),
     }
 }

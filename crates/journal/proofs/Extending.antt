@@ -10,6 +10,7 @@ use lib.ListN.{length, take, drop, length-take}
 use lib.Seq.{take-all}
 use lib.Dec.{leb}
 use borrow.Author.Tests.{not-true, not-false, leb-true}
+use Rattle.facts.proofs.Orders.{by-order}
 use Rattle.journal_spec.specs.Refusals.{roomRefusal, firstOf}
 use Rattle.journal_spec.specs.Record.{Record, Last, lastOf, recordBytes}
 use Rattle.journal_spec.specs.Scan.{maxLength, Placed, recordsOf, standing}
@@ -19,7 +20,6 @@ use Rattle.journal_spec.specs.Append.{nextIndex, appendRefusals, written, uncha
 use Rattle.journal_spec.specs.Append.{appendTo}
 use Rattle.journal_spec.specs.Index.{IndexEntry, indexOf}
 use Rattle.journal_spec.proofs.Judging.{unless-true, unless-false}
-use Rattle.journal_spec.proofs.Reading.{by-order}
 use Rattle.journal_spec.proofs.Writing.{written-lent}
 use Rattle.journal.specs.declared.Appended.the-variants as A
 use Rattle.journal.specs.Stepped.{Filled}

@@ -8,8 +8,8 @@ use native.Mathlib.Omega.{arith}
 use lib.ListN.{length}
 use lib.Dec.{eqb}
 use borrow.Author.Tests.{eq-eqb, ne-eqb, eqb-true}
+use Rattle.facts.proofs.Tests.{both, first-of, second-of}
 use Rattle.limit.specs.Times.{sumOf, squaresOf}
-use Rattle.limit.proofs.InRange.{both, first-of, second-of}
 use Rattle.limit.proofs.Cauchy.{twice-product, twice-sum, cauchy-schwarz}
 use Rattle.journal_spec.specs.Read.{allEqual, areEqual}
 

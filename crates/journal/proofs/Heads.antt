@@ -10,6 +10,7 @@ use lib.ListN.{length, take, drop, getD, length-take}
 use lib.Seq.{drop-drop}
 use lib.Dec.{leb}
 use borrow.Author.Tests.{le-leb, lt-leb}
+use Rattle.facts.proofs.Orders.{by-order}
 use Rattle.limit.specs.Formula.{plainForm, sampleForm}
 use Rattle.limit.specs.Answer.{formRefusal}
 use Rattle.limit.specs.Limit.{formKnown}
@@ -18,7 +19,7 @@ use Rattle.journal_spec.specs.Refusals.{dayRefusal, oldFormRefusal, unless, out
 use Rattle.journal_spec.specs.Reader.{Reader, done, field, Found, fault, short, run}
 use Rattle.journal_spec.specs.Record.{judgeForm, judgeDay}
 use Rattle.journal_spec.proofs.Numbers.{bytes-take, bytes-drop, value-small}
-use Rattle.journal_spec.proofs.Reading.{field-short, field-fault, field-good, field-cases, by-order}
+use Rattle.journal_spec.proofs.Reading.{field-short, field-fault, field-good, field-cases}
 use Rattle.journal.specs.declared.Fault.{Fault}
 use Rattle.journal.specs.declared.field.FieldRead.{FieldRead}
 use Rattle.journal.specs.declared.field.FieldRead.the-variants as F

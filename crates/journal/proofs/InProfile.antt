@@ -8,6 +8,7 @@ use native.Mathlib.Omega.{arith}
 use lib.ListN.{length, getD}
 use lib.Dec.{leb, eqb}
 use borrow.Author.Tests.{le-leb, lt-leb, eq-eqb}
+use Rattle.facts.proofs.Tests.{by-test}
 use Rattle.limit.specs.Formula.{sampleForm}
 use Rattle.journal_spec.specs.Bytes.{numberAt}
 use Rattle.journal_spec.specs.Refusals.{profileRefusal}
@@ -16,7 +17,6 @@ use Rattle.journal_spec.specs.Record.{Record}
 use Rattle.journal_spec.specs.Tests.{same}
 use Rattle.journal_spec.specs.Profile.{Rule, plain, profile, profileChances, profileTimes, inProfile, keeps}
 use Rattle.journal_spec.specs.Scan.{judged}
-use Rattle.journal_spec.proofs.Reading.{by-test}
 use Rattle.journal_spec.proofs.Each.{same-lists}
 use Rattle.journal.specs.declared.Fault.{Fault}
 use Rattle.journal.specs.declared.record.Entry.{Entry}

@@ -6,12 +6,13 @@ use mathlib.Core.List.{List, [], _∷_, _++_}
 use native.Mathlib.Omega.{arith}
 use native.Mathlib.Nat.{add-sub-cancel-left}
 use lib.ListN.{length, take, drop, length-take, length-drop, length-append}
+use Rattle.facts.proofs.Orders.{by-order}
 use Rattle.journal_spec.specs.Reader.{Found, found, fault, short}
 use Rattle.journal_spec.specs.Record.{Record, lastOf, recordReader}
 use Rattle.journal_spec.specs.Profile.{Rule}
 use Rattle.journal_spec.specs.Scan.{maxLength, Placed, recordsOf, Contents, standing, faulty, recordAt, contentsFrom, contentsOf}
 use Rattle.journal_spec.specs.Read.{noPart, partAt, partOf, partPlace, partBytes, readPart}
-use Rattle.journal_spec.proofs.Reading.{by-order, run-left}
+use Rattle.journal_spec.proofs.Reading.{run-left}
 use Rattle.journal_spec.proofs.Scanning.{found-at, turn-short, turn-fault, turn-found, contents-fits, contents-long}
 use Rattle.journal_spec.proofs.RecordsLoop.{part-before, part-this, part-beyond}
 use Rattle.journal.specs.declared.Part.{Part}

@@ -10,6 +10,7 @@ use Rattle.limit.specs.declared.sums.Sums.{Sums}
 use Rattle.limit.specs.Times.{minTicks, maxTicks, minCount, maxCount, allInRange, timesInRange}
 use Rattle.limit.specs.Sums.{sumsOf}
 use Rattle.limit.specs.Answer.{timesRefusal}
+use Rattle.facts.proofs.Tests as tests
 use Rattle.limit.proofs.InRange as I
 use Rattle.limit.proofs.Bounds.{all-append}
 use Rattle.journal_spec.specs.Bytes.{valueOf}
@@ -122,7 +123,7 @@ times-in-range b xs at e rest h =
     (λ n. items 4 (λ (l : List ℕ). outside minTicks maxTicks timesRefusal) n []) at (drop at b) xs e rest h in
     let known = section-at timeSection b xs at e rest h in
     let range = outside-none minCount maxCount 5 (length xs) (known .good) in
-    I.both (I.inside minCount maxCount (length xs) (range .0) (range .1))
+    tests.both (I.inside minCount maxCount (length xs) (range .0) (range .1))
     (items-in-range (valueOf (take 2 (drop at b))) [] (at + 2) (drop 2 (drop at b)) xs e rest refl (f .goes))
 
 -- ---- chances that were read stand in the bytes

@@ -7,15 +7,15 @@ use mathlib.Core.Bool.{_&&_}
 use native.Mathlib.Omega.{arith}
 use lib.Dec.{leb, ltb, eqb}
 use borrow.Author.Tests.{le-leb, lt-leb, lt-ltb, le-ltb, eq-eqb, ne-eqb}
+use Rattle.facts.proofs.Tests.{second-fails}
+use Rattle.facts.proofs.Orders.{by-order}
 use Rattle.limit.specs.Times.{inRange}
 use Rattle.limit.specs.Limit.{maxChance, chanceInRange}
 use Rattle.limit.specs.Answer.{chanceRefusal}
-use Rattle.limit.proofs.InRange.{second-fails}
 use Rattle.limit.proofs.InRange as R
 use Rattle.journal_spec.specs.Refusals.{unless, outside}
 use Rattle.journal_spec.specs.Record.{lastChance, judgeChance}
 use Rattle.journal_spec.proofs.Judging.{unless-true, unless-false, inside, below}
-use Rattle.journal_spec.proofs.Reading.{by-order}
 
 module _ (low high n x : ℕ) where
   pub above : high < x → outside low high n x ≡ n

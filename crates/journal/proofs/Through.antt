@@ -10,9 +10,9 @@ use borrow.Author.Tests.{eq-eqb, ne-eqb}
 use Rattle.journal_spec.specs.Log.{gathered, misread}
 use Rattle.journal_spec.specs.Request.{Request, timesOf, declinedAt, Outcome}
 use Rattle.journal_spec.specs.Append.{unchanged, appendOf}
-use Rattle.journal_spec.proofs.Logs.{append-misread, handedIn, log-as-times}
-use Rattle.build_log.specs.Gather.{gatheredBy}
-use Rattle.build_log.specs.declared.times.Gathering.{Gathering}
+use Rattle.journal_spec.proofs.Logs.{append-misread, handedIn, read-as-times}
+use Rattle.journal_log.specs.Gather.{gatheredBy}
+use Rattle.journal_log.specs.declared.times.Gathering.{Gathering}
 use Rattle.journal.specs.Answers.{appendMeaning, lengthAfter, outcomeOf}
 use Rattle.journal.specs.declared.Appended.the-variants as A
 
@@ -30,4 +30,4 @@ module _ (v : List ℕ) (len : ℕ) (q : Request) (g : Gathering) (read : gather
       → out ≡ appendOf (record { slice = v; len = len }) (handedIn (take (g .cursor .count) (g .times)) q) → out ≡ appendOf (record { slice = v; len = len }) q
   unfolding gatheredBy
   through-times good out e =
-      e ∙ sym (log-as-times (record { slice = v; len = len }) q (take (g .cursor .count) (g .times)) (sym read ∙ rw (eq-eqb (g .cursor .refusal) 0 good)))
+      e ∙ sym (read-as-times (record { slice = v; len = len }) q (take (g .cursor .count) (g .times)) (sym read ∙ rw (eq-eqb (g .cursor .refusal) 0 good)))

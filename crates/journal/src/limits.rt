@@ -99,7 +99,7 @@ fn limit_at(
     let answer = limit::limit_of_quantile(worked, c as u32, quantile);
     match answer {
         Answer::Limit(f) => {
-            let bits = sqrt::bits::bits_of(f.limit);
+            let bits = double_bits::bits_of(f.limit);
             field_at(b, at, 8, bits, bits, LIMIT_REFUSAL)
         }
         Answer::Refused(_) => field_at(b, at, 8, 1, 0, LIMIT_REFUSAL),

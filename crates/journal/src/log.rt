@@ -35,7 +35,7 @@ pub fn append_log_with(
           index = none;
         }) ⌝ }
 {
-    let g = build_log::gather(name, log);
+    let g = journal_log::gather(name, log);
     let cursor = g.cursor;
     let times = g.times;
     let number = cursor.refusal;

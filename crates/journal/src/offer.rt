@@ -170,7 +170,7 @@ fn bits_at(worked: Worked, chance: u32) -> u64
 {
     let answer = limit::limit_of_moments(worked, chance);
     match answer {
-        Answer::Limit(f) => sqrt::bits::bits_of(f.limit),
+        Answer::Limit(f) => double_bits::bits_of(f.limit),
         Answer::Refused(_) => 0,
     }
 }

@@ -4,35 +4,18 @@ use mathlib.Core.Path.{_≡_, refl, sym, ap, subst, _∙_}
 use Prim.Native.Nat.{ℕ}
 use mathlib.Core.List.{List}
 use mathlib.Core.Bool.{true, false}
-use native.Mathlib.Omega.{arith}
+use Rattle.facts.proofs.Tests.{true-not-false, by-test}
 use Rattle.journal_spec.specs.Index.{Order, lower, equal, higher, orderOf}
 use Rattle.journal_spec.proofs.NameOrder.{order-self, order-equal, order-turned, order-lower}
-use Rattle.journal_spec.proofs.Reading.{by-test}
-use Rattle.entries.specs.Shape.{isLower, isBelow}
+use Rattle.journal_entries.specs.Shape.{isLower, isBelow}
+use Rattle.journal_entries.proofs.Parsed.{below-lower, lower-below}
 
 -- ---- tests
-
-pub true-not-false : true ≡ false → ⊥
-true-not-false h = let z : _≡_ {A = ℕ} 0 1 = cc in omega arith
 
 pub by-three {ℓ} : {X : Type ℓ} (o : Order) → (o ≡ lower → X) → (o ≡ equal → X) → (o ≡ higher → X) → X
 by-three lower f g h = f refl
 by-three equal f g h = g refl
 by-three higher f g h = h refl
-
-lower-is : (o : Order) → isLower o ≡ true → o ≡ lower
-unfolding isLower
-lower-is lower h = refl
-lower-is equal h = absurd (true-not-false (sym h))
-lower-is higher h = absurd (true-not-false (sym h))
-
-pub below-lower : (a b : List ℕ) → isBelow a b ≡ true → orderOf a b ≡ lower
-unfolding isBelow
-below-lower a b h = lower-is (orderOf a b) h
-
-pub lower-below : (a b : List ℕ) → orderOf a b ≡ lower → isBelow a b ≡ true
-unfolding isBelow isLower
-lower-below a b h = ap isLower h
 
 pub not-lower : (a b : List ℕ) → isBelow a b ≡ false → orderOf a b ≡ lower → ⊥
 not-lower a b h l = true-not-false (sym (lower-below a b l) ∙ h)

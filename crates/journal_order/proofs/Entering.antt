@@ -7,10 +7,10 @@ use mathlib.Core.Bool.{Bool, true, false}
 use native.Mathlib.Omega.{arith}
 use lib.ListN.{length, take, drop, getD, set, length-set}
 use lib.Seq.{getD-set-same, getD-set-other, set-split, split-at, take-set-lt, length-take-le, getD-take}
+use Rattle.facts.proofs.Orders.{by-order}
 use Rattle.journal_spec.specs.Index.{equal, orderOf}
-use Rattle.journal_spec.proofs.Reading.{by-order}
 use Rattle.journal_spec.proofs.NameOrder.{order-equal}
-use Rattle.entries.specs.Shape.{isBelow}
+use Rattle.journal_entries.specs.Shape.{isBelow}
 use Rattle.journal_order.specs.Sorted.{having, lastIn, lastHaving, Rises, Climbs, LatestOf, Split, EndsWith, insertAt, Inserted}
 use Rattle.journal_order.proofs.Below.{by-three, below-turned, neither-below}
 use Rattle.journal_order.proofs.Having.{having-append, having-one, having-not, last-append, last-one}

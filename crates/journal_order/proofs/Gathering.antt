@@ -11,8 +11,8 @@ use Rattle.journal_spec.specs.Cursor.{recordsIn}
 use Rattle.journal_spec.proofs.Cursor.{Cursor, cursor-none, cursor-some, cursor-next}
 use Rattle.journal_spec.proofs.Ranged.{encoding-length}
 use Rattle.journal_spec.proofs.Whole.{WholeBytes}
-use Rattle.records.specs.Front.{recordSize}
-use Rattle.records.proofs.Front.{front-size}
+use Rattle.journal_parts.specs.Front.{recordSize}
+use Rattle.journal_parts.proofs.Front.{front-size}
 use Rattle.journal_order.specs.Starts.{startsFrom, startsIn, mostRecords}
 use Rattle.journal_order.specs.Sorted.{LatestOf}
 use Rattle.journal_order.proofs.Entering.{latest-none, latest-more}

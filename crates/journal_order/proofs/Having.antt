@@ -3,17 +3,12 @@
 use mathlib.Core.Path.{_≡_, refl, sym, ap, _∙_}
 use Prim.Native.Nat.{ℕ, suc, _<_}
 use mathlib.Core.List.{List, [], _∷_, _++_}
-use mathlib.Core.Bool.{true, false}
 use mathlib.Core.Option.{Option, none, some}
 use native.Mathlib.Omega.{arith}
 use lib.ListN.{length, getD}
-use lib.Dec.{eqb}
-use borrow.Author.Tests.{eqb-true}
 use Rattle.journal_spec.specs.Index.{Order, lower, equal, higher, orderOf}
 use Rattle.journal_spec.specs.Indexed.{orElse, whereEqual}
-use Rattle.journal_spec.proofs.NameOrder.{order-self}
-use Rattle.journal_spec.proofs.Reading.{by-test}
-use Rattle.journal_order.specs.Sorted.{whereSame, having, lastIn, timesIn, SortedFrom}
+use Rattle.journal_order.specs.Sorted.{whereSame, having, lastIn}
 
 -- ---- one place
 
@@ -88,36 +83,3 @@ pub last-one : (ps : List ℕ) (p : ℕ) → lastIn (ps ++ p ∷ []) ≡ some p
 unfolding lastIn orElse
 last-one [] p = refl
 last-one (q ∷ ps) p = rw (last-one ps p) refl
-
--- ---- how often a place is there
-
-times-own : (p q : ℕ) (ps : List ℕ) → eqb p q ≡ true → timesIn p (q ∷ ps) ≡ suc (timesIn p ps)
-unfolding timesIn
-times-own p q ps t = rw t refl
-
-times-other : (p q : ℕ) (ps : List ℕ) → eqb p q ≡ false → timesIn p (q ∷ ps) ≡ timesIn p ps
-unfolding timesIn
-times-other p q ps f = rw f refl
-
-times-where : (o : Order) (p q : ℕ) (ps : List ℕ) → eqb p q ≡ false → timesIn p (whereSame o q ps) ≡ timesIn p ps
-unfolding whereSame
-times-where lower p q ps f = refl
-times-where equal p q ps f = times-other p q ps f
-times-where higher p q ps f = refl
-
--- as often as among those with its key
-own-times : (key : ℕ → List ℕ) (p : ℕ) (ps : List ℕ) → timesIn p ps ≡ timesIn p (having key (key p) ps)
-unfolding having
-own-times key p [] = refl
-own-times key p (q ∷ qs) =
-    let rest : List ℕ = having key (key p) qs in
-    let ih : timesIn p qs ≡ timesIn p rest = own-times key p qs in
-    by-test (eqb p q)
-    (λ t.
-    let e : orderOf (key p) (key q) ≡ equal = ap (λ (x : ℕ). orderOf (key p) (key x)) (sym (eqb-true p q t)) ∙ order-self (key p) in
-    times-own p q qs t ∙ ap suc ih ∙ sym (times-own p q rest t) ∙ ap (timesIn p) (sym (kept (orderOf (key p) (key q)) q rest e)))
-    (λ f. times-other p q qs f ∙ ih ∙ sym (times-where (orderOf (key p) (key q)) p q rest f))
-
--- a sort keeps every place as often as it was there
-pub sorted-times : (key : ℕ → List ℕ) (before after : List ℕ) → SortedFrom key before after → (p : ℕ) → timesIn p after ≡ timesIn p before
-sorted-times key before after s p = own-times key p after ∙ ap (timesIn p) (s .same (key p)) ∙ sym (own-times key p before)

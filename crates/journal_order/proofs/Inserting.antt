@@ -3,18 +3,19 @@
 use mathlib.Core.Path.{_≡_, sym, ap, ap₂, subst, _∙_}
 use Prim.Native.Nat.{ℕ, suc, _+_, _-_, _≤_, _<_}
 use mathlib.Core.List.{List, [], _∷_, _++_, append-assoc, append-nil}
-use mathlib.Core.Bool.{true, false}
+use mathlib.Core.Bool.{true}
 use native.Mathlib.Omega.{arith}
 use lib.ListN.{length, take, drop, getD, set, length-append, length-drop, take-append-drop, List·getD-append}
 use lib.Seq.{getD-take, getD-drop, getD-at, getD-append-add, length-take-le, take-take, take-at, drop-at}
+use Rattle.facts.proofs.Orders.{by-order}
 use Rattle.journal_spec.specs.Index.{equal, orderOf}
 use Rattle.journal_spec.specs.Append.{written}
-use Rattle.journal_spec.proofs.Reading.{by-order, drop-take}
+use Rattle.journal_spec.proofs.Reading.{drop-take}
 use Rattle.journal_spec.proofs.NameOrder.{order-equal}
-use Rattle.entries.specs.Shape.{isBelow}
-use Rattle.entries.proofs.Opening.{set-before}
-use Rattle.journal_order.specs.Sorted.{having, Rises, Climbs, Split, insertAt, Inserted}
-use Rattle.journal_order.proofs.Below.{by-three, below-turned}
+use Rattle.journal_entries.specs.Shape.{isBelow}
+use Rattle.journal_entries.proofs.Opening.{set-before}
+use Rattle.journal_order.specs.Sorted.{having, Climbs, Split, insertAt, Inserted}
+use Rattle.journal_order.proofs.Below.{by-three}
 use Rattle.journal_order.proofs.Having.{having-append, having-not}
 use Rattle.journal_order.proofs.Searching.{none-above}
 
@@ -81,13 +82,7 @@ module _ (key : ℕ → List ℕ) (n p : ℕ) (ps : List ℕ) (s : Split key (ke
       subst₂′ {a} {b} {c} {d} e f h =
           subst (λ (x : ℕ). Holds (key b) (key x)) f (subst (λ (x : ℕ). Holds (key x) (key c)) e h)
 
-  pub insert-rises : Rises key ps → Rises key (insertAt n p ps)
-  insert-rises r = record {
-    rising = λ i j l m. at-positions (λ a b. isBelow b a ≡ false) (r .rising) (s .upto)
-        (λ i h k. below-turned (key p) (key (getD ps i 0)) (s .above i h k)) i j l (omega (arith, insert-length n p ps (s .within)));
-  }
-
-  -- strictly, where the one before it has another key
+  -- they rise strictly, where the one before it has another key
   pub insert-climbs : Climbs key ps → ((i : ℕ) → i < n → isBelow (key (getD ps i 0)) (key p) ≡ true) → Climbs key (insertAt n p ps)
   insert-climbs r f = record {
     climbing = λ i j l m. at-positions (λ a b. isBelow a b ≡ true) (r .climbing) f (s .above) i j l (omega (arith, insert-length n p ps (s .within)));

@@ -4,8 +4,8 @@ use Prim.Native.Nat.{ℕ, _-_, _<_}
 use mathlib.Core.List.{List}
 use native.Mathlib.Omega.{arith}
 use lib.ListN.{length, take, drop, drop-of-length-le}
-use Rattle.records.specs.Front.{recordSize, recordName}
-use Rattle.records.proofs.Front.{from-place}
+use Rattle.journal_parts.specs.Front.{recordSize, recordName}
+use Rattle.journal_parts.proofs.Front.{from-place}
 use Rattle.journal_order.specs.Keys.{keyAt}
 use Rattle.journal_order.specs.declared.keys.Key.{Key}
 use Rattle.journal_order.specs.declared.keys.Key.the-variants as K

@@ -5,6 +5,7 @@ pub mod Below
 pub mod Having
 pub mod Searching
 pub mod Inserting
-pub mod Settling
+pub mod Taking
 pub mod Entering
 pub mod Gathering
+pub mod Meaning

@@ -9,13 +9,14 @@ use mathlib.Core.Option.{none, some}
 use native.Mathlib.Omega.{arith}
 use lib.ListN.{length, take, drop, getD, take-append-drop, length-take, length-drop}
 use lib.Seq.{take-suc, getD-take, getD-drop}
+use Rattle.facts.proofs.Tests.{true-not-false}
+use Rattle.facts.proofs.Orders.{by-order}
 use Rattle.journal_spec.specs.Index.{equal, orderOf}
-use Rattle.journal_spec.proofs.Reading.{by-order}
 use Rattle.journal_spec.proofs.NameOrder.{order-self}
-use Rattle.entries.specs.Shape.{isBelow}
+use Rattle.journal_entries.specs.Shape.{isBelow}
 use Rattle.journal_order.specs.Sorted.{having, lastIn, lastHaving, Rises, Split, EndsWith, placeMeaning}
 use Rattle.journal_order.specs.declared.halving.Place.the-variants as P
-use Rattle.journal_order.proofs.Below.{true-not-false, below-upto, upto-below, upto-upto, neither-below, below-not-equal, above-not-equal}
+use Rattle.journal_order.proofs.Below.{below-upto, upto-below, upto-upto, neither-below, below-not-equal, above-not-equal}
 use Rattle.journal_order.proofs.Having.{having-append, having-none, having-one, last-one}
 
 pub record Halving (key : ℕ → List ℕ) (k ps : List ℕ) (low high : ℕ) : Type 0 where

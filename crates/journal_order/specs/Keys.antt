@@ -3,7 +3,7 @@
 use Prim.Native.Nat.{ℕ}
 use mathlib.Core.List.{List}
 use lib.ListN.{take, drop}
-use Rattle.records.specs.Front.{recordSize, recordName}
+use Rattle.journal_parts.specs.Front.{recordSize, recordName}
 use Rattle.journal_order.specs.declared.keys.Key.{Key}
 use Rattle.journal_order.specs.declared.keys.Key.the-variants as K
 

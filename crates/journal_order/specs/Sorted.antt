@@ -1,15 +1,14 @@
 -- Places sorted by their keys, whatever gives a place its key. Keys stand to one another as names do in an index: byte by byte, and one that
 -- begins another comes first.
 use mathlib.Core.Path.{_≡_}
-use Prim.Native.Nat.{ℕ, suc, _+_, _-_, _≤_, _<_}
+use Prim.Native.Nat.{ℕ, _+_, _-_, _≤_, _<_}
 use mathlib.Core.List.{List, [], _∷_, _++_}
-use mathlib.Core.Bool.{Bool, true, false, cond}
+use mathlib.Core.Bool.{Bool, true, false}
 use mathlib.Core.Option.{Option, none, some}
 use lib.ListN.{length, take, drop, getD}
-use lib.Dec.{eqb}
 use Rattle.journal_spec.specs.Index.{Order, lower, equal, higher, orderOf}
 use Rattle.journal_spec.specs.Indexed.{orElse}
-use Rattle.entries.specs.Shape.{isBelow}
+use Rattle.journal_entries.specs.Shape.{isBelow}
 use Rattle.journal_order.specs.declared.halving.Place.{Place}
 use Rattle.journal_order.specs.declared.halving.Place.the-variants as P
 
@@ -34,11 +33,6 @@ lastIn (p ∷ ps) = orElse (lastIn ps) (some p)
 unfoldable pub lastHaving : (ℕ → List ℕ) → List ℕ → List ℕ → Option ℕ
 lastHaving key k ps = lastIn (having key k ps)
 
--- how often a place is among some
-unfoldable pub timesIn : ℕ → List ℕ → ℕ
-timesIn p [] = 0
-timesIn p (q ∷ qs) = cond (eqb p q) (suc (timesIn p qs)) (timesIn p qs)
-
 -- ---- sorted
 
 -- of any two, the later one's key does not come before the earlier one's
@@ -48,12 +42,6 @@ pub record Rises (key : ℕ → List ℕ) (ps : List ℕ) : Type 0 where
 -- of any two, the earlier one's key comes before the later one's
 pub record Climbs (key : ℕ → List ℕ) (ps : List ℕ) : Type 0 where
   pub climbing : (i j : ℕ) → i < j → j < length ps → isBelow (key (getD ps i 0)) (key (getD ps j 0)) ≡ true
-
--- The same places, sorted: those with one key are the same ones in the same sequence, for each key.
-pub record SortedFrom (key : ℕ → List ℕ) (before after : List ℕ) : Type 0 where
-  pub long : length after ≡ length before
-  pub rises : Rises key after
-  pub same : (k : List ℕ) → having key k after ≡ having key k before
 
 -- The last place of each key, sorted.
 pub record LatestOf (key : ℕ → List ℕ) (before after : List ℕ) : Type 0 where

@@ -6,7 +6,7 @@ ghost use Rattle.journal_order.specs.Keys.{keyAt};
 ghost use Rattle.journal_order.specs.Sorted.{Rises, Split, EndsWith, lastHaving, placeMeaning};
 use crate::keys::Key;
 use crate::keys::key_at;
-use entries::is_below;
+use journal_entries::is_below;
 
 // A place, or that none has the key.
 pub enum Place {

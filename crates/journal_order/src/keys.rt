@@ -1,10 +1,10 @@
 // A record's key: those of its bytes by which its place is sorted. Nothing is assumed of the bytes or the place.
 ghost use mathlib.Core.Path.{_≡_};
 ghost use lib.ListN.{take};
-ghost use Rattle.records.specs.Front.{recordSize};
+ghost use Rattle.journal_parts.specs.Front.{recordSize};
 ghost use Rattle.journal_order.specs.Keys.{keyAt};
-use records::record_name;
-use records::record_size;
+use journal_parts::record_name;
+use journal_parts::record_size;
 
 // As many records as a journal can hold: 65,536 bytes, 33 at least for each.
 pub const MOST: usize = 1985;

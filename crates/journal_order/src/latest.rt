@@ -13,10 +13,10 @@ use crate::halving::wide;
 use crate::keys::Key;
 use crate::keys::key_at;
 use crate::putting::insert;
-use records::record_size;
+use journal_parts::record_size;
 
 // Enters a place among the first `count` of an array, and answers how many there are then.
-pub fn enter(b: &[u8], key: Key, places: &mut [u16], count: usize, place: u16) -> usize
+pub(crate) fn enter(b: &[u8], key: Key, places: &mut [u16], count: usize, place: u16) -> usize
     requires { ⌜ (count < length (now places)) × Climbs (keyAt key (now b)) (take count (now places)) ⌝ }
     ensures { λ r. ⌜ LatestOf (keyAt key (now (b .entry))) (take count (now (places .entry)) ++ place ∷ []) (take r (now (places .exit))) ⌝ }
     ensures { λ r. ⌜ (r ≤ count + 1) × (length (now (places .exit)) ≡ length (now (places .entry))) ⌝ }

@@ -8,12 +8,12 @@ use native.Mathlib.Omega.{arith}
 use lib.ListN.{length, take, drop}
 use lib.Seq.{take-all, length-take-le}
 use borrow.Author.Tests.{le-leb, lt-leb}
+use Rattle.facts.proofs.Orders.{by-order}
 use Rattle.journal_spec.specs.Record.{Record, recordBytes, recordsBytes}
 use Rattle.journal_spec.specs.Request.{all, upTo, Journal}
 use Rattle.journal_spec.specs.Calls.{operations, Call, emptyIn, perform, journalAfter}
 use Rattle.journal_spec.specs.Model.{Model, emptyModel, committedOf, Entry, enterRecord, enterBy, enter, modelAfter}
 use Rattle.journal_spec.specs.Shown.{budgetOf, recordOf, Takes}
-use Rattle.journal_spec.proofs.Reading.{by-order}
 use Rattle.journal_spec.proofs.Given.{record-is, budget-all, budget-upto}
 use Rattle.journal_spec.proofs.Verdicts.{taken-exactly}
 use Rattle.journal_spec.proofs.Scanning.{records-snoc}

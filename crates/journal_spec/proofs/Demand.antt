@@ -12,6 +12,7 @@ use lib.ListN.{length, take, drop, length-append, take-append-drop}
 use lib.Seq.{take-all, take-at, take-take, drop-drop, length-take-le}
 use lib.Dec.{leb, eqb}
 use borrow.Author.Tests.{le-leb, lt-leb, eq-eqb, ne-eqb}
+use Rattle.facts.proofs.Orders.{by-order}
 use Rattle.journal_spec.specs.Bytes.{joined}
 use Rattle.journal_spec.specs.Refusals.{profileRefusal}
 use Rattle.journal_spec.specs.Record.{Record, IsDay, lastOf, recordReader, recordBytes, recordsBytes}
@@ -28,7 +29,7 @@ use Rattle.journal_spec.specs.Model.{Verdict, taken, breakOf, byNumber, 
 use Rattle.journal_spec.specs.Model.{modelRefusal, modelAfter, modelAnswers, modelIndexes, refreshed}
 use Rattle.journal_spec.specs.Demand.{endOf, modelScan, bytesAt, recordMark, modelPart, modelMark, Agrees, Demand3From, Demand3}
 use Rattle.journal_spec.specs.Ranges.{RecordRanges, AllRanges}
-use Rattle.journal_spec.proofs.Reading.{by-order, reads-cut}
+use Rattle.journal_spec.proofs.Reading.{reads-cut}
 use Rattle.journal_spec.proofs.Limits.{formulaBits, sample-known}
 use Rattle.journal_spec.proofs.SameRefusals.{same-next, same-refusal, same-record, same-length}
 use Rattle.journal_spec.proofs.Ranged.{passed, fits-room, accepted-exactly, good-record, good-exactly, reads-back}

@@ -14,6 +14,7 @@ use lib.Ieee.{binary64, toBits}
 use borrow.Author.Tests.{le-leb, leb-true, lt-ltb, ltb-true, eq-eqb, eqb-true}
 use Rattle.limit.specs.Times.{inRange, timesInRange}
 use Rattle.limit.specs.Limit.{formKnown, chanceInRange, limitOf, minChance, maxChance}
+use Rattle.facts.proofs.Tests as tests
 use Rattle.limit.proofs.InRange as R
 use Rattle.journal_spec.specs.Bytes.{numberAt, valueOf}
 use Rattle.journal_spec.specs.Refusals.{outside, firstOf}
@@ -121,10 +122,10 @@ chance-refuses : (before : List ℕ) (c : ℕ) → Refuses (judgeChance before c
 unfolding judgeChance chanceInRange
 chance-refuses before c = row-refuses (inRange 1 999_999 c && ltb (lastChance before) c) 4 _ (
   λ h.
-      let r = R.first-of (inRange 1 999_999 c) (ltb (lastChance before) c) h in
-      let above = ltb-true (lastChance before) c (R.second-of (inRange 1 999_999 c) (ltb (lastChance before) c) h) in
+      let r = tests.first-of (inRange 1 999_999 c) (ltb (lastChance before) c) h in
+      let above = ltb-true (lastChance before) c (tests.second-of (inRange 1 999_999 c) (ltb (lastChance before) c) h) in
       (R.at-least 1 999_999 c r, R.at-most 1 999_999 c r, λ i e. rw (last-at before i e) at above),
-  λ k. R.both (R.inside 1 999_999 c (k .0) (k .1)) (lt-ltb (lastChance before) c (above-last before c (k .0) (k .2))),
+  λ k. tests.both (R.inside 1 999_999 c (k .0) (k .1)) (lt-ltb (lastChance before) c (above-last before c (k .0) (k .2))),
 )
 
 -- ---- the record

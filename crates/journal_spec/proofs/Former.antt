@@ -12,6 +12,7 @@ use lib.ListN.{length, take, drop, length-append}
 use lib.Seq.{drop-drop, length-take-le}
 use lib.Dec.{leb, eqb}
 use borrow.Author.Tests.{le-leb, eqb-true, eqb-false, eq-eqb, ne-eqb}
+use Rattle.facts.proofs.Orders.{by-order}
 use Rattle.limit.specs.Formula.{plainForm, sampleForm}
 use Rattle.limit.specs.Answer.{formRefusal}
 use Rattle.limit.specs.Limit.{formKnown}
@@ -28,7 +29,7 @@ use Rattle.journal_spec.specs.Scan.{maxLength, Placed, recordsOf, Conten
 use Rattle.journal_spec.specs.Ranges.{AllRanges}
 use Rattle.journal_spec.specs.Former.{heldFrom, heldBy, formerForm, formerReader, formerContents, StopsAtSample}
 use Rattle.journal_spec.proofs.Judging.{unless-none}
-use Rattle.journal_spec.proofs.Reading.{field-short, field-good, field-fault, field-cases, field-found, by-order, then-found, run-left}
+use Rattle.journal_spec.proofs.Reading.{field-short, field-good, field-fault, field-cases, field-found, then-found, run-left}
 use Rattle.journal_spec.proofs.Records.{by-stages}
 use Rattle.journal_spec.proofs.Ranged.{reads-back}
 use Rattle.journal_spec.proofs.Scanning.{lastOf-snoc, recordsOf-snoc, records-count, at-found, at-fault, at-short}

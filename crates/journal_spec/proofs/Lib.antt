@@ -40,6 +40,7 @@ pub mod Marks
 pub mod Unchanged
 -- demand 3
 pub mod Demand
+pub mod Reach
 pub mod Continued
 pub mod Shown
 pub mod Answers
@@ -60,6 +61,7 @@ pub mod SectionAt
 pub mod RecordsLoop
 pub mod RefusalFrom
 pub mod Pieces
+pub mod TimesRead
 pub mod Cursor
 pub mod Whole
 pub mod IndexLoop

@@ -17,7 +17,7 @@ use Rattle.limit.specs.declared.Figures.{Figures}
 use Rattle.limit.specs.Formula.{sampleForm, limitFrom, formulaOf, figuresOf}
 use Rattle.limit.specs.Answer.{LimitResult, limited}
 use Rattle.limit.specs.Limit.{minChance, maxChance, formKnown, chanceInRange, judge, limitOf}
-use Rattle.limit.proofs.InRange as R
+use Rattle.facts.proofs.Tests as tests
 use Rattle.journal_spec.specs.Refusals.{limitRefusal, unless, firstOf}
 use Rattle.journal_spec.specs.Section.{itemsRefusal}
 use Rattle.journal_spec.specs.Record.{judgeLimit}
@@ -99,9 +99,9 @@ module _ (times : List ℕ) (t : timesInRange times ≡ true) where
   unfolding limitBits limitsOf formulaBits each
   limits-are [] h = refl
   limits-are (c ∷ cs) h =
-      let e = limit-worked sampleForm times c sample-known t (R.first-of _ (each (inRange minChance maxChance) cs) h) in
+      let e = limit-worked sampleForm times c sample-known t (tests.first-of _ (each (inRange minChance maxChance) cs) h) in
       ap₂ (λ (x : ℕ) (xs : List ℕ). x ∷ xs) (ap limitBits e ∙ ap (toBits binary64) (limit-at sampleForm times c))
-      (limits-are cs (R.second-of (inRange minChance maxChance c) _ h))
+      (limits-are cs (tests.second-of (inRange minChance maxChance c) _ h))
 
 -- ---- the limits of a record, by its reader's rules
 
@@ -119,11 +119,11 @@ module _ (form : ℕ) (f : formKnown form ≡ true) (times : List ℕ) (t : time
       let this : getD all (length before) 0 ≡ c = ap (λ (l : List ℕ). getD l (length before) 0) e ∙ getD-at done c cs 0 (length before) (sym n) in
       let own : rule all before x ≡ 0 =
       ap (λ (d : ℕ). judgeLimit (limitOf form times d) x) this
-      ∙ ap (λ (r : LimitResult). judgeLimit r x) (limit-worked form times c f t (R.first-of _ (each (inRange minChance maxChance) cs) h))
+      ∙ ap (λ (r : LimitResult). judgeLimit r x) (limit-worked form times c f t (tests.first-of _ (each (inRange minChance maxChance) cs) h))
       ∙ rw (← limit-at form times c) (judge-own (figuresAt form times c)) in
       let more : length (before ++ x ∷ []) ≡ length (done ++ c ∷ []) = rw (length-append before, length-append done, n) refl in
       let rest = limits-good all (done ++ c ∷ []) cs (before ++ x ∷ []) (e ∙ sym (append-snoc done c cs)) more
-      (R.second-of (inRange minChance maxChance c) _ h) in
+      (tests.second-of (inRange minChance maxChance c) _ h) in
       none-first (rule all before x) _ own (none-first _ [] rest (unfold firstOf in refl))
 
   -- limits that nothing refuses, as many as the chances, are the formula's
@@ -138,10 +138,10 @@ module _ (form : ℕ) (f : formKnown form ≡ true) (times : List ℕ) (t : time
       let this : getD all (length before) 0 ≡ c = ap (λ (l : List ℕ). getD l (length before) 0) e ∙ getD-at done c cs 0 (length before) (sym n) in
       let own = judge-none (figuresAt form times c) x
       (sym (ap (λ (d : ℕ). judgeLimit (limitOf form times d) x) this
-      ∙ ap (λ (r : LimitResult). judgeLimit r x) (limit-worked form times c f t (R.first-of _ (each (inRange minChance maxChance) cs) h)))
+      ∙ ap (λ (r : LimitResult). judgeLimit r x) (limit-worked form times c f t (tests.first-of _ (each (inRange minChance maxChance) cs) h)))
       ∙ z .0) in
       let more : length (before ++ x ∷ []) ≡ length (done ++ c ∷ []) = rw (length-append before, length-append done, n) refl in
       let rest = limits-exact all (done ++ c ∷ []) cs (before ++ x ∷ []) ls (e ∙ sym (append-snoc done c cs)) more (omega arith)
-      (R.second-of (inRange minChance maxChance c) _ h)
+      (tests.second-of (inRange minChance maxChance c) _ h)
       (first-none (itemsRefusal (rule all) (before ++ x ∷ []) ls) [] (z .1) .0) in
       ap₂ (λ (y : ℕ) (ys : List ℕ). y ∷ ys) (own ∙ ap (toBits binary64) (limit-at form times c)) rest

@@ -20,8 +20,11 @@ use Rattle.journal_spec.specs.Scan.{Contents, standing, faulty, contents
 use Rattle.journal_spec.specs.Log.{newline, Lines, rest, line, linesOf, nameIn, digitsIn, decimalFrom, ticksIn, lineGood}
 use Rattle.journal_spec.specs.Log.{Gathered, gathered, misread, takeLine, gatherFrom, gatherOf}
 use Rattle.journal_spec.specs.Request.{Journal, times, Request, gatherBy, timesOf, gatheredTimes, offerOf, declinedAt}
+use Rattle.journal_spec.specs.Request as Q
 use Rattle.journal_spec.specs.Append.{unchanged, appendRefusals, appendTo, appendWith, appendOf}
+use Rattle.journal_spec.specs.Shown.{inLog}
 use Rattle.journal_spec.proofs.Each.{same-lists}
+use Rattle.journal_spec.proofs.Given.{times-given}
 use Rattle.journal_spec.proofs.Lines.{LogLine, lineBytes, logBytes, GoodLine, GoodLines, bytesIn, lines-bytes, partsOf, good-parts}
 use Rattle.journal_spec.proofs.Lines.{NoNewline, clean-line, clean-rest, good-bytes}
 
@@ -50,12 +53,17 @@ unfolding appendTo appendRefusals handedIn
 same-append (faulty n p) j q ts e = refl
 same-append (standing ps committed) j q ts e = rw (same-offer q ts e) (unfold handedIn in refl)
 
-pub log-as-times : (j : Journal) (q : Request) (ts : List ℕ) → timesOf q ≡ gathered ts → appendOf j q ≡ appendOf j (handedIn ts q)
+pub read-as-times : (j : Journal) (q : Request) (ts : List ℕ) → timesOf q ≡ gathered ts → appendOf j q ≡ appendOf j (handedIn ts q)
 unfolding handedIn
-log-as-times j q ts e =
+read-as-times j q ts e =
     sym (append-read j q ts e)
     ∙ same-append (contentsOf (q .rule) (j .slice) (j .len)) j q ts e
     ∙ append-read j (handedIn ts q) ts (unfold timesOf gatherBy in refl)
+
+-- an append through a log that reads ends as that of the times which the log has for the request's own name
+pub log-as-times : (j : Journal) (q : Request) (bs ts : List ℕ) → q .source ≡ Q.log bs → gatherOf (q .name) bs ≡ gathered ts
+    → appendOf j q ≡ appendOf j (handedIn ts q)
+log-as-times j q bs ts s e = read-as-times j q ts (times-given q ts .1 (inLog s e))
 
 -- ---- the times of a name in good lines
 

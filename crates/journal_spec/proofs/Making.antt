@@ -18,7 +18,8 @@ use Rattle.journal_spec.specs.Index.{IndexEntry, indexBytes, inFront, in
 use Rattle.journal_spec.specs.Request.{Journal}
 use Rattle.journal_spec.specs.Append.{judgeIndexRoom}
 use Rattle.journal_spec.specs.MakeIndex.{made, declined, damaged, makeUnless, makeFrom, makeIndexOf}
-use Rattle.journal_spec.specs.MakeIndex.{own, notOwn, faulted, checkFrom, checkIndexOf}
+use Rattle.journal_spec.specs.CheckIndex.{own, checkFrom, checkIndexOf}
+use Rattle.journal_spec.specs.CheckIndex as Check
 use Rattle.journal_spec.specs.Model.{Model, committedOf, breakOf}
 use Rattle.journal_spec.proofs.Each.{same-lists, same-self}
 use Rattle.journal_spec.proofs.Refused.{faulty-said}
@@ -72,7 +73,7 @@ module _ (j : Journal) (b : List ℕ) where
       go (faulty m q) other = unfold makeFrom in refl
 
   -- checking declines as scan does
-  pub check-damaged : (n p : ℕ) → scanned ≡ S.damaged n p → checkIndexOf j b ≡ faulted n p
+  pub check-damaged : (n p : ℕ) → scanned ≡ S.damaged n p → checkIndexOf j b ≡ Check.damaged n p
   unfolding checkIndexOf checkFrom scanOf
   check-damaged n p h = rw (faulty-said (j .len) (contentsOf plain (j .slice) (j .len)) n p h) refl
 
@@ -117,7 +118,7 @@ module _ (room : ℕ) (j : Journal) (m : Model) (h : Holds room j m) (b : List �
   unfolding modelMade
   made-short k = makes room j m h b ∙ rw (lt-leb (length now) (length b) k) refl
 
-  checks : checkIndexOf j b ≡ cond (inFront now b) own notOwn
+  checks : checkIndexOf j b ≡ cond (inFront now b) own (Check.declined 14)
   unfolding checkIndexOf breakOf
   checks =
       let stands : contentsOf plain (j .slice) (j .len) ≡ standing (placedFrom 0 (m .records)) (committedOf m) =
@@ -129,18 +130,22 @@ module _ (room : ℕ) (j : Journal) (m : Model) (h : Holds room j m) (b : List �
   unfolding inFront
   own-exactly = (λ e. by-test (same (take (length now) b) now) refl (sym checks ∙ e), λ e. checks ∙ rw (e, same-self now) refl)
     where
-      by-test : (t : Bool) → same (take (length now) b) now ≡ t → cond t own notOwn ≡ own → take (length now) b ≡ now
+      by-test : (t : Bool) → same (take (length now) b) now ≡ t → cond t own (Check.declined 14) ≡ own → take (length now) b ≡ now
       by-test true s e = same-lists (take (length now) b) now s
       by-test false s e = let z : _≡_ {A = ℕ} 0 1 = cc in absurd (omega arith)
 
-  -- and says that it is not the journal's, number 14, exactly where it does not
-  pub not-own-exactly : (checkIndexOf j b ≡ notOwn) ↔ (take (length now) b ≡ now → ⊥)
+  -- and is declined, by 14, exactly where it does not
+  pub not-own-exactly : (n : ℕ) → (checkIndexOf j b ≡ Check.declined n) ↔ ((n ≡ 14) × (take (length now) b ≡ now → ⊥))
   unfolding inFront
-  not-own-exactly = (
-    λ e f. let g = own-exactly .1 f in let z : _≡_ {A = ℕ} 0 1 = cc in omega arith,
-    λ f. by-test (same (take (length now) b) now) refl f,
+  not-own-exactly n = (
+    λ e. (number (inFront now b) (sym checks ∙ e), λ f. let g = own-exactly .1 f in let z : _≡_ {A = ℕ} 0 1 = cc in omega arith),
+    λ d. rw (d .0) (by-test (same (take (length now) b) now) refl (d .1)),
   )
     where
-      by-test : (t : Bool) → same (take (length now) b) now ≡ t → (take (length now) b ≡ now → ⊥) → checkIndexOf j b ≡ notOwn
+      number : (t : Bool) → cond t own (Check.declined 14) ≡ Check.declined n → n ≡ 14
+      number true e = let z : _≡_ {A = ℕ} 0 1 = cc in absurd (omega arith)
+      number false e = cc
+
+      by-test : (t : Bool) → same (take (length now) b) now ≡ t → (take (length now) b ≡ now → ⊥) → checkIndexOf j b ≡ Check.declined 14
       by-test true s f = absurd (f (same-lists (take (length now) b) now s))
       by-test false s f = checks ∙ rw s refl

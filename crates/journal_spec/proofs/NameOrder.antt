@@ -5,8 +5,8 @@ use Prim.Native.Nat.{ℕ, _<_}
 use mathlib.Core.List.{List, [], _∷_, _++_}
 use native.Mathlib.Omega.{arith}
 use borrow.Author.Tests.{lt-ltb, le-ltb}
+use Rattle.facts.proofs.Orders.{by-order}
 use Rattle.journal_spec.specs.Index.{lower, equal, higher, orderOf}
-use Rattle.journal_spec.proofs.Reading.{by-order}
 
 -- no two of the three
 pub lower-not-equal : lower ≡ equal → ⊥

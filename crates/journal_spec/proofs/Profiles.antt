@@ -7,6 +7,7 @@ use mathlib.Core.Bool.{Bool, true, false, cond}
 use native.Mathlib.Omega.{arith}
 use lib.ListN.{length, take}
 use lib.Dec.{leb, eqb}
+use Rattle.facts.proofs.Tests.{by-test}
 use Rattle.journal_spec.specs.Refusals.{lengthRefusal}
 use Rattle.journal_spec.specs.Reader.{Found, found, fault, short, run}
 use Rattle.journal_spec.specs.Record.{Record, lastOf, recordReader}
@@ -14,7 +15,6 @@ use Rattle.journal_spec.specs.Profile.{Rule, plain, keeps}
 use Rattle.journal_spec.specs.Scan.{maxLength, Placed, recordsOf, Contents, standing, faulty, contentsFrom, contentsOf, ScanResult, whole, torn}
 use Rattle.journal_spec.specs.Scan.{damaged, statusOf, scanOf}
 use Rattle.journal_spec.specs.Read.{partPlace, readPart, readMark}
-use Rattle.journal_spec.proofs.Reading.{by-test}
 use Rattle.journal_spec.proofs.Scanning.{at-short, at-fault, at-found, at-broken, turn-short, turn-fault, turn-found}
 
 -- each of these records keeps the rule

@@ -11,10 +11,12 @@ use lib.ListN.{length, take, getD, length-map}
 use lib.Dec.{leb, ltb, eqb}
 use lib.Ieee.{binary64, toBits}
 use borrow.Author.Tests.{le-leb, leb-true, le-ltb, ltb-false, eq-eqb, eqb-true}
+use Rattle.facts.proofs.Tests.{neither}
 use Rattle.limit.specs.Times.{minTicks, maxTicks, minCount, maxCount, inRange}
 use Rattle.limit.specs.Answer.{chanceRefusal, timesRefusal}
 use Rattle.limit.specs.Limit.{minChance, maxChance, formKnown}
 use Rattle.limit.specs.Formula.{plainForm, sampleForm}
+use Rattle.facts.proofs.Tests as tests
 use Rattle.limit.proofs.InRange as R
 use Rattle.journal_spec.specs.Refusals.{dayRefusal, nameRefusal, limitRefusal, firstOf}
 use Rattle.journal_spec.specs.Section.{sectionRefusal}
@@ -42,30 +44,30 @@ pub name-ranged : (xs : List ℕ) → (nameGood xs ≡ true) ↔ NameRanges xs
 unfolding nameGood
 name-ranged xs = (
   λ h.
-      let n = R.first-of (inRange minName maxName (length xs)) (each (inRange minByte maxByte) xs) h in
-      let b = R.second-of (inRange minName maxName (length xs)) (each (inRange minByte maxByte) xs) h in
+      let n = tests.first-of (inRange minName maxName (length xs)) (each (inRange minByte maxByte) xs) h in
+      let b = tests.second-of (inRange minName maxName (length xs)) (each (inRange minByte maxByte) xs) h in
       record {
         least = R.at-least minName maxName (length xs) n;
         most = R.at-most minName maxName (length xs) n;
         bytes = each-range minByte maxByte xs b;
       },
-  λ g. R.both (R.inside minName maxName (length xs) (g .least) (g .most)) (range-each minByte maxByte xs (g .bytes)),
+  λ g. tests.both (R.inside minName maxName (length xs) (g .least) (g .most)) (range-each minByte maxByte xs (g .bytes)),
 )
 
 pub chance-ranged : (xs : List ℕ) → (chancesGood xs ≡ true) ↔ ChanceRanges xs
 unfolding chancesGood
 chance-ranged xs = (
   λ h.
-      let both = R.first-of (inRange minChances maxChances (length xs) && each (inRange minChance maxChance) xs) (rising xs) h in
-      let n = R.first-of (inRange minChances maxChances (length xs)) (each (inRange minChance maxChance) xs) both in
+      let both = tests.first-of (inRange minChances maxChances (length xs) && each (inRange minChance maxChance) xs) (rising xs) h in
+      let n = tests.first-of (inRange minChances maxChances (length xs)) (each (inRange minChance maxChance) xs) both in
       record {
         least = R.at-least minChances maxChances (length xs) n;
         most = R.at-most minChances maxChances (length xs) n;
-        range = each-range minChance maxChance xs (R.second-of (inRange minChances maxChances (length xs)) _ both);
-        rising = rising-holds xs (R.second-of (inRange minChances maxChances (length xs) && each (inRange minChance maxChance) xs) _ h);
+        range = each-range minChance maxChance xs (tests.second-of (inRange minChances maxChances (length xs)) _ both);
+        rising = rising-holds xs (tests.second-of (inRange minChances maxChances (length xs) && each (inRange minChance maxChance) xs) _ h);
       },
   λ g.
-      R.both (R.both (R.inside minChances maxChances (length xs) (g .least) (g .most)) (range-each minChance maxChance xs (g .range)))
+      tests.both (tests.both (R.inside minChances maxChances (length xs) (g .least) (g .most)) (range-each minChance maxChance xs (g .range)))
       (holds-rising xs (g .rising)),
 )
 
@@ -73,14 +75,14 @@ pub time-ranged : (xs : List ℕ) → (timesGood xs ≡ true) ↔ TimeRanges xs
 unfolding timesGood
 time-ranged xs = (
   λ h.
-      let n = R.first-of (inRange minCount maxCount (length xs)) (each (inRange minTicks maxTicks) xs) h in
-      let b = R.second-of (inRange minCount maxCount (length xs)) (each (inRange minTicks maxTicks) xs) h in
+      let n = tests.first-of (inRange minCount maxCount (length xs)) (each (inRange minTicks maxTicks) xs) h in
+      let b = tests.second-of (inRange minCount maxCount (length xs)) (each (inRange minTicks maxTicks) xs) h in
       record {
         least = R.at-least minCount maxCount (length xs) n;
         most = R.at-most minCount maxCount (length xs) n;
         range = each-range minTicks maxTicks xs b;
       },
-  λ g. R.both (R.inside minCount maxCount (length xs) (g .least) (g .most)) (range-each minTicks maxTicks xs (g .range)),
+  λ g. tests.both (R.inside minCount maxCount (length xs) (g .least) (g .most)) (range-each minTicks maxTicks xs (g .range)),
 )
 
 -- ---- a rule
@@ -92,14 +94,14 @@ rule-ranged profile r = (
   λ h.
       let form : Bool = eqb (r .form) sampleForm in
       let chances : Bool = same (r .chances) profileChances in
-      let both = R.first-of (form && chances) (leb profileTimes (length (r .times))) h in
+      let both = tests.first-of (form && chances) (leb profileTimes (length (r .times))) h in
       record {
-        form = eqb-true (r .form) sampleForm (R.first-of form chances both);
-        chances = same-lists (r .chances) profileChances (R.second-of form chances both);
-        times = leb-true profileTimes (length (r .times)) (R.second-of (form && chances) (leb profileTimes (length (r .times))) h);
+        form = eqb-true (r .form) sampleForm (tests.first-of form chances both);
+        chances = same-lists (r .chances) profileChances (tests.second-of form chances both);
+        times = leb-true profileTimes (length (r .times)) (tests.second-of (form && chances) (leb profileTimes (length (r .times))) h);
       },
   λ k.
-      R.both (R.both (eq-eqb (r .form) sampleForm (k .form)) (rw (k .chances) (same-self profileChances)))
+      tests.both (tests.both (eq-eqb (r .form) sampleForm (k .form)) (rw (k .chances) (same-self profileChances)))
       (le-leb profileTimes (length (r .times)) (k .times)),
 )
 
@@ -150,10 +152,6 @@ even-ranged xs = (
   λ f. holds-each (λ (c : ℕ). leb c evenChance) xs (λ i k. le-leb (getD xs i 0) evenChance (f i k)),
 )
 
-either : (a b : Bool) → (a || b) ≡ false → (a ≡ false) × (b ≡ false)
-either true b h = (h, cc)
-either false b h = (refl, h)
-
 -- room for the record
 pub room-ranged : (room : ℕ) (m : Model) (o : Offer) → let size = committedOf m + length (recordBytes (recordFor o)) in
     (not (noRoom room m o) ≡ true) ↔ ((size ≤ room) × (size ≤ maxLength))
@@ -161,7 +159,7 @@ unfolding noRoom
 room-ranged room m o =
     let size : ℕ = committedOf m + length (recordBytes (recordFor o)) in (
       λ h.
-          let fit = either (ltb room size) (ltb maxLength size) (not-true (ltb room size || ltb maxLength size) .0 h) in
+          let fit = neither (ltb room size) (ltb maxLength size) (not-true (ltb room size || ltb maxLength size) .0 h) in
           (ltb-false room size (fit .0), ltb-false maxLength size (fit .1)),
       λ k. rw (le-ltb room size (k .0), le-ltb maxLength size (k .1)) refl,
     )

@@ -1,6 +1,6 @@
 -- Any refusal writes no byte: a call that is declined, or that finds the journal damaged, leaves every byte of the slice and the length.
 -- And reading refuses as scan does, and then by 10. For every slice and length, whether or not a list of calls leads there. Assumes nothing.
-use mathlib.Core.Path.{_≡_, refl, sym, ap}
+use mathlib.Core.Path.{_≡_, refl, sym, ap, _∙_}
 use Prim.Native.Nat.{ℕ, zero, suc, _≤_, _<_}
 use mathlib.Core.List.{List, [], _∷_}
 use mathlib.Core.Logic.{_⊎_, inl, inr, ⊎-elim}
@@ -13,9 +13,11 @@ use Rattle.journal_spec.specs.Profile.{Rule}
 use Rattle.journal_spec.specs.Scan.{Placed, Contents, standing, faulty, contentsOf, statusOf, scanOf}
 use Rattle.journal_spec.specs.Scan as S
 use Rattle.journal_spec.specs.Read.{noPart, partAt, partOf, partPlace, partBytes, readPart, Mark, markOf, marked, unmarked, markAt, markIn, readMark}
-use Rattle.journal_spec.specs.Log.{Gathered, gathered, misread}
-use Rattle.journal_spec.specs.Request.{Journal, Request, timesOf, AppendResult, extended, declinedAt, damaged, Outcome}
+use Rattle.journal_spec.specs.Log.{Gathered, gathered, misread, gatherOf}
+use Rattle.journal_spec.specs.Request.{Journal, log, Request, timesOf, AppendResult, extended, declinedAt, damaged, Outcome}
 use Rattle.journal_spec.specs.Append.{unchanged, extend, settle, appendTo, appendWith, appendOf}
+use Rattle.journal_spec.specs.Shown.{GivenTimes}
+use Rattle.journal_spec.proofs.Given.{times-given, line-refused}
 
 -- every byte of both buffers and the length are as they were
 pub record Untouched (j : Journal) (before : Option (List ℕ)) (out : Outcome) : Type 0 where
@@ -74,15 +76,15 @@ module _ (j : Journal) (q : Request) where
   refused-untouched other = unread-untouched (timesOf q) j q _ refl other
 
   -- the log's refusal comes first, whatever the journal holds
-  pub log-first : (n p : ℕ) → timesOf q ≡ misread n p → appendOf j q .answer ≡ declinedAt n p
+  pub log-first : (bs : List ℕ) (n p : ℕ) → q .source ≡ log bs → gatherOf (q .name) bs ≡ misread n p → appendOf j q .answer ≡ declinedAt n p
   unfolding appendOf appendWith unchanged
-  log-first n p e = rw e refl
+  log-first bs n p s e = rw (line-refused q n p .1 (record { bytes = bs; isLog = s; refused = e })) refl
 
   -- then the journal's faults, as scan says them, whatever is offered
-  pub faults-first : (ts : List ℕ) → timesOf q ≡ gathered ts → (n p : ℕ) → scanOf (q .rule) (j .slice) (j .len) ≡ S.damaged n p
+  pub faults-first : (ts : List ℕ) → GivenTimes q ts → (n p : ℕ) → scanOf (q .rule) (j .slice) (j .len) ≡ S.damaged n p
       → appendOf j q .answer ≡ damaged n p
   unfolding scanOf appendOf appendWith
-  faults-first ts e n p h = rw e (go (contentsOf (q .rule) (j .slice) (j .len)) h)
+  faults-first ts g n p h = rw (times-given q ts .1 g) (go (contentsOf (q .rule) (j .slice) (j .len)) h)
     where
       go : (x : Contents) → statusOf (j .len) x ≡ S.damaged n p → appendTo x j q .answer ≡ damaged n p
       go (standing ps committed) h = absurd (standing-not-damaged (j .len) ps committed n p h)
@@ -100,6 +102,16 @@ reading-refused rule slice len i n p h = go (contentsOf rule slice len) h
     go : (x : Contents) → statusOf len x ≡ S.damaged n p → (partBytes slice (partOf x i) ≡ []) × (markIn x i ≡ unmarked n)
     go (standing ps committed) h = absurd (standing-not-damaged len ps committed n p h)
     go (faulty m q) h = (unfold partBytes partOf noPart in refl, number m q h)
+
+-- the part stands nowhere: place and number of its bytes are 0
+pub place-refused : (rule : Rule) (slice : List ℕ) (len i n p : ℕ) → scanOf rule slice len ≡ S.damaged n p
+    → partPlace rule slice len i ≡ record { start = 0; size = 0 }
+unfolding scanOf partPlace
+place-refused rule slice len i n p h = go (contentsOf rule slice len) h
+  where
+    go : (x : Contents) → statusOf len x ≡ S.damaged n p → partOf x i ≡ record { start = 0; size = 0 }
+    go (standing ps committed) h = absurd (standing-not-damaged len ps committed n p h)
+    go (faulty m q) h = unfold partOf noPart in refl
 
 -- ---- no such record
 
@@ -153,6 +165,12 @@ module _ (rule : Rule) (slice : List ℕ) (len i n : ℕ) (stands : Stands (scan
         rw (part-absent (s .0) i (omega (arith, s .3))) (unfold partBytes noPart in refl),
         mark-absent (s .0) i (omega (arith, s .3)),
       ))
+
+  pub place-absent : n ≤ i → partPlace rule slice len i ≡ record { start = 0; size = 0 }
+  unfolding scanOf partPlace
+  place-absent h =
+      let s = standing-number len (contentsOf rule slice len) n stands in
+      rw (s .2) (unfold partOf in part-absent (s .0) i (omega (arith, s .3)) ∙ unfold noPart in refl)
 
   -- any other: a mark
   pub reading-present : i < n → (m : Mark) × (readMark rule slice len i ≡ marked m)

@@ -9,10 +9,12 @@ use native.Mathlib.Omega.{arith}
 use lib.ListN.{length, length-map}
 use lib.Dec.{leb, ltb}
 use borrow.Author.Tests.{le-leb, lt-leb, leb-true, lt-ltb, le-ltb, ltb-true}
+use Rattle.facts.proofs.Orders.{by-order}
 use Rattle.limit.specs.Times.{minTicks, maxTicks, minCount, maxCount, inRange}
 use Rattle.limit.specs.Formula.{sampleForm}
 use Rattle.limit.specs.Answer.{chanceRefusal, timesRefusal}
 use Rattle.limit.specs.Limit.{minChance, maxChance, chanceInRange}
+use Rattle.facts.proofs.Tests as tests
 use Rattle.limit.proofs.InRange as R
 use Rattle.journal_spec.specs.Refusals.{nameRefusal, indexRefusal, indexRoomRefusal, evenRefusal, unless, outside, firstOf}
 use Rattle.journal_spec.specs.Section.{itemsRefusal, sectionRefusal}
@@ -28,7 +30,6 @@ use Rattle.journal_spec.specs.Tests.{each, risingFrom, rising, nameGood}
 use Rattle.journal_spec.specs.Model.{Model, committedOf, recordFor, dayFalls, chancesGood}
 use Rattle.journal_spec.specs.Model.{chancesEven, timesGood, noRoom, indexWrong, indexFull, modelRefusals, modelRefusal}
 use Rattle.journal_spec.proofs.Judging.{first-of-two, unless-none, unless-true}
-use Rattle.journal_spec.proofs.Reading.{by-order}
 use Rattle.journal_spec.proofs.Limits.{formulaBits, times-good, limits-are}
 use Rattle.journal_spec.proofs.Records.{length-record}
 use Rattle.journal_spec.proofs.Places.{placedFrom, recordsOf-placed}
@@ -122,7 +123,7 @@ last-most : (x : ℕ) (xs : List ℕ) → risingFrom x xs ≡ true → x ≤ las
 unfolding risingFrom lastChance
 last-most x [] h = omega arith
 last-most x (y ∷ ys) h =
-    omega (arith, ltb-true x y (R.first-of (ltb x y) (risingFrom y ys) h), last-most y ys (R.second-of (ltb x y) (risingFrom y ys) h))
+    omega (arith, ltb-true x y (tests.first-of (ltb x y) (risingFrom y ys) h), last-most y ys (tests.second-of (ltb x y) (risingFrom y ys) h))
 
 -- so that the last one decides
 last-decides : (top x : ℕ) (xs : List ℕ) → risingFrom x xs ≡ true → leb (lastChance (x ∷ xs)) top ≡ each (λ (c : ℕ). leb c top) (x ∷ xs)
@@ -133,7 +134,7 @@ last-decides top x [] h = both-true (leb x top)
     both-true true = refl
     both-true false = refl
 last-decides top x (y ∷ ys) h =
-    let r = R.second-of (ltb x y) (risingFrom y ys) h in
+    let r = tests.second-of (ltb x y) (risingFrom y ys) h in
     let first : x ≤ lastChance (x ∷ y ∷ ys) = last-most x (y ∷ ys) h in
     last-decides top y ys r
     ∙ absorb (each (λ (c : ℕ). leb c top) (y ∷ ys))
@@ -152,7 +153,7 @@ unfolding judgeEven chancesEven
 even-refused xs h = ap (λ (b : Bool). unless b evenRefusal) (go xs (rises-of xs h))
   where
     rises-of : (xs : List ℕ) → chancesGood xs ≡ true → rising xs ≡ true
-    rises-of xs h = unfold chancesGood in R.second-of (inRange minChances maxChances (length xs) && each (inRange minChance maxChance) xs) (rising xs) h
+    rises-of xs h = unfold chancesGood in tests.second-of (inRange minChances maxChances (length xs) && each (inRange minChance maxChance) xs) (rising xs) h
 
     go : (xs : List ℕ) → rising xs ≡ true → leb (lastChance xs) evenChance ≡ each (λ (c : ℕ). leb c evenChance) xs
     go [] h = unfold each lastChance in refl
@@ -193,8 +194,8 @@ same-rows (n ∷ ns) (suc m ∷ ms) h = rw (h .0) refl
 pub chances-each : (xs : List ℕ) → chancesGood xs ≡ true → each (inRange minChance maxChance) xs ≡ true
 unfolding chancesGood
 chances-each xs h =
-    R.second-of (inRange minChances maxChances (length xs)) (each (inRange minChance maxChance) xs)
-    (R.first-of (inRange minChances maxChances (length xs) && each (inRange minChance maxChance) xs) (rising xs) h)
+    tests.second-of (inRange minChances maxChances (length xs)) (each (inRange minChance maxChance) xs)
+    (tests.first-of (inRange minChances maxChances (length xs) && each (inRange minChance maxChance) xs) (rising xs) h)
 
 -- the record that append writes and the model's are of one length
 pub same-length : (o : Offer) → length (recordBytes (offered o)) ≡ length (recordBytes (recordFor o))

@@ -11,6 +11,8 @@ use lib.ListN.{length, take, drop, length-append, length-drop, length-map, take-
 use lib.Seq.{append-snoc, take-add, take-at, drop-at, drop-drop, length-take-le}
 use lib.Dec.{leb}
 use borrow.Author.Tests.{leb-true, leb-false, eq-eqb, ne-eqb}
+use Rattle.facts.proofs.Tests.{by-test}
+use Rattle.facts.proofs.Orders.{by-order}
 use Rattle.journal_spec.specs.Bytes.{AreBytes, joined}
 use Rattle.journal_spec.specs.Refusals.{profileRefusal}
 use Rattle.journal_spec.specs.Reader.{Found, found, fault, short, run}
@@ -22,7 +24,7 @@ use Rattle.journal_spec.specs.Ranges.{Keeps, RecordRanges, AllRanges}
 use Rattle.journal_spec.specs.Fields.{recordFields, FieldRefused, RunsOut}
 use Rattle.journal_spec.specs.Scanned.{AllKeep, Upto, Fits, Scanned, tooLong, refusedField, brokenRule, wholeRecords, tornRecord}
 use Rattle.journal_spec.proofs.Numbers.{bytes-take, bytes-drop}
-use Rattle.journal_spec.proofs.Reading.{by-order, by-test, drop-take, field-short, short-not-fault, found-not-fault}
+use Rattle.journal_spec.proofs.Reading.{drop-take, field-short, short-not-fault, found-not-fault}
 use Rattle.journal_spec.proofs.Records.{record-read}
 use Rattle.journal_spec.proofs.Ranged.{rule-ranged, good-exactly, reads-back, encoding-length}
 use Rattle.journal_spec.proofs.Fields.{same-fields, fault-exactly, short-exactly}

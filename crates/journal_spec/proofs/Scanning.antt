@@ -10,6 +10,7 @@ use native.Mathlib.Nat.{add-zero, add-assoc, zero-add, add-sub-cancel-left}
 use lib.ListN.{length, take, length-append}
 use lib.Seq.{append-snoc}
 use borrow.Author.Tests.{le-leb, lt-leb}
+use Rattle.facts.proofs.Tests.{by-test}
 use Rattle.limit.specs.Formula.{sampleForm}
 use Rattle.journal_spec.specs.Bytes.{joined}
 use Rattle.journal_spec.specs.Refusals.{lengthRefusal, profileRefusal}
@@ -19,7 +20,7 @@ use Rattle.journal_spec.specs.Scan.{maxLength, Placed, recordsOf, Conten
 use Rattle.journal_spec.specs.Profile.{Rule, plain, keeps}
 use Rattle.journal_spec.specs.Model.{breakFrom}
 use Rattle.journal_spec.specs.Ranges.{RecordRanges, AllRanges}
-use Rattle.journal_spec.proofs.Reading.{by-test, field-short, found-not-fault, found-not-short, short-not-fault}
+use Rattle.journal_spec.proofs.Reading.{field-short, found-not-fault, found-not-short, short-not-fault}
 use Rattle.journal_spec.proofs.Ranged.{reads-back, encoding-length}
 use Rattle.journal_spec.proofs.Places.{placedFrom}
 

@@ -11,7 +11,7 @@ use native.Mathlib.Nat.{zero-add}
 use lib.ListN.{getD, length, length-append}
 use lib.Dec.{leb}
 use borrow.Author.Tests.{le-leb, leb-true}
-use Rattle.limit.proofs.InRange as R
+use Rattle.facts.proofs.Tests as tests
 use Rattle.journal_spec.specs.Reader.{found, run}
 use Rattle.journal_spec.specs.Record.{Last, lastOf, recordReader}
 use Rattle.journal_spec.specs.Record.{Record, recordBytes}
@@ -100,8 +100,8 @@ unfolding finishes
 finishes-exactly room m c = (
   λ h.
       let t = taken-exactly room m (c .request) .0
-      (was-taken (verdictOf room m (c .request)) (R.first-of (isTaken (verdictOf room m (c .request))) _ h)) in
-      let last = leb-true (length (recordBytes (recordOf c))) (budgetOf c) (R.second-of (isTaken (verdictOf room m (c .request))) _ h) in
+      (was-taken (verdictOf room m (c .request)) (tests.first-of (isTaken (verdictOf room m (c .request))) _ h)) in
+      let last = leb-true (length (recordBytes (recordOf c))) (budgetOf c) (tests.second-of (isTaken (verdictOf room m (c .request))) _ h) in
       record { takes = t; reaches = rw (record-is c (t .content) (t .given)) (budget-reaches c .0 last) },
   λ f.
       let last = budget-reaches c .1 (rw (record-is c (f .takes .content) (f .takes .given)) at (f .reaches)) in

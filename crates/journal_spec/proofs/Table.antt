@@ -10,9 +10,10 @@ use native.Mathlib.Omega.{arith}
 use lib.ListN.{length, take, drop, getD, length-drop}
 use lib.Dec.{leb, eqb}
 use borrow.Author.Tests.{eqb-true, eq-eqb}
+use Rattle.facts.proofs.Orders.{by-order}
 use Rattle.limit.specs.Answer.{LimitResult, limited, refused}
 use Rattle.limit.specs.Limit.{limitOf}
-use Rattle.limit.proofs.InRange as R
+use Rattle.facts.proofs.Tests as tests
 use Rattle.journal_spec.specs.Bytes.{valueOf}
 use Rattle.journal_spec.specs.Refusals.{profileRefusal, unless, outside, among, firstOf}
 use Rattle.journal_spec.specs.Reader.{Reader, done, field, then, Found, found, fault, short, run}
@@ -32,7 +33,7 @@ use Rattle.journal_spec.specs.Append.{appendWith}
 use Rattle.journal_spec.specs.Append.{appendOf}
 use Rattle.journal_spec.specs.Tests.{each, nameGood}
 use Rattle.journal_spec.specs.Model.{chancesGood, timesGood}
-use Rattle.journal_spec.proofs.Reading.{by-order, field-cases, found-not-fault, run-left}
+use Rattle.journal_spec.proofs.Reading.{field-cases, found-not-fault, run-left}
 use Rattle.journal_spec.proofs.Scanning.{found-at, contents-fits, contents-long, turn-short, turn-fault, turn-found}
 use Rattle.journal_spec.proofs.Refused.{standing-not-damaged}
 use Rattle.journal_spec.proofs.SameRefusals.{name-refused, chance-refused, time-refused}
@@ -233,10 +234,10 @@ scan-number rule slice len n p h = by-contents (contentsOf rule slice len) refl 
 pub among-each : (test : ℕ → Bool) (table : List ℕ) (n : ℕ) → each test table ≡ true → Among table n → test n ≡ true
 unfolding each among
 among-each test [] n h a = let z : _≡_ {A = ℕ} 0 1 = cc in absurd (omega arith)
-among-each test (m ∷ ms) n h a = go (among-each test ms n (R.second-of (test m) (each test ms) h)) (eqb m n) refl
+among-each test (m ∷ ms) n h a = go (among-each test ms n (tests.second-of (test m) (each test ms) h)) (eqb m n) refl
   where
     go : (Among ms n → test n ≡ true) → (b : Bool) → eqb m n ≡ b → test n ≡ true
-    go later true e = rw (eqb-true m n e) at (R.first-of (test m) (each test ms) h)
+    go later true e = rw (eqb-true m n e) at (tests.first-of (test m) (each test ms) h)
     go later false e = later (rw e at a)
 
 -- a number that the table does not have is no damaged journal's

@@ -9,6 +9,7 @@ use native.Mathlib.Omega.{arith}
 use lib.ListN.{length, take, drop}
 use lib.Seq.{take-at}
 use lib.Dec.{leb}
+use Rattle.facts.proofs.Tests.{by-test}
 use Rattle.journal_spec.specs.Refusals.{indexRefusal, unless, firstOf}
 use Rattle.journal_spec.specs.Bytes.{bytesOf, joined}
 use Rattle.journal_spec.specs.Record.{Record, recordBytes}
@@ -20,7 +21,6 @@ use Rattle.journal_spec.specs.Calls.{operations, Call, emptyIn, perform,
 use Rattle.journal_spec.specs.Model.{Model, emptyModel, indexWrong, modelRefusals, modelRefusal, breakOf, Verdict, taken, turned, byNumber, byLog}
 use Rattle.journal_spec.specs.Model.{byBreak, firstTurned, verdictOf, Entry, refreshed, enterRecord, enterBy, enter}
 use Rattle.journal_spec.specs.Shown.{budgetOf, recordOf}
-use Rattle.journal_spec.proofs.Reading.{by-test}
 use Rattle.journal_spec.proofs.Each.{same-self}
 use Rattle.journal_spec.proofs.Demand.{Holds, start, step}
 use Rattle.journal_spec.proofs.Shown.{enter-is}

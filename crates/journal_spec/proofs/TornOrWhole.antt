@@ -12,6 +12,7 @@ use lib.ListN.{length, take, length-append}
 use lib.Seq.{length-take-le}
 use lib.Dec.{eqb}
 use borrow.Author.Tests.{le-leb, lt-leb, ne-eqb}
+use Rattle.facts.proofs.Orders.{by-order}
 use Rattle.journal_spec.specs.Record.{Record, recordBytes}
 use Rattle.journal_spec.specs.Profile.{plain}
 use Rattle.journal_spec.specs.Scan.{ScanResult, whole, torn, scanOf}
@@ -22,7 +23,6 @@ use Rattle.journal_spec.specs.Model.{refreshed, enter, modelAfter}
 use Rattle.journal_spec.specs.Index.{freshIndex}
 use Rattle.journal_spec.specs.Shown.{budgetOf, recordOf, Takes, AllDeclined}
 use Rattle.journal_spec.specs.Demand.{endOf}
-use Rattle.journal_spec.proofs.Reading.{by-order}
 use Rattle.journal_spec.proofs.Records.{length-record}
 use Rattle.journal_spec.proofs.Given.{record-is, budget-all, budget-upto}
 use Rattle.journal_spec.proofs.Verdicts.{taken-exactly}

@@ -20,6 +20,7 @@ pub mod Read
 pub mod Request
 pub mod Append
 pub mod MakeIndex
+pub mod CheckIndex
 -- demand 3: the list of calls, the model, the ranges, the statement, and the words of its sentence
 pub mod Calls
 pub mod Model
@@ -31,6 +32,5 @@ pub mod Fields
 pub mod Scanned
 -- what came before document 02's requests, for the laws about old journals
 pub mod Former
--- for private contracts: the record's reader from each of its parts on, and an index entry by entry
+-- for private contracts: the record's reader from each of its parts on
 pub mod Stages
-pub mod NextEntry

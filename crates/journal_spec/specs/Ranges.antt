@@ -18,6 +18,10 @@ use Rattle.journal_spec.specs.Model.{Model, committedOf, workedOut}
 abbrev pub Each : ℕ → ℕ → List ℕ → Type 0
 Each low high xs = (i : ℕ) → i < length xs → (low ≤ getD xs i 0) × (getD xs i 0 ≤ high)
 
+-- all of them are the same number
+abbrev pub AllSame : List ℕ → Type 0
+AllSame xs = (i j : ℕ) → i < length xs → j < length xs → getD xs i 0 ≡ getD xs j 0
+
 -- 1 to 32 bytes, each 21 to 7e
 pub record NameRanges (name : List ℕ) : Type 0 where
   pub least : 1 ≤ length name

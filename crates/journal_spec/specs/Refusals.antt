@@ -1,6 +1,6 @@
 -- Document 01's table of refusals: the numbers that crate `limit` does not define, and how a refusal is found.
 -- A refusal is its number, from 1 up; 0 stands for none. 2, 5 and 6 are `formRefusal`, `chanceRefusal` and `timesRefusal` of `limit`.
--- 8, a limit not finite, is none any more and is not used again (document 02, 2026-06): `finite-limits`, crate finite.
+-- 8, a limit not finite, is none any more and is not used again (document 02, 2026-06): `finite-limits`, crate law_finite.
 use Prim.Native.Nat.{ℕ, zero, suc}
 use mathlib.Core.List.{List, [], _∷_}
 use mathlib.Core.Bool.{Bool, false, cond, _||_}

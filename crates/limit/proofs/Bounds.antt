@@ -7,8 +7,9 @@ use Prim.Native.Nat.{ℕ, _*_, _≤_}
 use native.Mathlib.Nat.{mul-le-mul-right}
 use native.Mathlib.Omega.{arith}
 use lib.ListN.{length}
+use Rattle.facts.proofs.Tests.{both, first-of, second-of}
 use Rattle.limit.specs.Times.{minTicks, maxTicks, timeInRange, allInRange, sumOf, squaresOf}
-use Rattle.limit.proofs.InRange.{both, first-of, second-of, at-least, at-most}
+use Rattle.limit.proofs.InRange.{at-least, at-most}
 
 pub time-at-least : (t : ℕ) → timeInRange t ≡ true → minTicks ≤ t
 unfolding timeInRange

@@ -33,7 +33,7 @@ answered mean spread quantile limit =
       limit = ofBits binary64 limit;
     })
 
--- 100, 10 and the quantile of one chance in a million, the Rust's (tools/journal_quantiles).
+-- 100, 10 and the quantile of one chance in a million, the Rust's (tools/leaf-quantiles).
 abbrev hundred : ℕ
 hundred = 0x4059_0000_0000_0000
 

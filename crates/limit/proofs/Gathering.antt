@@ -8,11 +8,12 @@ use native.Mathlib.Numerals.{add-one}
 use native.Mathlib.Omega.{arith}
 use lib.ListN.{length, getD, take}
 use lib.Seq.{take-suc, take-all, length-take-le}
+use Rattle.facts.proofs.Tests.{second-fails}
 use Rattle.limit.specs.declared.sums.Sums.{Sums}
 use Rattle.limit.specs.declared.sums.Gathered.the-variants.{Within, Outside}
 use Rattle.limit.specs.Times.{minCount, maxCount, inRange, timeInRange, allInRange, timesInRange, sumOf, squaresOf}
 use Rattle.limit.specs.Sums.{sumsOf, noTimes, addTime, gatheredMeaning, gatherOf}
-use Rattle.limit.proofs.InRange.{second-fails, at-most}
+use Rattle.limit.proofs.InRange.{at-most}
 use Rattle.limit.proofs.Bounds.{time-at-most, all-append}
 use Rattle.limit.proofs.Adding.{add-one-time}
 

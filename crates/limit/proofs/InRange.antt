@@ -1,26 +1,12 @@
 -- What the range test says, in both directions, and what a conjunction of tests says.
 -- Assumes nothing.
-use mathlib.Core.Path.{_≡_, refl}
-use mathlib.Core.Bool.{Bool, true, false, _&&_}
+use mathlib.Core.Path.{_≡_}
+use mathlib.Core.Bool.{true, false}
 use Prim.Native.Nat.{ℕ, _≤_, _<_}
 use lib.Dec.{leb}
 use borrow.Author.Tests.{le-leb, lt-leb, leb-true}
+use Rattle.facts.proofs.Tests.{both, first-of, second-of, second-fails}
 use Rattle.limit.specs.Times.{inRange}
-
-pub both : {a b : Bool} → a ≡ true → b ≡ true → a && b ≡ true
-both e d = rw (e, d)
-
-pub first-of : (a b : Bool) → a && b ≡ true → a ≡ true
-first-of true b e = refl
-first-of false b e = e
-
-pub second-of : (a b : Bool) → a && b ≡ true → b ≡ true
-second-of true b e = e
-second-of false b e = cc
-
-pub second-fails : (a b : Bool) → b ≡ false → a && b ≡ false
-second-fails true b e = e
-second-fails false b e = refl
 
 module _ (low high x : ℕ) where
   pub inside : low ≤ x → x ≤ high → inRange low high x ≡ true

@@ -7,10 +7,11 @@ use Prim.Native.Nat.{ℕ, _*_, _≤_}
 use lib.Dec.{leb}
 use lib.ListN.{length}
 use borrow.Author.Tests.{le-leb, leb-true}
+use Rattle.facts.proofs.Tests.{both, first-of, second-of}
 use Rattle.limit.specs.declared.sums.Sums.{Sums}
 use Rattle.limit.specs.Times.{minTicks, maxTicks, minCount, maxCount, inRange, allInRange, timesInRange}
 use Rattle.limit.specs.Sums.{sumsOf, isPlausible}
-use Rattle.limit.proofs.InRange.{both, first-of, second-of, inside, at-least, at-most}
+use Rattle.limit.proofs.InRange.{inside, at-least, at-most}
 use Rattle.limit.proofs.Cauchy.{cauchy-schwarz}
 use Rattle.limit.proofs.Bounds.{sum-at-least, sum-at-most, squares-at-most}
 

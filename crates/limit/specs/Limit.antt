@@ -28,7 +28,7 @@ maxChance = 999_999
 unfoldable pub chanceInRange : ℕ → Bool
 chanceInRange = inRange minChance maxChance
 
--- The order of the refusals: the form, then the chance, then the times. What is then worked out is finite (`finite-limits`, crate finite), so
+-- The order of the refusals: the form, then the chance, then the times. What is then worked out is finite (`finite-limits`, crate law_finite), so
 -- that nothing is refused of it (document 02, 2026-06).
 unfoldable pub judge : Bool → Bool → Bool → Figures → LimitResult
 judge formGood chanceGood timesGood f =

@@ -1,2 +1,2 @@
--- The program's proofs need no law of its own: those of the listing stand in crate listing.
+-- The program's proofs need no law of its own: those of the listing stand in crate journal_listing.
 -- Assumes nothing.

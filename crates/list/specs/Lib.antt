@@ -1,2 +1,2 @@
--- No definitions: the program is thin over crate listing.
+-- No definitions: the program is thin over crate journal_listing.
 -- Assumes nothing.

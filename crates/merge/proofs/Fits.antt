@@ -6,35 +6,32 @@ use mathlib.Core.List.{List}
 use native.Mathlib.Omega.{arith}
 use lib.ListN.{length}
 use Rattle.journal_spec.specs.Record.{Record, recordsBytes}
-use Rattle.journal_spec.specs.Profile.{plain}
-use Rattle.journal_spec.specs.Scan.{scanOf}
 use Rattle.journal_spec.specs.Append.{written}
 use Rattle.journal_spec.specs.Cursor.{recordsUpto}
 use Rattle.journal_spec.proofs.Placing.{written-length, lengths-are}
-use Rattle.merge_spec.specs.Records.{mergedOf}
-use Rattle.merge_spec.specs.Merge.{MergeResult, merged, damaged, endsTorn, falls, noRoom, MergeOutcome, mergeOf}
-use Rattle.merge_spec.proofs.Rows.{accepted}
-use Rattle.merging.specs.declared.Merged.{Merged}
-use Rattle.merging.specs.Answers.{answerOf, outcomeOf}
+use Rattle.journal_merge_spec.specs.Records.{mergedOf}
+use Rattle.journal_merge_spec.specs.Merge.{MergeResult, merged, damaged, declinedOf, declinedAt, declined, MergeOutcome, mergeOf}
+use Rattle.journal_merge_spec.proofs.Answers.{answered}
+use Rattle.journal_merge.specs.declared.Merged.{Merged}
+use Rattle.journal_merge.specs.Answers.{answerOf, outcomeOf}
 use Rattle.merge.specs.Made.{sizeOf}
 
 module _ (a : List ℕ) (la : ℕ) (b : List ℕ) (lb : ℕ) (buffer : List ℕ) where
   length-fits : (n : ℕ) → mergeOf a la b lb buffer .answer ≡ merged n → n ≤ length (mergeOf a la b lb buffer .buffer)
-  unfolding mergeOf
   length-fits n h =
       let rs : List Record = mergedOf (recordsUpto a la) (recordsUpto b lb) in
-      let x = accepted rs buffer (scanOf plain a la) (scanOf plain b lb) n h in
+      let x = answered a la b lb buffer (merged n) h in
       let size : length (written buffer 0 (recordsBytes rs)) ≡ length buffer =
-      written-length buffer 0 (recordsBytes rs) (omega (arith, x .0 .room, lengths-are rs)) in
-      omega (arith, x .1, x .0 .room, size, ap (λ (o : MergeOutcome). length (o .buffer)) (x .0 .outcome))
+      written-length buffer 0 (recordsBytes rs) (omega (arith, x .0 .4 .0, lengths-are rs)) in
+      omega (arith, x .0 .0, x .0 .4 .0, size, ap (λ (o : MergeOutcome). length (o .buffer)) (x .1))
 
   answer-fits : (x : MergeResult) → mergeOf a la b lb buffer .answer ≡ x → sizeOf x ≤ length (mergeOf a la b lb buffer .buffer)
   unfolding sizeOf
   answer-fits (merged n) h = length-fits n h
   answer-fits (damaged w n p) h = omega arith
-  answer-fits (endsTorn w) h = omega arith
-  answer-fits (falls p) h = omega arith
-  answer-fits noRoom h = omega arith
+  answer-fits (declinedOf w n) h = omega arith
+  answer-fits (declinedAt n p) h = omega arith
+  answer-fits (declined n) h = omega arith
 
   pub size-fits : (after : List ℕ) (r : Merged) → outcomeOf r after ≡ mergeOf a la b lb buffer → sizeOf (answerOf r) ≤ length after
   unfolding outcomeOf

@@ -4,8 +4,8 @@ use mathlib.Core.Path.{_≡_, sym, ap, _∙_}
 use Prim.Native.Nat.{ℕ}
 use mathlib.Core.List.{List, [], _∷_, _++_, append-assoc}
 use Rattle.journal_spec.specs.Log.{space, newline}
-use Rattle.listing.specs.Listing.{spaced, lineOf}
-use Rattle.listing.proofs.Texts.{words-line}
+use Rattle.journal_listing.specs.Listing.{spaced, lineOf}
+use Rattle.journal_listing.proofs.Texts.{words-line}
 
 module _ (w n : List ℕ) where
   -- behind a word and a number

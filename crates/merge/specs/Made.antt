@@ -2,18 +2,18 @@
 -- Assumes nothing.
 use Prim.Native.Nat.{ℕ}
 use mathlib.Core.Bool.{Bool, true, false}
-use Rattle.merge_spec.specs.Merge.{MergeResult, merged, damaged, endsTorn, falls, noRoom}
+use Rattle.journal_merge_spec.specs.Merge.{MergeResult, merged, damaged, declinedOf, declinedAt, declined}
 
 unfoldable pub isLength : MergeResult → Bool
 isLength (merged n) = true
 isLength (damaged w n p) = false
-isLength (endsTorn w) = false
-isLength (falls p) = false
-isLength noRoom = false
+isLength (declinedOf w n) = false
+isLength (declinedAt n p) = false
+isLength (declined n) = false
 
 unfoldable pub sizeOf : MergeResult → ℕ
 sizeOf (merged n) = n
 sizeOf (damaged w n p) = 0
-sizeOf (endsTorn w) = 0
-sizeOf (falls p) = 0
-sizeOf noRoom = 0
+sizeOf (declinedOf w n) = 0
+sizeOf (declinedAt n p) = 0
+sizeOf (declined n) = 0

@@ -2,9 +2,9 @@
 -- whose end is torn; or `damaged`, number and place, and whose fault it is.
 use Prim.Native.Nat.{ℕ}
 use mathlib.Core.List.{List, [], _∷_}
-use Rattle.hex.specs.Hex.{decimalDigits}
-use Rattle.listing.specs.Listing.{lineOf, wordDamaged, wordDeclined}
-use Rattle.merge_spec.specs.Merge.{Whose, ofFirst, ofSecond, MergeResult, merged, damaged, endsTorn, falls, noRoom, numberOf}
+use Rattle.text_digits.specs.Hex.{decimalDigits}
+use Rattle.journal_listing.specs.Listing.{lineOf, wordDamaged, wordDeclined}
+use Rattle.journal_merge_spec.specs.Merge.{Whose, ofFirst, ofSecond, MergeResult, merged, damaged, declinedOf, declinedAt, declined}
 
 -- the word `merged`
 unfoldable pub wordMerged : List ℕ
@@ -18,7 +18,7 @@ whoseWord ofSecond = 0x73 ∷ 0x65 ∷ 0x63 ∷ 0x6f ∷ 0x6e ∷ 0x64 ∷ []
 -- the line
 unfoldable pub verdictLine : MergeResult → List ℕ
 verdictLine (merged n) = lineOf (wordMerged ∷ decimalDigits n ∷ [])
-verdictLine noRoom = lineOf (wordDeclined ∷ decimalDigits (numberOf noRoom) ∷ [])
-verdictLine (falls p) = lineOf (wordDeclined ∷ decimalDigits (numberOf (falls p)) ∷ decimalDigits p ∷ [])
-verdictLine (endsTorn w) = lineOf (wordDeclined ∷ decimalDigits (numberOf (endsTorn w)) ∷ whoseWord w ∷ [])
+verdictLine (declined n) = lineOf (wordDeclined ∷ decimalDigits n ∷ [])
+verdictLine (declinedAt n p) = lineOf (wordDeclined ∷ decimalDigits n ∷ decimalDigits p ∷ [])
+verdictLine (declinedOf w n) = lineOf (wordDeclined ∷ decimalDigits n ∷ whoseWord w ∷ [])
 verdictLine (damaged w n p) = lineOf (wordDamaged ∷ decimalDigits n ∷ decimalDigits p ∷ whoseWord w ∷ [])

@@ -6,7 +6,7 @@ pub(crate) fn write_new(result: &[u8]) -> bool {
     let mut path = io::buffer();
     let size = os::arg(3, &mut path);
     if size == 0 {
-        arguments::complain(
+        command_io::complain(
             b"merge: ",
             b"OUT: an empty name, or one of more than 4096 bytes",
         );
@@ -19,18 +19,18 @@ pub(crate) fn write_new(result: &[u8]) -> bool {
 fn write_at(path: &[u8], result: &[u8]) -> bool {
     let fd = os::create(path);
     if fd < 0 {
-        arguments::fail_file(b"merge: ", path);
+        command_io::fail_file(b"merge: ", path);
         return false;
     }
     if write_synced(fd, result) {
-        if arguments::sync_folder(b"merge: ", path) {
+        if command_io::sync_folder(b"merge: ", path) {
             return true;
         }
     } else {
-        arguments::fail_file(b"merge: ", path);
+        command_io::fail_file(b"merge: ", path);
     }
     if os::unlink(path) != 0 {
-        arguments::fail_file(b"merge: ", path);
+        command_io::fail_file(b"merge: ", path);
     }
     false
 }

@@ -3,10 +3,10 @@
 ghost use mathlib.Core.Path.{_≡_};
 ghost use Prim.Native.Nat.{_≤_};
 ghost use lib.ListN.{length};
-ghost use Rattle.merge_spec.specs.Merge.{mergeOf};
-ghost use Rattle.merging.specs.Answers.{answerOf, outcomeOf};
+ghost use Rattle.journal_merge_spec.specs.Merge.{mergeOf};
+ghost use Rattle.journal_merge.specs.Answers.{answerOf, outcomeOf};
 ghost use Rattle.merge.specs.Made.{sizeOf, isLength};
-use merging::Merged;
+use journal_merge::Merged;
 
 // The answer, whether a result is made, and how many bytes it takes at the buffer's front, 0 where none is made.
 pub(crate) struct Made {
@@ -29,7 +29,7 @@ pub(crate) fn merged(first: &[u8], second: &[u8], out: &mut [u8]) -> Made
     ensures { λ r. ⌜ (r .«is_made» ≡ isLength (answerOf (r .answer))) × (r .size ≡ sizeOf (answerOf (r .answer))) ⌝ }
     ensures { λ r. ⌜ r .size ≤ length (now (out .exit)) ⌝ }
 {
-    let answer = merging::merge(first, first.len(), second, second.len(), out);
+    let answer = journal_merge::merge(first, first.len(), second, second.len(), out);
     let size = size_of(answer);
     let is_made = is_length(answer);
     Made {
@@ -46,9 +46,12 @@ fn size_of(m: Merged) -> usize
     match m {
         Merged::Length(n) => n,
         Merged::Damaged { whose: _, fault: _ } => 0,
-        Merged::Torn(_) => 0,
-        Merged::Falls(_) => 0,
-        Merged::NoRoom => 0,
+        Merged::DeclinedOf {
+            whose: _,
+            number: _,
+        } => 0,
+        Merged::DeclinedAt(_) => 0,
+        Merged::Declined(_) => 0,
     }
 }
 
@@ -59,8 +62,11 @@ fn is_length(m: Merged) -> bool
     match m {
         Merged::Length(_) => true,
         Merged::Damaged { whose: _, fault: _ } => false,
-        Merged::Torn(_) => false,
-        Merged::Falls(_) => false,
-        Merged::NoRoom => false,
+        Merged::DeclinedOf {
+            whose: _,
+            number: _,
+        } => false,
+        Merged::DeclinedAt(_) => false,
+        Merged::Declined(_) => false,
     }
 }

@@ -10,11 +10,11 @@ fn main() {
         output::usage();
         return;
     }
-    if !arguments::streams_are_open(b"merge: ") {
+    if !command_io::streams_are_open(b"merge: ") {
         return;
     }
-    let mut room = arguments::input_room();
-    let read = arguments::read_argument(
+    let mut room = command_io::input_room();
+    let read = command_io::read_argument(
         b"merge: ",
         1,
         b"FIRST: an empty name, or one of more than 4096 bytes",
@@ -28,8 +28,8 @@ fn main() {
 
 // The second journal, where the first is read.
 fn merge_with(first: &[u8]) {
-    let mut room = arguments::input_room();
-    let read = arguments::read_argument(
+    let mut room = command_io::input_room();
+    let read = command_io::read_argument(
         b"merge: ",
         2,
         b"SECOND: an empty name, or one of more than 4096 bytes",

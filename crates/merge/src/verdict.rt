@@ -1,18 +1,18 @@
 // The verdict of a merge as a line of text, put at the front of a lent buffer.
 // Its words stand in the order of the answer's words for C: case, number, place, whose.
 ghost use mathlib.Core.List.{[], _∷_, _++_};
-ghost use Rattle.hex.specs.Text.{Put};
+ghost use Rattle.text_digits.specs.Text.{Put};
 ghost use Rattle.journal_spec.specs.Log.{space, newline};
-ghost use Rattle.merge_spec.specs.Merge.{damaged, endsTorn};
-ghost use Rattle.merging.specs.Answers.{whoseOf, answerOf};
+ghost use Rattle.journal_merge_spec.specs.Merge.{damaged, declinedOf};
+ghost use Rattle.journal_merge.specs.Answers.{whoseOf, answerOf};
 ghost use Rattle.merge.specs.Verdict.{whoseWord, verdictLine};
-use hex::put;
 use journal::Fault;
-use listing::put_number;
-use listing::put_word;
-use listing::put_words;
-use merging::Merged;
-use merging::Whose;
+use journal_listing::put_number;
+use journal_listing::put_word;
+use journal_listing::put_words;
+use journal_merge::Merged;
+use journal_merge::Whose;
+use text_digits::put;
 
 // Writes the line, and answers how many bytes it takes.
 pub fn verdict_line(m: Merged, out: &mut [u8]) -> usize
@@ -20,19 +20,19 @@ pub fn verdict_line(m: Merged, out: &mut [u8]) -> usize
 {
     match m {
         Merged::Length(n) => put_word(out, b"merged", n as u64),
-        Merged::NoRoom => put_word(out, b"declined", 9),
-        Merged::Falls(place) => put_words(out, b"declined", 13, place as u64),
-        Merged::Torn(whose) => put_torn(out, whose),
+        Merged::Declined(number) => put_word(out, b"declined", number as u64),
+        Merged::DeclinedAt(f) => put_words(out, b"declined", f.number as u64, f.place as u64),
+        Merged::DeclinedOf { whose, number } => put_torn(out, number, whose),
         Merged::Damaged { whose, fault } => put_damage(out, fault, whose),
     }
 }
 
-// 16 and whose end is torn.
-fn put_torn(out: &mut [u8], w: Whose) -> usize
-    ensures { λ r. ⌜ Put (now (out .entry)) 0 (verdictLine (endsTorn (whoseOf w))) (now (out .exit)) r ⌝ }
+// The number and whose end is torn.
+fn put_torn(out: &mut [u8], number: u32, w: Whose) -> usize
+    ensures { λ r. ⌜ Put (now (out .entry)) 0 (verdictLine (declinedOf (whoseOf w) number)) (now (out .exit)) r ⌝ }
 {
     let p = put(out, 0, b"declined");
-    let q = put_number(out, p, 16);
+    let q = put_number(out, p, number as u64);
     put_whose(out, q, w)
 }
 

@@ -11,8 +11,8 @@ use lib.Ieee.{Float, nan, inf, fin, binary64, size, fits, toBits}
 use lib.Ieee.Digits.{size-le, size-reaches}
 use lib.Ieee.Exact.{HasValue}
 use lib.Ieee.Fits.{kept-lt}
-use Rattle.sqrt.proofs.Digits.{size-above}
-use Rattle.sqrt.proofs.Patterns.{pattern, bits-of-units}
+use Rattle.double_bits.proofs.Digits.{size-above}
+use Rattle.double_bits.proofs.Patterns.{pattern, bits-of-units}
 use Rattle.pxfm.proofs.Value.{Gap, Val}
 use Rattle.pxfm.proofs.Units.{in-units}
 

@@ -13,7 +13,7 @@ use lib.Ieee.Digits.{size-lt, size-le, size-reaches}
 use lib.Ieee.Exact.{HasValue, units-val}
 use lib.Ieee.Fits.{core, round-is, nearest-le}
 use lib.Ieee.Nearest.{closest, closest-same}
-use Rattle.sqrt.proofs.Digits.{size-above, size-exact}
+use Rattle.double_bits.proofs.Digits.{size-above, size-exact}
 use Rattle.pxfm.proofs.Value.{Gap, Val, Rounds, add-rounds, sub-rounds}
 use Rattle.pxfm.proofs.Exact.{round-few}
 

@@ -14,7 +14,8 @@ use lib.Ieee.Fits.{down-pos}
 use lib.Ieee.Bits.{ofBits-toBits, ofBits-fits, toBits-lt}
 use lib.Ieee.Back.{whole-unique}
 use lib.Ieee.Exact.{HasValue}
-use Rattle.sqrt.proofs.Patterns.{value-unique}
+use Rattle.facts.proofs.Tests.{refuted}
+use Rattle.double_bits.proofs.Patterns.{value-unique}
 use Rattle.pxfm.specs.DoubleDouble.{one, two}
 use Rattle.pxfm.specs.Argument.{zero}
 use Rattle.pxfm.specs.Inverfc.{outside}
@@ -76,10 +77,6 @@ zero-with : (s : Bool) → (y : Float) × (T (fits binary64 y) × (HasValue y s 
 unfolding ofBits
 zero-with false = (zero, (ofBits-fits binary64 0, ((refl, refl), inl refl)))
 zero-with true = (minusZero, (ofBits-fits binary64 (2 ^ 63), ((refl, refl), inr refl)))
-
-pub refuted : (b : Bool) → (b ≡ true → ⊥) → b ≡ false
-refuted true h = absurd (h refl)
-refuted false h = refl
 
 module _ (x : Float) (f : T (fits binary64 x)) where
   pub equals-zero : eq x zero ≡ true → (x ≡ zero) ⊎ (x ≡ minusZero)

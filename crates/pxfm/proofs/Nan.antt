@@ -7,7 +7,7 @@ use native.Mathlib.Nat.{mod-eq-of-lt}
 use native.Mathlib.Omega.{arith}
 use lib.Dec.{T}
 use lib.Ieee.{Float, nan, inf, fin, binary64, nanBits, isNan, toBits}
-use Rattle.sqrt.proofs.Nans.{pattern-plain}
+use Rattle.double_bits.proofs.Nans.{pattern-plain}
 
 -- A pattern up to +∞'s is no NaN's.
 pub pattern-number : (n : ℕ) → n ≤ 0x7ff0_0000_0000_0000 → T (not (nanBits binary64 n))

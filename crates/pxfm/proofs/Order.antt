@@ -11,6 +11,7 @@ use lib.Dec.{T, T-not, ltb, eqb, ltb→lt, lt→ltb, nltb→le, eqb→eq}
 use lib.Pow.{pow-pos}
 use lib.Ieee.{Float, nan, inf, fin, binary64, up, down, below, level, lt, le, eq}
 use lib.Ieee.Fits.{down-pos, eq→eqb, and-i, and-l, and-r}
+use Rattle.facts.proofs.Tests.{either, or-left, or-right}
 use Rattle.pxfm.proofs.Value.{Gap, Val}
 
 scaled-lt : (x y l a b d : ℕ) → 0 < d → x * l ≡ a * d → y * l ≡ b * d → a < b → x < y
@@ -106,18 +107,6 @@ compared {x = fin s a e} {y = fin t b d} {p = p} {n = n} {q = q} {m = m} {j = j}
       eq-of = level-of-gaps x' y' l (v .mag) (w .mag) c p n q m (pow-pos 1074) C h k s t g g';
       of-eq = gaps-of-level x' y' l (v .mag) (w .mag) c p n q m (pow-pos 1074) C h k s t g g';
     }
-
-pub either : (a b : Bool) → T (a || b) → T a ⊎ T b
-either true b h = inl tt
-either false b h = inr h
-
-or-left : (a b : Bool) → T a → T (a || b)
-or-left true b t = tt
-or-left false b t = absurd t
-
-or-right : (a b : Bool) → T b → T (a || b)
-or-right true b t = tt
-or-right false b t = t
 
 module _ {x y : Float} {p n q m j : ℕ} (v : Val binary64 x p n j) (w : Val binary64 y q m j) where
   pub lt-of-val : p + m < q + n → T (lt x y)

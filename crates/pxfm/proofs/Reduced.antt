@@ -14,8 +14,8 @@ use lib.Pow.{pow-add, pow-pos, pow-mono, shl-lt}
 use lib.Ieee.{Float, binary64, ofBits, mul, round}
 use lib.Ieee.Exact.{HasValue, round-exact}
 use lib.Ieee.Positive.{num, den, den-pos, value→cross, positive-of-value, mul-at}
-use Rattle.sqrt.proofs.Digits.{add-exponents}
-use Rattle.sqrt.proofs.Scaling.{pattern-mid}
+use Rattle.double_bits.proofs.Digits.{add-exponents}
+use Rattle.double_bits.proofs.Fields.{pattern-mid}
 use Rattle.pxfm.specs.DoubleDouble.{one}
 use Rattle.log_tables.specs.PowTables.{powInverse}
 use Rattle.log_tables.specs.Rows.{entryAt}

@@ -13,8 +13,8 @@ use lib.Ieee.{Float, binary64, fits, ofBits, toBits}
 use lib.Ieee.Bits.{ofBits-toBits}
 use lib.Ieee.Exact.{HasValue}
 use lib.Ieee.Positive.{num, den, value→cross}
-use Rattle.sqrt.proofs.Digits.{add-exponents}
-use Rattle.sqrt.proofs.Scaling.{pattern-low, pattern-mid}
+use Rattle.double_bits.proofs.Digits.{add-exponents}
+use Rattle.double_bits.proofs.Fields.{pattern-low, pattern-mid}
 use Rattle.pxfm.specs.declared.logs.fast_log_dd.Scaled.{Scaled}
 use Rattle.pxfm.specs.FastLogDd.{scaled, shiftOf, scaledOf}
 use Rattle.pxfm.proofs.Exact.{value-same}

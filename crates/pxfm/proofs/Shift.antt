@@ -6,7 +6,7 @@ use native.Mathlib.Nat.{le-of-lt, lt-of-le-of-lt, lt-of-lt-of-le, mul-le-mul-rig
 use native.Mathlib.Omega.{arith}
 use lib.Pow.{pow-mono, pow-pos, pow-add}
 use lib.Count.{leadingZeros, leading-top}
-use Rattle.sqrt.proofs.Digits.{lt-of-pow-lt}
+use Rattle.double_bits.proofs.Digits.{lt-of-pow-lt}
 
 -- The shift of a number of w bits that brings its highest bit to the place p.
 abbrev pub shiftTo : ℕ → ℕ → ℕ → ℕ

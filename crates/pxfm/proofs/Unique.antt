@@ -10,7 +10,7 @@ use lib.Ieee.{Float, nan, inf, fin, binary64, up, down, fits, ofBits, sum, round
 use lib.Ieee.Exact.{HasValue}
 use lib.Ieee.Fits.{round-fits, down-pos}
 use lib.Ieee.Bits.{ofBits-fits}
-use Rattle.sqrt.proofs.Patterns.{value-unique}
+use Rattle.double_bits.proofs.Patterns.{value-unique}
 use Rattle.pxfm.proofs.Value.{Gap, Val}
 use Rattle.pxfm.proofs.Exact.{round-few}
 

@@ -12,7 +12,7 @@ use lib.IntN.{ℤ, pos, negsuc}
 use lib.Ieee.{Float, nan, inf, fin, binary64, up, down, fits}
 use lib.Ieee.Exact.{HasValue}
 use lib.Ieee.Fits.{and-l, and-r, down-pos}
-use Rattle.sqrt.proofs.Digits.{lt-of-pow-lt}
+use Rattle.double_bits.proofs.Digits.{lt-of-pow-lt}
 use Rattle.pxfm.proofs.Value.{Val}
 
 -- The number is m * 2 ^ w units.

@@ -9,8 +9,8 @@ use crate::double_double::DoubleDouble;
 use crate::err::inverfc;
 use crate::polyeval;
 use crate::pow_exec;
-use sqrt::bits::bits_of;
-use sqrt::bits::of_bits;
+use double_bits::bits_of;
+use double_bits::of_bits;
 
 // The bit patterns of a pair.
 fn patterns(r: DoubleDouble) -> BitPair

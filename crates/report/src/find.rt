@@ -2,11 +2,11 @@
 // The last record of a name is found by the volume's index.
 ghost use mathlib.Core.Path.{_≡_};
 ghost use lib.ListN.{length};
-use entries::Start;
-use entries::look_up;
-use indexing::IndexMade;
-use indexing::make_index;
-use records::record_size;
+use journal_entries::Start;
+use journal_entries::look_up;
+use journal_index::IndexMade;
+use journal_index::make_index;
+use journal_parts::record_size;
 
 // Where a record stands, and its position; or that there is none.
 pub(crate) struct Place {

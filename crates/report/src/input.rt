@@ -1,7 +1,7 @@
 // The arguments: which report is asked for, whether the times alone, a name or a position, or chances.
 // An argument that starts with a dash is no name, unless `--` stands before it.
-use arguments::Number;
-use arguments::is_argument;
+use command_io::Number;
+use command_io::is_argument;
 use limit::MAX_CHANCE;
 use limit::MIN_CHANCE;
 ghost use Prim.Native.Nat.{_≤_, _<_};
@@ -123,7 +123,7 @@ fn chance(i: usize) -> u32 {
 fn number(i: usize) -> Number {
     let mut text = [0u8; 32];
     let size = os::arg(i, &mut text);
-    arguments::read_number(&text[..size], MAX_CHANCE as u32)
+    command_io::read_number(&text[..size], MAX_CHANCE as u32)
 }
 
 // One record.
@@ -161,7 +161,7 @@ fn option_at(i: usize) -> Asked
     }
     let mut text = [0u8; 32];
     let size = os::arg(i + 1, &mut text);
-    match arguments::read_number(&text[..size], 65_535) {
+    match command_io::read_number(&text[..size], 65_535) {
         Number::Value(n) => Asked::At(n),
         Number::Nothing => Asked::WrongPosition,
     }

@@ -1,23 +1,19 @@
 // The record's lines, each made in a buffer of its own and printed: every field in words, or the times alone.
-// The texts of dates, ticks and numbers are those of crates calendar, ticks and hex.
-use calendar::put_date;
-use decimal::put_exact;
-use hex::put;
-use hex::put_decimal;
+// The texts of dates, ticks and numbers are those of crates text_dates, text_ticks and text_digits. No line is longer than a limit's may be.
 use journal::marks::Mark;
 use journal::marks::mark_of;
 use journal::number_in;
-use listing::moments::mean_bits;
-use listing::moments::moments_in;
-use listing::moments::spread_bits;
-use listing::spans::spans_at;
-use ticks::put_milliseconds;
-use ticks::put_ticks;
-use ticks::ticks_near;
-use ticks::ticks_up;
-
-// Room for the longest line.
-const LINE: usize = 256;
+use journal_listing::moments::mean_bits;
+use journal_listing::moments::moments_in;
+use journal_listing::moments::spread_bits;
+use journal_listing::spans::spans_at;
+use journal_report::MAX_FIGURE;
+use journal_report::limit_line;
+use journal_report::moment_line;
+use text_dates::put_date;
+use text_digits::put;
+use text_digits::put_decimal;
+use text_ticks::put_milliseconds;
 
 // Every field of the record at a place.
 pub(crate) fn print_fields(v: &[u8], records: usize, i: usize, at: usize) {
@@ -91,7 +87,7 @@ fn limit_at(v: &[u8], first: usize, i: usize) -> u64 {
 
 // `record 2 of 5`: the position, counted from 0, and how many records stand.
 fn print_position(i: usize, records: usize) -> bool {
-    let mut out = [0u8; LINE];
+    let mut out = [0u8; MAX_FIGURE];
     let p = put_number(&mut out, 0, b"record ", i as u64);
     let q = put_number(&mut out, p, b" of ", records as u64);
     print_line(&mut out, q, b"\n")
@@ -106,7 +102,7 @@ fn print_name(v: &[u8], first: usize, count: usize) -> bool {
         return false;
     }
     let last = first + count;
-    let mut out = [0u8; LINE];
+    let mut out = [0u8; MAX_FIGURE];
     let p = put(&mut out, 0, b"name ");
     let end = put(&mut out, p, &v[first..last]);
     print_line(&mut out, end, b"\n")
@@ -114,7 +110,7 @@ fn print_name(v: &[u8], first: usize, count: usize) -> bool {
 
 // The form, and what D is divided by.
 fn print_form(form: u64) -> bool {
-    let mut out = [0u8; LINE];
+    let mut out = [0u8; MAX_FIGURE];
     let p = put_number(&mut out, 0, b"form ", form);
     if form == 1 {
         return print_line(&mut out, p, b": the spread divides D by n * n\n");
@@ -124,7 +120,7 @@ fn print_form(form: u64) -> bool {
 
 // The date and the day.
 fn print_day(day: u16) -> bool {
-    let mut out = [0u8; LINE];
+    let mut out = [0u8; MAX_FIGURE];
     let p = put(&mut out, 0, b"date ");
     let q = put_date(&mut out, p, day);
     let end = put_number(&mut out, q, b", day ", day as u64);
@@ -168,7 +164,7 @@ fn print_ticks(v: &[u8], first: usize, count: usize) -> bool {
 
 // A number behind a text.
 fn print_count(what: &[u8], count: u64) -> bool {
-    let mut out = [0u8; LINE];
+    let mut out = [0u8; MAX_FIGURE];
     let end = put_number(&mut out, 0, what, count);
     print_line(&mut out, end, b"\n")
 }
@@ -180,10 +176,10 @@ fn put_number(out: &mut [u8], place: usize, what: &[u8], n: u64) -> usize {
 }
 
 fn print_tick(t: u64) -> bool {
-    let mut out = [0u8; LINE];
+    let mut out = [0u8; MAX_FIGURE];
     let p = put_number(&mut out, 0, b"time ", t);
     let q = put(&mut out, p, b" ticks, ");
-    let count = ticks::Count {
+    let count = text_ticks::Count {
         below: false,
         size: t,
     };
@@ -206,30 +202,16 @@ fn print_limits(v: &[u8], chances: usize, limits: usize, count: usize) {
 
 // Its bits, its exact decimal, and what it is rounded up to.
 fn print_limit(chance: u64, limit: u64) -> bool {
-    let mut out = [0u8; LINE];
-    let p = put_number(&mut out, 0, b"limit at ", chance);
-    let q = put_double(&mut out, p, b" in a million: bits ", limit);
-    let r = put(&mut out, q, b" ticks, rounded up ");
-    let end = put_ticks(&mut out, r, ticks_up(limit));
-    print_line(&mut out, end, b" ms\n")
+    let mut out = [0u8; MAX_FIGURE];
+    let size = limit_line(&mut out, chance, limit);
+    print_text(&out, size)
 }
 
 // The mean or the spread: its bits, its exact decimal, and the nearest tick.
 fn print_moment(what: &[u8], bits: u64) -> bool {
-    let mut out = [0u8; LINE];
-    let p = put_double(&mut out, 0, what, bits);
-    let q = put(&mut out, p, b" ticks, to the nearest ");
-    let end = put_ticks(&mut out, q, ticks_near(bits));
-    print_line(&mut out, end, b" ms\n")
-}
-
-// A text, and a double by its bits and exactly.
-fn put_double(out: &mut [u8], place: usize, what: &[u8], bits: u64) -> usize {
-    let digits = hex::hex_of(bits);
-    let p = put(out, place, what);
-    let q = put(out, p, &digits);
-    let r = put(out, q, b", exactly ");
-    put_exact(out, r, bits)
+    let mut out = [0u8; MAX_FIGURE];
+    let size = moment_line(&mut out, what, bits);
+    print_text(&out, size)
 }
 
 // The line in a buffer up to a place, with its last word, and whether it was written.
@@ -240,7 +222,7 @@ fn print_line(out: &mut [u8], place: usize, last: &[u8]) -> bool {
 
 // A line of one text.
 fn print(text: &[u8]) -> bool {
-    arguments::print(text, b"report: standard output")
+    command_io::print(text, b"report: standard output")
 }
 
 // The first bytes of a buffer, and whether they were written.

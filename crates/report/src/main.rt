@@ -20,8 +20,8 @@ fn main() {
 
 // The volume's bytes.
 fn read_volume(asked: Asked) {
-    let mut room = arguments::input_room();
-    let read = arguments::read_input(0, &mut room);
+    let mut room = command_io::input_room();
+    let read = command_io::read_input(0, &mut room);
     if read.failed {
         os::fail(b"report: standard input");
         return;

@@ -9,7 +9,7 @@ use crate::lines;
 use crate::slots;
 use journal::Rule;
 use journal::Status;
-use listing::Cursor;
+use journal_listing::Cursor;
 
 // What is asked for.
 pub(crate) fn print_asked(v: &[u8], asked: Asked) {
@@ -42,7 +42,7 @@ fn print_named(v: &[u8], records: usize, word: usize) {
 
 // How many records stand; none where the volume is damaged.
 fn records_of(v: &[u8]) -> usize {
-    let cursor = listing::start(v, Rule::Plain);
+    let cursor = journal_listing::start(v, Rule::Plain);
     cursor.left
 }
 
@@ -61,7 +61,7 @@ fn print_record(v: &[u8], records: usize, place: Place) {
 
 // The line of a damaged volume, or the refusal of a position that no record has.
 fn print_fault(v: &[u8]) {
-    let cursor = listing::start(v, Rule::Plain);
+    let cursor = journal_listing::start(v, Rule::Plain);
     let status = cursor.status;
     match status {
         Status::Damaged(_) => print_state(v),
@@ -77,20 +77,20 @@ fn print_fault(v: &[u8]) {
 }
 
 fn print_absent() {
-    arguments::print(b"refused 10\n", b"report: standard output");
+    command_io::print(b"refused 10\n", b"report: standard output");
 }
 
 // The line of the end state.
 fn print_state(v: &[u8]) {
-    let status = listing::start(v, Rule::Plain).status;
+    let status = journal_listing::start(v, Rule::Plain).status;
     let cursor = Cursor {
         at: 0,
         left: 0,
         ended: false,
         status,
     };
-    let mut out = [0u8; listing::MAX_LINE];
-    let line = listing::next_line(v, cursor, &mut out);
+    let mut out = [0u8; journal_listing::MAX_LINE];
+    let line = journal_listing::next_line(v, cursor, &mut out);
     let size = line.size;
     lines::print_text(&out, size);
 }
@@ -100,10 +100,10 @@ pub(crate) fn refuse_chance(which: usize) {
     io::write_all(libc::STDERR_FILENO, b"report: CHANCE ");
     io::print_decimal(libc::STDERR_FILENO, which as u64);
     if input::MAX_CHANCES < which {
-        arguments::complain(b": ", b"there are at most 8");
+        command_io::complain(b": ", b"there are at most 8");
         return;
     }
-    arguments::complain(
+    command_io::complain(
         b": ",
         b"not a decimal number from 1 to 999999 without leading zeros",
     );
@@ -111,7 +111,7 @@ pub(crate) fn refuse_chance(which: usize) {
 
 // The position among the arguments is none.
 pub(crate) fn refuse_position() {
-    arguments::complain(
+    command_io::complain(
         b"report: ",
         b"I: not a decimal number from 0 to 65535 without leading zeros",
     );
@@ -119,7 +119,7 @@ pub(crate) fn refuse_position() {
 
 // The help, if it is what the first argument asks for; anything else is wrong.
 pub(crate) fn usage() {
-    arguments::usage(
+    command_io::usage(
         b"usage: report slots [--tsv] [CHANCE..] < VOLUME\n\
         \x20      report record [--ticks] NAME < VOLUME\n\
         \x20      report record [--ticks] --at I < VOLUME\n\

@@ -1,13 +1,13 @@
-// The planner's report: a head, and for each name of the volume's index the line of its last record, by name; crate slotting makes them.
+// The planner's report: a head, and for each name of the volume's index the line of its last record, by name; crate journal_report makes them.
 // Columns line up under the head; or tabs separate them, and there is no head.
 use crate::find::index_room;
 use crate::find::is_indexed;
 use crate::lines::print_text;
-use entries::end_of;
-use planning::Layout;
-use slotting::entry_line;
-use slotting::head_line;
-use slotting::name_width;
+use journal_entries::end_of;
+use journal_report::entry_line;
+use journal_report::head_line;
+use journal_report::name_width;
+use journal_slot::Layout;
 
 // The report of a volume, by its index, which is made first; of a damaged one there is none. Whether no write failed.
 pub(crate) fn print_slots(v: &[u8], tabs: bool, asked: &[u32]) -> bool {
@@ -53,14 +53,14 @@ fn print_head(width: usize, tabs: bool, names: usize) -> bool {
     if names == 0 {
         return true;
     }
-    let mut out = [0u8; slotting::MAX_LINE];
+    let mut out = [0u8; journal_report::MAX_LINE];
     let size = head_line(width, &mut out);
     print_text(&out, size)
 }
 
 // The line of an entry; whether it was written.
 fn print_line(v: &[u8], index: &[u8], k: usize, layout: Layout, asked: &[u32]) -> bool {
-    let mut out = [0u8; slotting::MAX_LINE];
+    let mut out = [0u8; journal_report::MAX_LINE];
     let size = entry_line(v, index, k, layout, asked, &mut out);
     print_text(&out, size)
 }

@@ -1,12 +1,9 @@
 -- The laws behind the root's proofs, one idea to a file, in the order in which they build on each other, and worked cases.
 -- `RootSteps` has the theorem that the standard's steps make the root, `Nearest` that the root is the nearest double, `Negative` that no
 -- negative one is nearer.
-pub mod Digits
-pub mod Patterns
 pub mod Squares
 pub mod Extending
 pub mod Checking
-pub mod Nans
 pub mod OneRounding
 pub mod Scaling
 pub mod Special

@@ -23,7 +23,7 @@ use Rattle.sqrt.specs.Nearest.{notNegative, sumNum, sumDen, Less, MidBel
 use Rattle.sqrt.proofs.Squares.{sq-dbl, root-lt, root-le, isqrt-is}
 use Rattle.sqrt.proofs.OneRounding.{round-units, round-root-fits, sticky-le, sticky-one}
 use Rattle.sqrt.proofs.Scaling.{radicand-of}
-use Rattle.sqrt.proofs.Patterns.{value-unique}
+use Rattle.double_bits.proofs.Patterns.{value-unique}
 use Rattle.sqrt.proofs.Midpoints.{closest-near, Rounded, times4, times2, larger, smaller, shorter}
 use Rattle.sqrt.proofs.Counted.{Counted, counted, on-grid, tie-free, units-less, above-fractions, below-fractions}
 

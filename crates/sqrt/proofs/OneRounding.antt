@@ -20,8 +20,8 @@ use lib.Ieee.Nearest.{closest, closest-same}
 use lib.Ieee.Bits.{ofBits-toBits}
 use Rattle.sqrt.specs.Sqrt.{IsRoot, isqrt, roundRoot, roundSqrt}
 use Rattle.sqrt.specs.Steps.{IsRest, Carried}
-use Rattle.sqrt.proofs.Digits.{size-exact}
-use Rattle.sqrt.proofs.Patterns.{bits-of-units}
+use Rattle.double_bits.proofs.Digits.{size-exact}
+use Rattle.double_bits.proofs.Patterns.{bits-of-units}
 use Rattle.sqrt.proofs.Squares.{sq-suc, sq-dbl, root-lt, root-le, rest-root, isqrt-is}
 
 -- ---- to the nearest whole number

@@ -10,7 +10,7 @@ use lib.Ieee.{size}
 use lib.Ieee.Digits.{size-lt}
 use Rattle.sqrt.specs.Sqrt.{IsRoot, isqrtTo, isqrt}
 use Rattle.sqrt.specs.Steps.{IsRest, IsWhole}
-use Rattle.sqrt.proofs.Digits.{size-above}
+use Rattle.double_bits.proofs.Digits.{size-above}
 
 -- ---- squares
 

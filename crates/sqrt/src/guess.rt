@@ -1,5 +1,5 @@
 // A guess at the reciprocal of the root, from a table. No proof rests on it: the root is right for
-// every guess, and a good one only saves the divisions. tools/sqrt_guess.py works the numbers out.
+// every guess, and a good one only saves the divisions. tools/sqrt-guess works the numbers out.
 // A table is a `match`, which is compiled to one load; a constant array would be copied at each call.
 ghost use Prim.Native.Nat.{_^_, _<_};
 

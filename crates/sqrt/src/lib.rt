@@ -6,7 +6,6 @@ ghost use mathlib.Core.Bool.{false};
 ghost use lib.Ieee.{binary64, ofBits, toBits, lt};
 ghost use Rattle.sqrt.specs.Sqrt.{sqrtOf};
 
-pub mod bits;
 mod division;
 mod guess;
 mod root;
@@ -22,7 +21,7 @@ pub fn sqrt(x: f64) -> f64
         return not_positive(x);
     }
     let b = f64::to_bits(x);
-    if b >= bits::INFINITY {
+    if b >= double_bits::INFINITY {
         return x;
     }
     // 2. The exact root: x scaled to a whole number, its whole root, and the remainder.
@@ -47,5 +46,5 @@ fn not_positive(x: f64) -> f64
 pub fn sqrt_bits(b: u64) -> u64
     ensures { λ r. ⌜ r ≡ toBits binary64 (sqrtOf (ofBits binary64 b)) ⌝ }
 {
-    bits::bits_of(sqrt(bits::of_bits(b)))
+    double_bits::bits_of(sqrt(double_bits::of_bits(b)))
 }

@@ -4,9 +4,7 @@ ghost use Prim.Native.Nat.{_*_, _^_, _<_};
 ghost use lib.Ieee.{binary64, ofBits};
 ghost use Rattle.sqrt.specs.Sqrt.{radicand};
 ghost use Rattle.sqrt.specs.Steps.{IsScaled};
-
-// The weight of the exponent's field, and of the digit before the point of a normal double: 2^52.
-const UNIT: u64 = 0x10_0000_0000_0000;
+use double_bits::UNIT;
 
 pub(crate) struct Radicand {
     pub(crate) q: u64,

@@ -7,9 +7,9 @@ use Prim.Native.Nat.{ℕ}
 use lib.ListN.{length}
 use Rattle.journal_spec.specs.Profile.{Rule}
 use Rattle.journal_spec.specs.Scan.{scanOf}
-use Rattle.listing.specs.Listing.{stateLine}
-use Rattle.listing.specs.Lines.{Position, positionOf, startOf, before, step, stepBy}
-use Rattle.listing.specs.declared.Cursor.{Cursor}
+use Rattle.journal_listing.specs.Listing.{stateLine}
+use Rattle.journal_listing.specs.Lines.{Position, positionOf, startOf, before, step, stepBy}
+use Rattle.journal_listing.specs.declared.Cursor.{Cursor}
 
 pub state-text : (rule : Rule) (c : Cursor) (v : List ℕ) → positionOf c ≡ startOf rule v
     → step (positionOf (record { at = 0; left = 0; ended = false; status = c .status })) v .text ≡ stateLine (scanOf rule v (length v))

@@ -1,5 +1,5 @@
 // Prints the end state of a journal, document 01's volume, that it reads from standard input: the last line of its listing.
-// The line is made by crate listing; here it is read and written.
+// The line is made by crate journal_listing; here it is read and written.
 mod output;
 mod state;
 
@@ -10,7 +10,7 @@ fn main() {
         run(Rule::Plain);
         return;
     }
-    if os::arg_count() == 2 && arguments::is_argument(1, b"--profile") {
+    if os::arg_count() == 2 && command_io::is_argument(1, b"--profile") {
         run(Rule::Profile);
         return;
     }
@@ -19,8 +19,8 @@ fn main() {
 
 // By a rule.
 fn run(rule: Rule) {
-    let mut room = arguments::input_room();
-    let read = arguments::read_input(0, &mut room);
+    let mut room = command_io::input_room();
+    let read = command_io::read_input(0, &mut room);
     if read.failed {
         os::fail(b"survey: standard input");
         return;

@@ -5,14 +5,14 @@ use journal::Rule;
 
 // The line of the end state.
 pub(crate) fn print_state(v: &[u8], rule: Rule) {
-    let mut out = [0u8; listing::MAX_LINE];
+    let mut out = [0u8; journal_listing::MAX_LINE];
     let size = state_line(v, rule, &mut out);
-    arguments::print(&out[..size], b"survey: standard output");
+    command_io::print(&out[..size], b"survey: standard output");
 }
 
 // The help, if it is what the first argument asks for; any other argument is wrong.
 pub(crate) fn usage() {
-    arguments::usage(
+    command_io::usage(
         b"usage: survey [--profile] < VOLUME\n\
         Prints the volume's end state: whole or torn with records and committed bytes,\n\
         or damaged with the fault's number and place.\n\

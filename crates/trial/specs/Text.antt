@@ -3,7 +3,7 @@
 use Prim.Native.Nat.{ℕ}
 use mathlib.Core.List.{List, [], _∷_, _++_}
 use mathlib.Core.Bool.{Bool, cond}
-use Rattle.hex.specs.Hex.{decimalDigits}
+use Rattle.text_digits.specs.Hex.{decimalDigits}
 
 -- `: links `, `; over at `, ` in a million: `, `, MORE THAN PROMISED`
 unfoldable pub wordLinks : List ℕ

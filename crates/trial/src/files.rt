@@ -9,7 +9,7 @@ pub(crate) fn log_of(count: usize) -> i32 {
     let mut path = io::buffer();
     let size = os::arg(2, &mut path);
     if size == 0 {
-        arguments::complain(
+        command_io::complain(
             b"trial: ",
             b"LOG: an empty name, or one of more than 4096 bytes",
         );
@@ -22,7 +22,7 @@ pub(crate) fn log_of(count: usize) -> i32 {
 fn open(path: &[u8]) -> i32 {
     let fd = os::open_read(path);
     if fd < 0 {
-        arguments::fail_file(b"trial: ", path);
+        command_io::fail_file(b"trial: ", path);
     }
     fd
 }

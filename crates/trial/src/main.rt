@@ -9,15 +9,15 @@ mod text;
 
 fn main() {
     let count = os::arg_count();
-    if count < 2 || 3 < count || arguments::is_argument(1, b"--help") {
+    if count < 2 || 3 < count || command_io::is_argument(1, b"--help") {
         output::usage();
         return;
     }
-    if !arguments::streams_are_open(b"trial: ") {
+    if !command_io::streams_are_open(b"trial: ") {
         return;
     }
-    let mut room = arguments::input_room();
-    let read = arguments::read_argument(
+    let mut room = command_io::input_room();
+    let read = command_io::read_argument(
         b"trial: ",
         1,
         b"VOLUME: an empty name, or one of more than 4096 bytes",

@@ -2,12 +2,12 @@
 // What is wrong goes to standard error.
 ghost use Rattle.io.specs.Counts.{Counts};
 use crate::text::put_unknown;
-use arguments::Gathered;
+use command_io::Gathered;
 
 // The first bytes of a buffer, as a line that ends in them, behind what waits in the room.
 pub(crate) fn gather_line(room: &mut [u8], waiting: usize, line: &[u8], size: usize) -> Gathered {
     let count = clamp(size, line);
-    arguments::gather(room, waiting, &line[..count], b"trial: standard output")
+    command_io::gather(room, waiting, &line[..count], b"trial: standard output")
 }
 
 // A number of a buffer's bytes, never more than there are. The contract speaks of the buffer, so that lending the bytes needs no more.
@@ -26,21 +26,21 @@ pub(crate) fn print_unknown(room: &mut [u8], waiting: usize, lines: u64) {
     let size = put_unknown(&mut out, lines);
     let last = gather_line(room, waiting, &out, size);
     if last.written {
-        arguments::flush(room, last.waiting, b"trial: standard output");
+        command_io::flush(room, last.waiting, b"trial: standard output");
     }
 }
 
 // A refusal and its place, as the only line.
 pub(crate) fn print_refusal(word: &[u8], number: u32, place: usize) {
-    let mut out = [0u8; listing::MAX_LINE];
-    let size = listing::put_words(&mut out, word, number as u64, place as u64);
+    let mut out = [0u8; journal_listing::MAX_LINE];
+    let size = journal_listing::put_words(&mut out, word, number as u64, place as u64);
     let count = clamp(size, &out);
-    arguments::print(&out[..count], b"trial: standard output");
+    command_io::print(&out[..count], b"trial: standard output");
 }
 
 // The help, if it is what the first argument asks for; any other number of arguments than one or two is wrong.
 pub(crate) fn usage() {
-    arguments::usage(
+    command_io::usage(
         b"usage: trial VOLUME [LOG]\n\
         Tries the limits that stand in VOLUME on the links of LOG, or of standard input: lines of a name, one space and a tick count. A line for\n\
         each name of the volume: its links, and at each chance how many of them took longer than the limit of its last record. A chance is marked\n\

@@ -11,11 +11,10 @@ use crate::table::count_at;
 use crate::table::table_room;
 use crate::text::put_chance;
 use crate::text::put_head;
-use arguments::Gathered;
-use hex::put;
+use command_io::Gathered;
 use journal::number_in;
-use trying::LINE_REFUSAL;
-use trying::Unknown;
+use journal_trial::Unknown;
+use text_digits::put;
 
 // Room for the longest index: an entry is shorter than its record.
 fn index_room() -> [u8; 65_538]
@@ -34,7 +33,7 @@ fn line_room() -> [u8; 1_024]
 // Tries the log of a descriptor on the journal that is all of a slice.
 pub(crate) fn try_log(fd: i32, v: &[u8]) {
     let mut index = index_room();
-    indexing::make_index(v, v.len(), &mut index);
+    journal_index::make_index(v, v.len(), &mut index);
     let mut table = table_room();
     let p = try_pieces(fd, v, &index, &mut table);
     if p.failed {
@@ -46,7 +45,7 @@ pub(crate) fn try_log(fd: i32, v: &[u8]) {
         Unknown::Lines(n) => print_all(v, &index, &table, n),
         Unknown::Declined(n) => print_refusal(b"declined", n, 0),
         Unknown::Damaged(f) => print_refusal(b"damaged", f.number, f.place),
-        Unknown::Unread(place) => print_refusal(b"log", LINE_REFUSAL, place),
+        Unknown::DeclinedAt(f) => print_refusal(b"log", f.number, f.place),
     }
 }
 
@@ -84,8 +83,8 @@ fn print_name(
 
 // Puts the line of the name at a position, and answers its size; none where the index has no such entry.
 fn put_name(out: &mut [u8], v: &[u8], index: &[u8], table: &[u64], k: usize) -> usize {
-    let at = entries::entry_place(index, k);
-    let size = entries::size_at(index, at);
+    let at = journal_entries::entry_place(index, k);
+    let size = journal_entries::size_at(index, at);
     if size < 6 {
         return 0;
     }
@@ -96,7 +95,7 @@ fn put_name(out: &mut [u8], v: &[u8], index: &[u8], table: &[u64], k: usize) -> 
         return 0;
     }
     let names = size - 6;
-    let start = entries::start_at(index, at);
+    let start = journal_entries::start_at(index, at);
     let from = at + 2;
     let to = from + names;
     let head = put_head(out, &index[from..to], count_at(table, k, 0));
@@ -140,7 +139,7 @@ fn first_exceeded(v: &[u8], place: usize, count: usize, table: &[u64], k: usize)
     while j < count {
         let chance = chance_at(v, place, j);
         let overs = count_at(table, k, j + 1);
-        if trying::exceeds(links, chance, overs) {
+        if journal_trial::exceeds(links, chance, overs) {
             return j;
         }
         j += 1;

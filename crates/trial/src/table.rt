@@ -2,7 +2,7 @@
 // A volume has at most 1,985 names, since the smallest record has 33 bytes.
 ghost use mathlib.Core.Path.{_≡_};
 ghost use lib.ListN.{length};
-use trying::NUMBERS;
+use journal_trial::NUMBERS;
 
 // Room for all of them.
 pub(crate) fn table_room() -> [u64; 17_874]

@@ -1,9 +1,9 @@
 // The text of a name's line, put into a lent buffer from a place on: its links, then the overs at each chance.
 // The chance that is marked is the lowest at which more links were over than its limit promises.
-ghost use Rattle.hex.specs.Hex.{decimalDigits};
-ghost use Rattle.hex.specs.Text.{Put};
+ghost use Rattle.text_digits.specs.Hex.{decimalDigits};
+ghost use Rattle.text_digits.specs.Text.{Put};
 ghost use Rattle.trial.specs.Text.{headText, chanceText, markText, unknownText};
-use hex::put;
+use text_digits::put;
 
 // Puts the name and its links at the front.
 pub fn put_head(out: &mut [u8], name: &[u8], links: u64) -> usize
@@ -48,7 +48,7 @@ fn put_mark(out: &mut [u8], at: usize, marked: bool) -> usize
 fn put_decimal(out: &mut [u8], at: usize, n: u64) -> usize
     ensures { λ r. ⌜ Put (now (out .entry)) at (decimalDigits n) (now (out .exit)) r ⌝ }
 {
-    let d = hex::decimal_of(n);
+    let d = text_digits::decimal_of(n);
     let digits = d.digits;
     let count = d.count;
     put(out, at, &digits[..count])

@@ -44,18 +44,18 @@ pub fn call_ours(
     );
     if plain && index.is_none() && (request.budget.is_none() || k % 2 == 0) {
         return match (&request.log, request.budget) {
-            (None, None) => ours::journal_append(v, len, offer),
-            (None, Some(k)) => ours::journal_append_upto(v, len, offer, k),
-            (Some(log), None) => ours::journal_append_log(v, len, offer, log),
-            (Some(log), Some(k)) => ours::journal_append_log_upto(v, len, offer, log, k),
+            (None, None) => ours::awaqlla_append(v, len, offer),
+            (None, Some(k)) => ours::awaqlla_append_upto(v, len, offer, k),
+            (Some(log), None) => ours::awaqlla_append_log(v, len, offer, log),
+            (Some(log), Some(k)) => ours::awaqlla_append_log_upto(v, len, offer, log, k),
         };
     }
     let handed = if index.is_some() { INDEX } else { 0 };
     let options = if plain { handed } else { handed | PROFILE };
     let index = index.unwrap_or_default();
     match &request.log {
-        None => ours::journal_append_with(v, len, offer, k, index, options),
-        Some(log) => ours::journal_append_log_with(v, len, offer, log, k, index, options),
+        None => ours::awaqlla_append_with(v, len, offer, k, index, options),
+        Some(log) => ours::awaqlla_append_log_with(v, len, offer, log, k, index, options),
     }
 }
 
@@ -123,7 +123,7 @@ impl Run<'_> {
     /// Our index made afresh of the first `len` bytes of a slice, and every byte of its buffer.
     pub fn take_index(&mut self, v: &[u8], len: usize, index: &mut Index) {
         let before = index.ours.len();
-        let words = ours::journal_index(v, len, &mut index.ours);
+        let words = ours::awaqlla_index(v, len, &mut index.ours);
         let answer = answer_words(make_index(v, len, &mut index.expected));
         self.kinds.add(match answer {
             [0, ..] => "index, made".into(),

@@ -58,7 +58,7 @@ impl Run<'_> {
         out: Vec<u8>,
     ) -> (Merged, Vec<u8>) {
         let (mut ours, mut expected) = (out.clone(), out);
-        let words = ours::journal_merge(a, b, &mut ours);
+        let words = ours::awaqlla_merge(a, b, &mut ours);
         let merged = merge(a, b, &mut expected);
         let sides = [words, merged_words(merged)];
         self.kinds.add(kind(sides[1]));

@@ -45,8 +45,8 @@ impl Run<'_> {
         let words = scan_words(status);
         self.kinds.add_scan(rule, words);
         let ours = match rule {
-            Rule::Plain => ours::journal_scan(v, len),
-            Rule::Profile => ours::journal_profile_scan(v, len),
+            Rule::Plain => ours::awaqlla_scan(v, len),
+            Rule::Profile => ours::awaqlla_profile_scan(v, len),
         };
         let said = || format!("{rule:?} scan, {}", input());
         self.tally.take([ours, words], said);
@@ -61,10 +61,10 @@ impl Run<'_> {
         input: impl Fn() -> String,
     ) {
         let (part, mark) = match rule {
-            Rule::Plain => (ours::journal_part(v, len, i), ours::journal_mark(v, len, i)),
+            Rule::Plain => (ours::awaqlla_part(v, len, i), ours::awaqlla_mark(v, len, i)),
             Rule::Profile => (
-                ours::journal_profile_part(v, len, i),
-                ours::journal_profile_mark(v, len, i),
+                ours::awaqlla_profile_part(v, len, i),
+                ours::awaqlla_profile_mark(v, len, i),
             ),
         };
         let said = |what: &str| format!("{rule:?} {what} {i}, {}", input());

@@ -90,7 +90,7 @@ impl Run<'_> {
             [2, number, _] => format!("trial, damaged {number:>2}"),
             [_, number, _] => format!("trial, declined {number:>2} at a line"),
         });
-        let ours = ours::journal_trial_unknown(handed.log, handed.slice, handed.len, handed.index);
+        let ours = ours::awaqlla_trial_unknown(handed.log, handed.slice, handed.len, handed.index);
         let input = || format!("unknown lines, {handed:02x?}");
         self.tally.take([ours, expected], input);
         ours[1]
@@ -103,7 +103,7 @@ impl Run<'_> {
             let exceeded = if expected[3] == 0 { "no" } else { "a" };
             self.kinds.add(format!("trial, {exceeded} chance exceeded"));
         }
-        let ours = ours::journal_trial(handed.log, handed.slice, handed.len, handed.index, position);
+        let ours = ours::awaqlla_trial(handed.log, handed.slice, handed.len, handed.index, position);
         let input = || format!("trial at {position}, {handed:02x?}");
         self.tally.take([ours, expected], input);
         if ours[0] == 0 {

@@ -51,6 +51,6 @@ pub fn f_erfinv(x: f64) -> f64
 pub fn f_erfinv_bits(b: u64) -> u64
     ensures { λ r. ⌜ r ≡ fErfinvBits b ⌝ }
 {
-    let x = sqrt::bits::of_bits(b);
-    sqrt::bits::bits_of(f_erfinv(x))
+    let x = double_bits::of_bits(b);
+    double_bits::bits_of(f_erfinv(x))
 }

@@ -2,8 +2,9 @@
 -- Assumes nothing.
 use mathlib.Core.Path.{refl}
 use borrow.Author.Needs.{needs}
+use Rattle.facts.proofs.Tests.{not-both}
 use Rattle.journal.specs.Handed.{asBudget, offerFrom}
-use Rattle.append.proofs.WrittenPart.{not-both, with-index, without-index}
+use Rattle.append.proofs.WrittenPart.{with-index, without-index}
 use Rattle.append.proofs.extend.append.Statement.{statement}
 use Rattle.append.proofs.extend.append.Tie as tie
 

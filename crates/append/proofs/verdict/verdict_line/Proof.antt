@@ -2,7 +2,7 @@
 -- Assumes nothing.
 use borrow.Author.Needs.{needs}
 use Rattle.journal.specs.Answers.{appendMeaning}
-use Rattle.listing.specs.Listing.{wordDamaged, wordDeclined, stateLine}
+use Rattle.journal_listing.specs.Listing.{wordDamaged, wordDeclined, stateLine}
 use Rattle.append.specs.Verdict.{wordExtended, wordLog, verdictLine}
 use Rattle.append.proofs.verdict.verdict_line.Statement.{statement}
 use Rattle.append.proofs.verdict.verdict_line.Tie as tie

@@ -1,7 +1,7 @@
 -- `put_made` writes the three words of the answer, one return a case.
 -- Assumes nothing.
 use borrow.Author.Needs.{needs}
-use Rattle.indexing.specs.Made.{madeMeaning}
+use Rattle.journal_index.specs.Made.{madeMeaning}
 use Rattle.capi.specs.Index.{indexWords}
 use Rattle.capi.proofs.index.put_made.Statement.{statement}
 use Rattle.capi.proofs.index.put_made.Tie as tie

@@ -5,7 +5,7 @@ use native.Mathlib.Omega.{arith}
 use borrow.Author.Needs.{needs}
 use denote.Ref.{now}
 use Rattle.journal.specs.Handed.{asRule}
-use Rattle.listing.specs.Lines.{Position, positionOf}
+use Rattle.journal_listing.specs.Lines.{Position, positionOf}
 use Rattle.capi.specs.Line.{positionAfter}
 use Rattle.capi.proofs.LineAt.{Going, going-next, going-ended, going-there}
 use Rattle.capi.proofs.line.cursor_before.Statement.{statement}

@@ -1,7 +1,7 @@
 -- `word_of` answers 1 for the first journal and 2 for the second.
 -- Assumes nothing.
 use borrow.Author.Needs.{needs}
-use Rattle.merging.specs.Answers.{whoseOf}
+use Rattle.journal_merge.specs.Answers.{whoseOf}
 use Rattle.capi.specs.Merge.{whoseWord}
 use Rattle.capi.proofs.merge.word_of.Statement.{statement}
 use Rattle.capi.proofs.merge.word_of.Tie as tie

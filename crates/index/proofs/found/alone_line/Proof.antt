@@ -3,7 +3,7 @@
 use native.Mathlib.Omega.{arith}
 use borrow.Author.Needs.{needs}
 use Rattle.journal.specs.Handed.{asRule}
-use Rattle.listing.proofs.Putting.{put-as}
+use Rattle.journal_listing.proofs.Putting.{put-as}
 use Rattle.index.proofs.Looking.{alone-text}
 use Rattle.index.proofs.found.alone_line.Statement.{statement}
 use Rattle.index.proofs.found.alone_line.Tie as tie

@@ -2,7 +2,7 @@
 -- Assumes nothing.
 use native.Mathlib.Omega.{arith}
 use borrow.Author.Needs.{needs}
-use Rattle.listing.specs.Listing.{wordDamaged, stateLine}
+use Rattle.journal_listing.specs.Listing.{wordDamaged, stateLine}
 use Rattle.index.specs.Found.{faultLine}
 use Rattle.index.proofs.found.fault_line.Statement.{statement}
 use Rattle.index.proofs.found.fault_line.Tie as tie

@@ -2,7 +2,7 @@
 -- Assumes nothing.
 use borrow.Author.Needs.{needs}
 use Rattle.journal.specs.Handed.{asRule}
-use Rattle.listing.proofs.Putting.{put-as}
+use Rattle.journal_listing.proofs.Putting.{put-as}
 use Rattle.index.proofs.Looking.{first-text}
 use Rattle.index.proofs.found.first_line.Statement.{statement}
 use Rattle.index.proofs.found.first_line.Tie as tie

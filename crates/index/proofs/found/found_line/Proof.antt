@@ -2,8 +2,8 @@
 -- Assumes nothing.
 use native.Mathlib.Omega.{arith}
 use borrow.Author.Needs.{needs}
-use Rattle.listing.specs.Listing.{wordDeclined}
-use Rattle.listing.proofs.Putting.{put-as}
+use Rattle.journal_listing.specs.Listing.{wordDeclined}
+use Rattle.journal_listing.proofs.Putting.{put-as}
 use Rattle.index.specs.Verdict.{numbered}
 use Rattle.index.specs.Found.{otherLine}
 use Rattle.index.proofs.Looking.{found-far, found-none, found-some}

@@ -1,7 +1,7 @@
 -- `size_of` answers by the three cases.
 -- Assumes nothing.
 use borrow.Author.Needs.{needs}
-use Rattle.indexing.specs.Made.{madeMeaning}
+use Rattle.journal_index.specs.Made.{madeMeaning}
 use Rattle.index.specs.Made.{sizeOf}
 use Rattle.index.proofs.made.size_of.Statement.{statement}
 use Rattle.index.proofs.made.size_of.Tie as tie

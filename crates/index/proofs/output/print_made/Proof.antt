@@ -3,7 +3,7 @@
 use mathlib.Core.Path.{sym}
 use borrow.Author.Needs.{needs}
 use lib.Seq.{length-take-le}
-use Rattle.arguments.proofs.Storing.{put-inside}
+use Rattle.command_io.proofs.Storing.{put-inside}
 use Rattle.index.proofs.output.print_made.Statement.{statement}
 use Rattle.index.proofs.output.print_made.Tie as tie
 

@@ -1,7 +1,7 @@
 -- `checked_line` puts what `check_index` answers, with the length of the entries.
 -- Assumes nothing.
 use borrow.Author.Needs.{needs}
-use Rattle.listing.proofs.Putting.{put-as}
+use Rattle.journal_listing.proofs.Putting.{put-as}
 use Rattle.index.proofs.Lines.{checked-text}
 use Rattle.index.proofs.verdict.checked_line.Statement.{statement}
 use Rattle.index.proofs.verdict.checked_line.Tie as tie

@@ -1,8 +1,8 @@
 -- `made_line` puts the line of each of the three cases.
 -- Assumes nothing.
 use borrow.Author.Needs.{needs}
-use Rattle.listing.specs.Listing.{wordDamaged, wordDeclined, stateLine}
-use Rattle.indexing.specs.Made.{madeMeaning}
+use Rattle.journal_listing.specs.Listing.{wordDamaged, wordDeclined, stateLine}
+use Rattle.journal_index.specs.Made.{madeMeaning}
 use Rattle.index.specs.Verdict.{wordIndexed, numbered, madeLine}
 use Rattle.index.proofs.verdict.made_line.Statement.{statement}
 use Rattle.index.proofs.verdict.made_line.Tie as tie

@@ -1,8 +1,8 @@
 -- `said_line` puts the line of each of the three cases.
 -- Assumes nothing.
 use borrow.Author.Needs.{needs}
-use Rattle.listing.specs.Listing.{wordDamaged, wordDeclined, stateLine}
-use Rattle.indexing.specs.Checked.{checkMeaning}
+use Rattle.journal_listing.specs.Listing.{wordDamaged, wordDeclined, stateLine}
+use Rattle.journal_index.specs.Checked.{checkMeaning}
 use Rattle.index.specs.Verdict.{wordOwn, numbered, checkedLine}
 use Rattle.index.proofs.verdict.said_line.Statement.{statement}
 use Rattle.index.proofs.verdict.said_line.Tie as tie
@@ -13,11 +13,11 @@ returns c = rw (c .before .before .before .before .before .enum-told .given .1) 
 
 returns-2 : tie.Need-returns-2
 unfolding checkedLine checkMeaning numbered wordDeclined
-returns-2 c = rw (c .before .before .before .before .before .enum-told2 .given .1) (c .before .before .put-word2 .ensures)
+returns-2 c = rw (c .before .before .before .before .before .before .answer .given .1) (c .before .before .put-word2 .ensures)
 
 returns-3 : tie.Need-returns-3
 unfolding checkedLine checkMeaning stateLine wordDamaged
-returns-3 c = rw (c .before .before .before .before .before .before .before .answer .given .1) (c .before .before .put-words .ensures)
+returns-3 c = rw (c .before .before .before .before .before .before .before .answer2 .given .1) (c .before .before .put-words .ensures)
 
 pub said-line-spec : {M : Type 1} → statement M
 said-line-spec =
@@ -26,6 +26,7 @@ said-line-spec =
     (λ c. search needs)
     (λ c. search needs)
     (λ c κs. search needs)
+    (λ c. search needs)
     (λ c. search needs)
     (λ c. search needs)
     (λ c κs. search needs)

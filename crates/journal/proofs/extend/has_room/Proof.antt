@@ -4,8 +4,8 @@ use mathlib.Core.Path.{sym, _∙_}
 use Prim.Native.Nat.{_+_, _-_, min}
 use native.Mathlib.Omega.{arith}
 use borrow.Author.Tests.{le-leb, lt-leb}
+use Rattle.facts.proofs.Orders.{by-order}
 use Rattle.journal_spec.specs.Scan.{maxLength}
-use Rattle.journal_spec.proofs.Reading.{by-order}
 use Rattle.journal.proofs.extend.has_room.Statement.{statement}
 use Rattle.journal.proofs.extend.has_room.Tie as tie
 

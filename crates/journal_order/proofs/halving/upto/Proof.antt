@@ -6,7 +6,7 @@ use native.Mathlib.Omega.{arith}
 use borrow.Author.Needs.{needs}
 use denote.Ref.{now}
 use lib.ListN.{getD}
-use Rattle.entries.specs.Shape.{isBelow}
+use Rattle.journal_entries.specs.Shape.{isBelow}
 use Rattle.journal_order.specs.Keys.{keyAt}
 use Rattle.journal_order.proofs.Searching.{Halving, halving-start, halving-down, halving-up, halving-done}
 use Rattle.journal_order.proofs.halving.upto.Statement.{statement}

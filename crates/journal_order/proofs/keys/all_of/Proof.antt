@@ -4,7 +4,7 @@ use native.Mathlib.Omega.{arith}
 use borrow.Author.Needs.{needs}
 use lib.Seq.{take-all, length-take-le}
 use denote.Ref.{now}
-use Rattle.records.specs.Front.{recordSize}
+use Rattle.journal_parts.specs.Front.{recordSize}
 use Rattle.journal_order.proofs.keys.all_of.Statement.{statement}
 use Rattle.journal_order.proofs.keys.all_of.Tie as tie
 

@@ -5,8 +5,8 @@ use native.Mathlib.Omega.{arith}
 use borrow.Author.Needs.{needs}
 use denote.Ref.{now}
 use lib.ListN.{length, drop}
-use Rattle.records.specs.Front.{recordSize}
-use Rattle.records.proofs.Front.{from-place}
+use Rattle.journal_parts.specs.Front.{recordSize}
+use Rattle.journal_parts.proofs.Front.{from-place}
 use Rattle.journal_order.specs.Keys.{keyAt}
 use Rattle.journal_order.proofs.Gathering.{Gathering, gathering-start, gathering-room, gathering-inside, gathering-next}
 use Rattle.journal_order.proofs.Gathering.{gathering-end, gathering-count}

@@ -5,7 +5,7 @@ use Prim.Native.Nat.{_-_, _≤_}
 use native.Mathlib.Omega.{arith}
 use denote.Ref.{now}
 use lib.ListN.{length}
-use Rattle.entries.proofs.Opening.{Moving, moving-start, moving-next, moving-done}
+use Rattle.journal_entries.proofs.Opening.{Moving, moving-start, moving-next, moving-done}
 use Rattle.journal_order.proofs.putting.shift.Statement.{statement}
 use Rattle.journal_order.proofs.putting.shift.Tie as tie
 

@@ -3,7 +3,7 @@
 use mathlib.Core.Path.{sym}
 use borrow.Author.Needs.{needs}
 use lib.Seq.{length-take-le}
-use Rattle.listing.proofs.Falling.{line-inside}
+use Rattle.journal_listing.proofs.Falling.{line-inside}
 use Rattle.list.proofs.output.print_line.Statement.{statement}
 use Rattle.list.proofs.output.print_line.Tie as tie
 

@@ -4,8 +4,8 @@ use mathlib.Core.Path.{ap}
 use native.Mathlib.Omega.{arith}
 use borrow.Author.Needs.{needs}
 use denote.Ref.{now}
-use Rattle.listing.specs.Lines.{Position, positionOf}
-use Rattle.listing.proofs.Falling.{step-falls}
+use Rattle.journal_listing.specs.Lines.{Position, positionOf}
+use Rattle.journal_listing.proofs.Falling.{step-falls}
 use Rattle.list.proofs.output.print_listing.Statement.{statement}
 use Rattle.list.proofs.output.print_listing.Tie as tie
 

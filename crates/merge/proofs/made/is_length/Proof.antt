@@ -1,7 +1,7 @@
 -- `is_length` answers by the five cases.
 -- Assumes nothing.
 use borrow.Author.Needs.{needs}
-use Rattle.merging.specs.Answers.{answerOf}
+use Rattle.journal_merge.specs.Answers.{answerOf}
 use Rattle.merge.specs.Made.{isLength}
 use Rattle.merge.proofs.made.is_length.Statement.{statement}
 use Rattle.merge.proofs.made.is_length.Tie as tie

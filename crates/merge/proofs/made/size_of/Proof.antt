@@ -1,7 +1,7 @@
 -- `size_of` answers by the five cases.
 -- Assumes nothing.
 use borrow.Author.Needs.{needs}
-use Rattle.merging.specs.Answers.{answerOf}
+use Rattle.journal_merge.specs.Answers.{answerOf}
 use Rattle.merge.specs.Made.{sizeOf}
 use Rattle.merge.proofs.made.size_of.Statement.{statement}
 use Rattle.merge.proofs.made.size_of.Tie as tie

@@ -1,8 +1,8 @@
 -- `put_damage` puts number, place and whose fault it is.
 -- Assumes nothing.
 use borrow.Author.Needs.{needs}
-use Rattle.listing.specs.Listing.{wordDamaged}
-use Rattle.listing.proofs.Putting.{put-put, put-as}
+use Rattle.journal_listing.specs.Listing.{wordDamaged}
+use Rattle.journal_listing.proofs.Putting.{put-put, put-as}
 use Rattle.merge.specs.Verdict.{verdictLine}
 use Rattle.merge.proofs.Lines.{whose-line-2}
 use Rattle.merge.proofs.verdict.put_damage.Statement.{statement}

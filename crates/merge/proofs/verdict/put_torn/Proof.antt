@@ -1,16 +1,15 @@
--- `put_torn` puts 16 and whose end is torn.
+-- `put_torn` puts the number and whose end is torn.
 -- Assumes nothing.
 use borrow.Author.Needs.{needs}
-use Rattle.listing.specs.Listing.{wordDeclined}
-use Rattle.listing.proofs.Putting.{put-put, put-as}
-use Rattle.merge_spec.specs.Merge.{numberOf}
+use Rattle.journal_listing.specs.Listing.{wordDeclined}
+use Rattle.journal_listing.proofs.Putting.{put-put, put-as}
 use Rattle.merge.specs.Verdict.{verdictLine}
 use Rattle.merge.proofs.Lines.{whose-line}
 use Rattle.merge.proofs.verdict.put_torn.Statement.{statement}
 use Rattle.merge.proofs.verdict.put_torn.Tie as tie
 
 returns : tie.Need-returns
-unfolding verdictLine numberOf wordDeclined
+unfolding verdictLine wordDeclined
 returns c =
     let third = c .before .before in
     let second = third .before .before .before .before in

@@ -1,7 +1,7 @@
 -- `put_whose` puts one of two words and the line end.
 -- Assumes nothing.
 use borrow.Author.Needs.{needs}
-use Rattle.merging.specs.Answers.{whoseOf}
+use Rattle.journal_merge.specs.Answers.{whoseOf}
 use Rattle.merge.specs.Verdict.{whoseWord}
 use Rattle.merge.proofs.verdict.put_whose.Statement.{statement}
 use Rattle.merge.proofs.verdict.put_whose.Tie as tie

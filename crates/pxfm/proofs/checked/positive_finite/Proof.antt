@@ -2,7 +2,7 @@
 -- for a number, not 0 is above 0, and what is left is the definition's second test. Assumes nothing.
 use lib.Ieee.{toBits}
 use borrow.Author.Tests.{lt-ltb}
-use Rattle.sqrt.proofs.Nans.{is-nan, no-nan}
+use Rattle.double_bits.proofs.Nans.{is-nan, no-nan}
 use Rattle.pxfm.specs.Checked.{positiveFinite}
 use Rattle.pxfm.proofs.PositiveFinite.{positive}
 use Rattle.pxfm.proofs.checked.positive_finite.Statement.{statement}

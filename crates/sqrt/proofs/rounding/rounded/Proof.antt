@@ -9,7 +9,7 @@ use native.Mathlib.Omega.{arith}
 use lib.Ieee.{ofBits, binary64}
 use Rattle.sqrt.specs.Sqrt.{roundRoot}
 use Rattle.sqrt.specs.Steps.{Carried}
-use Rattle.sqrt.proofs.Nans.{pattern-finite}
+use Rattle.double_bits.proofs.Nans.{pattern-finite}
 use Rattle.sqrt.proofs.OneRounding.{carried-digit, carried-tie, round-root-bits}
 use Rattle.sqrt.proofs.rounding.rounded.Statement.{statement}
 use Rattle.sqrt.proofs.rounding.rounded.Tie as tie

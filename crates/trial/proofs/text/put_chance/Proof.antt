@@ -1,7 +1,7 @@
 -- `put_chance` puts its parts one behind another.
 -- Assumes nothing.
 use borrow.Author.Needs.{needs}
-use Rattle.listing.proofs.Putting.{put-put}
+use Rattle.journal_listing.proofs.Putting.{put-put}
 use Rattle.trial.specs.Text.{wordOver, wordMillion, chanceText}
 use Rattle.trial.proofs.text.put_chance.Statement.{statement}
 use Rattle.trial.proofs.text.put_chance.Tie as tie

@@ -1,8 +1,8 @@
 -- `put_decimal` puts the digits of a number.
 -- Assumes nothing.
 use borrow.Author.Needs.{needs}
-use Rattle.listing.proofs.Putting.{put-as}
-use Rattle.hex.proofs.Putting.{decimal-text}
+use Rattle.journal_listing.proofs.Putting.{put-as}
+use Rattle.text_digits.proofs.Putting.{decimal-text}
 use Rattle.trial.proofs.text.put_decimal.Statement.{statement}
 use Rattle.trial.proofs.text.put_decimal.Tie as tie
 

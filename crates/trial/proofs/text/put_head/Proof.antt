@@ -1,7 +1,7 @@
 -- `put_head` puts name, word and number one behind another.
 -- Assumes nothing.
 use borrow.Author.Needs.{needs}
-use Rattle.listing.proofs.Putting.{put-put}
+use Rattle.journal_listing.proofs.Putting.{put-put}
 use Rattle.trial.specs.Text.{wordLinks, headText}
 use Rattle.trial.proofs.text.put_head.Statement.{statement}
 use Rattle.trial.proofs.text.put_head.Tie as tie

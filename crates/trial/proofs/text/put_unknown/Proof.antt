@@ -1,7 +1,7 @@
 -- `put_unknown` puts words, number and line end one behind another.
 -- Assumes nothing.
 use borrow.Author.Needs.{needs}
-use Rattle.listing.proofs.Putting.{put-put}
+use Rattle.journal_listing.proofs.Putting.{put-put}
 use Rattle.trial.specs.Text.{wordUnknown, unknownText}
 use Rattle.trial.proofs.text.put_unknown.Statement.{statement}
 use Rattle.trial.proofs.text.put_unknown.Tie as tie

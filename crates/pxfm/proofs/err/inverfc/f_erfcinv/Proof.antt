@@ -5,7 +5,7 @@ use mathlib.Core.Path.{_≡_, _∙_, sym}
 use mathlib.Core.Bool.{false, cond}
 use lib.Ieee.{binary64, toBits, ofBits, eq, lt, div, neg}
 use borrow.Author.Needs.{needs}
-use Rattle.sqrt.proofs.Nans.{is-nan, no-nan}
+use Rattle.double_bits.proofs.Nans.{is-nan, no-nan}
 use Rattle.pxfm.specs.DoubleDouble.{one, two, toF64}
 use Rattle.pxfm.specs.Argument.{zero, tenth}
 use Rattle.pxfm.specs.Inverfc.{inverfcExtraSmall, centralOf, fErfcinv}

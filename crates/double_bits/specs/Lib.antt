@@ -1,0 +1,1 @@
+-- No definitions: the contracts are over the library's `ofBits` and `toBits`.

@@ -1,0 +1,1 @@
+-- No definitions: the lemmas speak of the library's own.

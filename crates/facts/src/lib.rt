@@ -1,0 +1,1 @@
+// General lemmas that no paper names: truth values and orders. This crate has no code.

@@ -1,0 +1,16 @@
+-- The laws for the trial's code: the line at a place, a pass over the log's lines, what is counted in it, and the index's entries.
+-- Assumes nothing.
+pub mod ByBytes
+pub mod Passes
+pub mod Counted
+pub mod Unknowns
+pub mod LowestChance
+pub mod Padded
+pub mod Indexed
+pub mod Found
+pub mod Answered
+pub mod Owned
+pub mod Deciding
+pub mod NotIndexed
+pub mod Tabled
+pub mod InPieces

@@ -1,0 +1,48 @@
+-- A journal without fault and its own index: it is read where it stands, and at each entry's start stands the last record of its name.
+-- Assumes nothing.
+use mathlib.Core.Path.{_≡_, refl, ap, _∙_}
+use Prim.Native.Nat.{ℕ, _+_, _<_}
+use mathlib.Core.List.{List, _++_}
+use mathlib.Core.Option.{some}
+use native.Mathlib.Omega.{arith}
+use lib.ListN.{length, drop, getD, length-append}
+use lib.Seq.{drop-at}
+use Rattle.journal_spec.specs.Bytes.{AreBytes}
+use Rattle.journal_spec.specs.Record.{Record, Last, recordBytes}
+use Rattle.journal_spec.specs.Ranges.{RecordRanges}
+use Rattle.journal_spec.specs.Profile.{plain}
+use Rattle.journal_spec.specs.Scan.{Placed, recordsOf, standing, contentsOf}
+use Rattle.journal_spec.specs.Index.{IndexEntry, indexOf}
+use Rattle.journal_spec.proofs.Pieces.{RecordHere, record-here}
+use Rattle.journal_trial_spec.specs.Trial.{leafAt}
+use Rattle.journal_trial_spec.proofs.Names.{noEntry}
+use Rattle.journal_trial_spec.proofs.Leaves.{leaf-bytes, leaf-is}
+
+module _ (v : List ℕ) (len : ℕ) (ps : List Placed) (committed : ℕ) (b : AreBytes v) (s : contentsOf plain v len ≡ standing ps committed) where
+  abbrev entries : List IndexEntry
+  entries = indexOf ps
+
+  -- what stands at a position
+  pub record LeafAt (i : ℕ) : Type 0 where
+    pub leaf : Record
+    pub last : Last
+    pub ranges : RecordRanges last leaf
+    pub here : RecordHere v (getD entries i noEntry .start) leaf
+    pub is : leafAt (recordsOf ps) entries i ≡ some leaf
+
+  pub leaf-of : (i : ℕ) → i < length entries → LeafAt i
+  leaf-of i h =
+      let x = leaf-bytes v len ps committed b s i h in
+      let start : ℕ = getD entries i noEntry .start in
+      let all : length v ≡ length (x .front) + length (recordBytes (x .leaf) ++ x .back) =
+      ap length (x .bytes) ∙ length-append (x .front) (recordBytes (x .leaf) ++ x .back) in
+      let there : drop start v ≡ recordBytes (x .leaf) ++ x .back =
+      ap (λ (k : ℕ). drop k v) (x .place) ∙ ap (drop (length (x .front))) (x .bytes)
+      ∙ drop-at (x .front) (recordBytes (x .leaf) ++ x .back) (length (x .front)) refl in
+      record {
+        leaf = x .leaf;
+        last = x .last;
+        ranges = x .ranges;
+        here = record-here v start (x .last) (x .leaf) (x .back) (omega (arith, x .place, all)) (x .ranges) there;
+        is = leaf-is v len ps committed b s i h;
+      }

@@ -1,0 +1,21 @@
+// Trying the limits of standing records on a recorded log (request 2026-12). The log is read by the reader of request 2026-01, in one pass a call.
+// No public function has a `requires`, and no memory is needed.
+mod adding;
+mod calls;
+mod counting;
+mod leaf;
+mod links;
+mod lowest;
+mod strangers;
+mod unknown;
+
+pub use adding::NUMBERS;
+pub use adding::add_piece;
+pub use calls::try_entry;
+pub use counting::Counts;
+pub use counting::count_links;
+pub use leaf::Answer;
+pub use leaf::Trial;
+pub use lowest::exceeds;
+pub use strangers::Unknown;
+pub use strangers::try_unknown;

@@ -1,0 +1,62 @@
+// The call for unknown names (request 2026-12): how many lines of the log have a name that is not indexed.
+// Its refusals are those of the call for an entry, but for 10.
+ghost use mathlib.Core.Path.{_≡_};
+ghost use Rattle.journal_trial_spec.specs.Links.{logOf};
+ghost use Rattle.journal_trial_spec.specs.Trial.{tryUnknown};
+ghost use Rattle.journal_trial.specs.Owning.{Owned};
+ghost use Rattle.journal_trial.specs.Strangers.{unknownBy, unknownUnless};
+use crate::counting::count_links;
+use crate::leaf::LINE_REFUSAL;
+use crate::unknown::count_unknown;
+use journal::Fault;
+use journal_index::Checked;
+use journal_index::check_index;
+
+// The lines; or a refusal with its number: 14; the journal's fault; or 11 with the place of the log's line.
+pub enum Unknown {
+    Lines(u64),
+    Declined(u32),
+    Damaged(Fault),
+    DeclinedAt(Fault),
+}
+
+// The lines with unknown names.
+pub fn try_unknown(log: &[u8], v: &[u8], len: usize, index: &[u8]) -> Unknown
+    ensures { λ r. ⌜ r ≡ unknownBy (tryUnknown (now (log .entry)) (now (v .entry)) len (now (index .entry))) ⌝ }
+{
+    let s = check_index(v, len, index);
+    match s {
+        Checked::Own => own_unknown(log, v, len, index),
+        Checked::Declined(number) => refuse_unknown(log, Unknown::Declined(number)),
+        Checked::Damaged(fault) => refuse_unknown(log, Unknown::Damaged(fault)),
+    }
+}
+
+// The same with the journal's own index.
+fn own_unknown(log: &[u8], v: &[u8], len: usize, index: &[u8]) -> Unknown
+    requires { ⌜ Owned (now v) len (now index) ⌝ }
+    ensures { λ r. ⌜ r ≡ unknownBy (tryUnknown (now (log .entry)) (now (v .entry)) len (now (index .entry))) ⌝ }
+{
+    let u = count_unknown(log, index);
+    if u.unread {
+        return Unknown::DeclinedAt(Fault {
+            number: LINE_REFUSAL,
+            place: u.place,
+        });
+    }
+    Unknown::Lines(u.lines)
+}
+
+// A refusal, unless a line of the log is refused.
+fn refuse_unknown(log: &[u8], answer: Unknown) -> Unknown
+    ensures { λ r. ⌜ r ≡ unknownUnless (logOf (now (log .entry))) answer ⌝ }
+{
+    let c = count_links(log, b"", b"");
+    if c.unread {
+        return Unknown::DeclinedAt(Fault {
+            number: LINE_REFUSAL,
+            place: c.place,
+        });
+    }
+    answer
+}

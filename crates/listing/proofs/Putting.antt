@@ -1,3 +1,0 @@
--- Texts put into a line one behind another: the laws stand in crate hex, and are passed on to those who build on the listing.
--- Assumes nothing.
-pub use Rattle.hex.proofs.Putting.{put-nothing, put-put, put-as}

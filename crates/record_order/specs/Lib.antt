@@ -1,2 +1,0 @@
--- On which side of the mean a record's limits lie.
-pub mod Sides

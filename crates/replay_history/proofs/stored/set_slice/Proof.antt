@@ -1,0 +1,32 @@
+-- `set_slice` is its definition by its tests of the letter. Assumes nothing.
+use borrow.Author.Needs.{needs}
+use borrow.Author.Tests.{eq-eqb, ne-eqb}
+use Rattle.replay_history.specs.Replay.{sliceBy}
+use Rattle.replay_history.proofs.stored.set_slice.Statement.{statement}
+use Rattle.replay_history.proofs.stored.set_slice.Tie as tie
+
+returns : tie.Need-returns
+unfolding sliceBy
+returns c = rw (eq-eqb _ _ (c .before .before .before .before .if1 .taken)) (c .before .before .fill .ensures)
+
+returns-2 : tie.Need-returns-2
+unfolding sliceBy
+returns-2 c =
+    let second = c .before .before .before .before in
+    rw (ne-eqb _ _ (second .before .before .if1 .left), eq-eqb _ _ (second .if2 .taken)) (c .before .before .bytes .ensures)
+
+returns-3 : tie.Need-returns-3
+unfolding sliceBy
+returns-3 c = rw (ne-eqb _ _ (c .before .before .if1 .left), ne-eqb _ _ (c .if2 .left))
+
+pub set-slice-spec : {M : Type 1} → statement M
+set-slice-spec =
+    tie.close
+    (tie.spec
+    (λ c κs. search needs)
+    (λ c. search needs)
+    returns
+    (λ c κs. search needs)
+    (λ c. search needs)
+    returns-2
+    returns-3)

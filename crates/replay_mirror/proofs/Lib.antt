@@ -1,0 +1,2 @@
+-- `Same`: the program lists no x.
+pub mod Same

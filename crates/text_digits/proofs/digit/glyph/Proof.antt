@@ -1,0 +1,29 @@
+-- `text_digits::digit::glyph` meets its contract: each return is one side of the definition's test. Assumes nothing.
+use borrow.Author.Needs.{needs}
+use borrow.Author.Tests.{lt-ltb, le-ltb}
+use Rattle.text_digits.specs.Hex.{glyphOf}
+use Rattle.text_digits.proofs.digit.glyph.Statement.{statement}
+use Rattle.text_digits.proofs.digit.glyph.Tie as tie
+
+cast-result : tie.Need-cast-result
+cast-result c = search needs
+
+add-result : tie.Need-add-result
+add-result c = search needs
+
+returns : tie.Need-returns
+unfolding glyphOf
+returns c = rw (lt-ltb _ _ (c .if1 .taken))
+
+cast-result-2 : tie.Need-cast-result-2
+cast-result-2 c = search needs
+
+add-result-2 : tie.Need-add-result-2
+add-result-2 c = search needs
+
+returns-2 : tie.Need-returns-2
+unfolding glyphOf
+returns-2 c = rw (le-ltb _ _ (c .if1 .left))
+
+pub glyph-spec : {M : Type 1} → statement M
+glyph-spec = tie.close (tie.spec cast-result add-result returns cast-result-2 add-result-2 returns-2)
