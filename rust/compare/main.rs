@@ -71,7 +71,7 @@ fn numbers(options: &Options) -> Totals {
         logarithms::compare(&mut totals);
         root::compare(options, &mut totals);
         quantile::compare(options, &mut totals);
-        law_order::compare(&mut totals);
+        order::compare(&mut totals);
         limit::compare(options, &mut totals);
     }
     totals

@@ -11,7 +11,7 @@ pub fn compare(totals: &mut Totals) {
     let shares = || SHARES.map(share);
     neighbours(
         "f_erfcinv falls, ours",
-        chances().map(|x| ours::f_erfcinv_bits(x)),
+        chances().map(|x| ours::awaqlla_f_erfcinv_bits(x)),
         Less,
         totals,
     );
@@ -23,7 +23,7 @@ pub fn compare(totals: &mut Totals) {
     );
     neighbours(
         "f_erfinv rises, ours",
-        shares().map(|x| ours::f_erfinv_bits(x)),
+        shares().map(|x| ours::awaqlla_f_erfinv_bits(x)),
         Greater,
         totals,
     );
