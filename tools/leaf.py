@@ -2,7 +2,7 @@
 written from the papers alone, and not from our code.
 
 The quantile is not worked out here. Its bits come from the Rust: tools/leaf-quantiles has those of ten chances, and the
-list crates/replay_quantile/stdin, which tools/quantile-vectors makes, those of some more. The rest of a limit is worked out in
+list crates/replay_numbers/stdin, whose lines q tools/quantile-vectors writes, those of some more. The rest of a limit is worked out in
 this machine's doubles, whose +, *, / and sqrt round correctly.
 """
 import functools
@@ -26,22 +26,22 @@ def double_of(bits):
 # ---- The quantile of a chance, from the Rust.
 
 
-def pairs_of(path):
-    """The two words of every line that is no comment."""
+def words_of(path):
+    """The words of every line that is no comment."""
     with open(ROOT / path, encoding="ascii") as lines:
         return [line.split() for line in lines if not line.startswith("#")]
 
 
 def quantiles_of_ten():
-    return {int(chance): int(bits, 16) for chance, bits in pairs_of("tools/leaf-quantiles")}
+    return {int(chance): int(bits, 16) for chance, bits in words_of("tools/leaf-quantiles")}
 
 
 @functools.cache
 def quantiles_stored():
-    """The lines of the stored list whose argument is chance / 500000 of some chance."""
+    """The Rust's answers of the stored list whose argument is chance / 500000 of some chance."""
     found = {}
-    for argument, result in pairs_of("crates/replay_quantile/stdin"):
-        x = double_of(int(argument, 16))
+    for letter, argument, result, _ in words_of("crates/replay_numbers/stdin"):
+        x = double_of(int(argument, 16)) if letter == "q" else 0
         chance = round(x * 500000) if 0 < x < 2 else 0
         if chance > 0 and chance / 500000 == x:
             found[chance] = int(result, 16)

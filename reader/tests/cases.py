@@ -125,12 +125,18 @@ def dates():
     return [[day, str(datetime.date(2000, 1, 1) + datetime.timedelta(day))] for day in [*range(0, 65536, 61), 59, 60, 365, 366, 36524, 36584, 65535]]
 
 
+def quantile_lines():
+    """The Rust's answers of the stored numbers: an argument and its quantile a line."""
+    lines = [line.split() for line in text("crates/replay_numbers/stdin").splitlines()]
+    return "".join(f"{x} {p}\n" for letter, x, p, _ in lines if letter == "q")
+
+
 def cases():
     with tempfile.TemporaryDirectory() as folder:
         stored = volumes(folder)
     return {
         "starred": STARRED,
-        "quantiles": text("crates/replay_quantile/stdin"),
+        "quantiles": quantile_lines(),
         "limits": limits(2000),
         "worked": worked(),
         "ways": ways(),

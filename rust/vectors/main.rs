@@ -1,4 +1,4 @@
-// Prints the stored list of the quantile: lines of an input's bits and the Rust's answer's bits, sorted by branch.
+// Prints the stored list of the quantile, lines of an input's bits and the Rust's answer's bits as the program replay_numbers takes them, sorted by branch.
 // It has every branch and its edges, and reads every entry of the logarithms' tables through both logarithms.
 // Given chances, it prints those instead, each with the bits of its quantile: tools/leaf-quantiles. Given --quantiles, it prints the quantile of
 // every chance, the 999,999 lines of docs/DEFINITION.md, section 13.
@@ -43,7 +43,7 @@ fn print_list() {
     list.dedup();
     list.sort_by_key(|bits| Branch::of(*bits));
     for bits in list {
-        println!("{bits:016x} {:016x}", f_erfcinv_bits(bits));
+        println!("q {bits:016x} {:016x} 00000000", f_erfcinv_bits(bits));
     }
 }
 

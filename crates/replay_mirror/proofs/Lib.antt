@@ -1,2 +1,0 @@
--- `Same`: the program lists no x.
-pub mod Same

@@ -1,0 +1,2 @@
+-- `Same`: which lines differ, and that the mirror's do not.
+pub mod Same

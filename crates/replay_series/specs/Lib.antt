@@ -1,2 +1,0 @@
--- What the contracts of the comparison with the series cite.
-pub mod Series
