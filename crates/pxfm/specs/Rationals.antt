@@ -21,7 +21,7 @@ pairOf row = bits (getD row 0 0) (getD row 1 0)
 abbrev pub PlainRow : List ℕ → Type 0
 PlainRow row = T (not (nanBits binary64 (getD row 0 0))) × T (not (nanBits binary64 (getD row 1 0)))
 
--- The pairs of ten rows, of eleven and of fourteen; and that no row has a NaN's pattern.
+-- The pairs of ten rows; and that no row has a NaN's pattern.
 abbrev pub pairsOf10 : List (List ℕ) → List DoubleDouble
 pairsOf10 t =
     let row : ℕ → DoubleDouble = λ i. pairOf (getD t i []) in
@@ -31,24 +31,6 @@ abbrev pub PlainRows10 : List (List ℕ) → Type 0
 PlainRows10 t =
     let plain : ℕ → Type 0 = λ i. PlainRow (getD t i []) in
     plain 0 × plain 1 × plain 2 × plain 3 × plain 4 × plain 5 × plain 6 × plain 7 × plain 8 × plain 9
-
-abbrev pub pairsOf11 : List (List ℕ) → List DoubleDouble
-pairsOf11 t =
-    let row : ℕ → DoubleDouble = λ i. pairOf (getD t i []) in
-    row 0 ∷ row 1 ∷ row 2 ∷ row 3 ∷ row 4 ∷ row 5 ∷ row 6 ∷ row 7 ∷ row 8 ∷ row 9 ∷ row 10 ∷ []
-
-abbrev pub PlainRows11 : List (List ℕ) → Type 0
-PlainRows11 t = PlainRows10 t × PlainRow (getD t 10 [])
-
-abbrev pub pairsOf14 : List (List ℕ) → List DoubleDouble
-pairsOf14 t =
-    let row : ℕ → DoubleDouble = λ i. pairOf (getD t i []) in
-    row 0 ∷ row 1 ∷ row 2 ∷ row 3 ∷ row 4 ∷ row 5 ∷ row 6 ∷ row 7 ∷ row 8 ∷ row 9 ∷ row 10 ∷ row 11 ∷ row 12 ∷ row 13 ∷ []
-
-abbrev pub PlainRows14 : List (List ℕ) → Type 0
-PlainRows14 t =
-    let plain : ℕ → Type 0 = λ i. PlainRow (getD t i []) in
-    PlainRows10 t × plain 10 × plain 11 × plain 12 × plain 13
 
 -- The pair at a place of a list of coefficients.
 abbrev pub at : List DoubleDouble → ℕ → DoubleDouble

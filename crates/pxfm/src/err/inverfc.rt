@@ -6,8 +6,8 @@ ghost use Prim.Native.Nat.{_<_};
 ghost use lib.Ieee.{binary64, toBits, eq, lt, le};
 ghost use Rattle.pxfm.specs.DoubleDouble.{one, newOf, toF64, mulAdd, mulAddF64};
 ghost use Rattle.pxfm.specs.Argument.{tenth, threeQuarters, mirroredOf, coreArgument};
-ghost use Rattle.pxfm.specs.Rationals.{PlainRow, PlainRows10, PlainRows11, PlainRows14, pairOf, pairsOf10, pairsOf11, pairsOf14};
-ghost use Rattle.pxfm.specs.Rationals.{at, pAsymptSmall, qAsymptSmall};
+ghost use Rattle.pxfm.specs.Rationals.{PlainRow, PlainRows10, pairOf, pairsOf10, at, p0p06To0p75, q0p06To0p75};
+ghost use Rattle.pxfm.specs.Rationals.{pAsymptSmall, qAsymptSmall, pAsymptLong, qAsymptLong};
 ghost use Rattle.pxfm.specs.Rationals.{paired10, paired11, paired14, centredOf, inverf0p06To0p75, inverfAsymptSmall, inverfAsymptLong};
 ghost use Rattle.pxfm.specs.Inverfc.{taylor4Of, taylor7Of, horner10, quickRational, roundsAlike, middleOf, zetaSqrt, tailOf, erfCore};
 ghost use Rattle.pxfm.specs.Inverfc.{inverfcExtraSmall, signOf, centralOf, fErfcinv, fErfcinvBits};
@@ -141,50 +141,34 @@ fn two_terms_turned(c1: [u64; 2], z: DoubleDouble, c0: [u64; 2]) -> DoubleDouble
     DoubleDouble::mul_add(pair(c1), z, pair(c0))
 }
 
-// Ten coefficients at z, with its powers; both lists of the careful rational from 0.06 to 0.75 are handed to it.
-fn paired10(
-    c: [[u64; 2]; 10],
-    z: DoubleDouble,
-    z2: DoubleDouble,
-    z4: DoubleDouble,
-    z8: DoubleDouble,
-) -> DoubleDouble
-    requires { ⌜ PlainRows10 c ⌝ }
-    ensures { λ r. ⌜ r ≡ paired10 (pairsOf10 c) z z2 z4 z8 ⌝ }
+fn mid_num(z: DoubleDouble, z2: DoubleDouble, z4: DoubleDouble, z8: DoubleDouble) -> DoubleDouble
+    ensures { λ r. ⌜ r ≡ paired10 p0p06To0p75 z z2 z4 z8 ⌝ }
 {
-    let p0 = two_terms(z, c[1], c[0]);
-    let p1 = two_terms(z, c[3], c[2]);
-    let p2 = two_terms(z, c[5], c[4]);
-    let p3 = two_terms(z, c[7], c[6]);
-    let p4 = two_terms(z, c[9], c[8]);
+    let p = P_0P06_TO_0P75;
+    let p0 = two_terms(z, p[1], p[0]);
+    let p1 = two_terms(z, p[3], p[2]);
+    let p2 = two_terms(z, p[5], p[4]);
+    let p3 = two_terms(z, p[7], p[6]);
+    let p4 = two_terms(z, p[9], p[8]);
     let q0 = DoubleDouble::mul_add(z2, p1, p0);
     let q1 = DoubleDouble::mul_add(z2, p3, p2);
     let r0 = DoubleDouble::mul_add(z4, q1, q0);
     DoubleDouble::mul_add(z8, p4, r0)
 }
 
-// Eleven coefficients at z, with its powers; q0 stands for the first two.
-fn paired11(
-    c: [[u64; 2]; 11],
-    q0: DoubleDouble,
-    z: DoubleDouble,
-    z2: DoubleDouble,
-    z4: DoubleDouble,
-    z8: DoubleDouble,
-) -> DoubleDouble
-    requires { ⌜ PlainRows11 c ⌝ }
-    ensures { λ r. ⌜ r ≡ paired11 (pairsOf11 c) q0 z z2 z4 z8 ⌝ }
+fn mid_den(z: DoubleDouble, z2: DoubleDouble, z4: DoubleDouble, z8: DoubleDouble) -> DoubleDouble
+    ensures { λ r. ⌜ r ≡ paired10 q0p06To0p75 z z2 z4 z8 ⌝ }
 {
-    let last = pair(c[10]);
-    let q1 = two_terms_turned(c[3], z, c[2]);
-    let q2 = two_terms_turned(c[5], z, c[4]);
-    let q3 = two_terms_turned(c[7], z, c[6]);
-    let q4 = two_terms_turned(c[9], z, c[8]);
-    let r0 = DoubleDouble::mul_add(z2, q1, q0);
-    let r1 = DoubleDouble::mul_add(z2, q3, q2);
-    let s0 = DoubleDouble::mul_add(z4, r1, r0);
-    let s1 = DoubleDouble::mul_add(z2, last, q4);
-    DoubleDouble::mul_add(z8, s1, s0)
+    let q = Q_0P06_TO_0P75;
+    let p0 = two_terms(z, q[1], q[0]);
+    let p1 = two_terms(z, q[3], q[2]);
+    let p2 = two_terms(z, q[5], q[4]);
+    let p3 = two_terms(z, q[7], q[6]);
+    let p4 = two_terms(z, q[9], q[8]);
+    let q0 = DoubleDouble::mul_add(z2, p1, p0);
+    let q1 = DoubleDouble::mul_add(z2, p3, p2);
+    let r0 = DoubleDouble::mul_add(z4, q1, q0);
+    DoubleDouble::mul_add(z8, p4, r0)
 }
 
 fn small_num(z: DoubleDouble, z2: DoubleDouble, z4: DoubleDouble, z8: DoubleDouble) -> DoubleDouble
@@ -192,36 +176,63 @@ fn small_num(z: DoubleDouble, z2: DoubleDouble, z4: DoubleDouble, z8: DoubleDoub
 {
     let p = P_ASYMPT_SMALL;
     let q0 = two_terms_turned(p[1], z, p[0]);
-    paired11(p, q0, z, z2, z4, z8)
+    let q1 = two_terms_turned(p[3], z, p[2]);
+    let q2 = two_terms_turned(p[5], z, p[4]);
+    let q3 = two_terms_turned(p[7], z, p[6]);
+    let q4 = two_terms_turned(p[9], z, p[8]);
+    let r0 = DoubleDouble::mul_add(z2, q1, q0);
+    let r1 = DoubleDouble::mul_add(z2, q3, q2);
+    let s0 = DoubleDouble::mul_add(z4, r1, r0);
+    let s1 = DoubleDouble::mul_add(z2, pair(p[10]), q4);
+    DoubleDouble::mul_add(z8, s1, s0)
 }
 
-// The first coefficient is 1, and is added as a double.
 fn small_den(z: DoubleDouble, z2: DoubleDouble, z4: DoubleDouble, z8: DoubleDouble) -> DoubleDouble
     ensures { λ r. ⌜ r ≡ paired11 qAsymptSmall (mulAddF64 (at qAsymptSmall 1) z one) z z2 z4 z8 ⌝ }
 {
     let q = Q_ASYMPT_SMALL;
     let q0 = DoubleDouble::mul_add_f64(pair(q[1]), z, 1.0);
-    paired11(q, q0, z, z2, z4, z8)
+    let q1 = two_terms_turned(q[3], z, q[2]);
+    let q2 = two_terms_turned(q[5], z, q[4]);
+    let q3 = two_terms_turned(q[7], z, q[6]);
+    let q4 = two_terms_turned(q[9], z, q[8]);
+    let r0 = DoubleDouble::mul_add(z2, q1, q0);
+    let r1 = DoubleDouble::mul_add(z2, q3, q2);
+    let s0 = DoubleDouble::mul_add(z4, r1, r0);
+    let s1 = DoubleDouble::mul_add(z2, pair(q[10]), q4);
+    DoubleDouble::mul_add(z8, s1, s0)
 }
 
-// Fourteen coefficients at z, with its powers; both lists of `inverf_asympt_long` are handed to it.
-fn paired14(
-    c: [[u64; 2]; 14],
-    z: DoubleDouble,
-    z2: DoubleDouble,
-    z4: DoubleDouble,
-    z8: DoubleDouble,
-) -> DoubleDouble
-    requires { ⌜ PlainRows14 c ⌝ }
-    ensures { λ r. ⌜ r ≡ paired14 (pairsOf14 c) z z2 z4 z8 ⌝ }
+fn long_num(z: DoubleDouble, z2: DoubleDouble, z4: DoubleDouble, z8: DoubleDouble) -> DoubleDouble
+    ensures { λ r. ⌜ r ≡ paired14 pAsymptLong z z2 z4 z8 ⌝ }
 {
-    let g0 = two_terms(z, c[1], c[0]);
-    let g1 = two_terms(z, c[3], c[2]);
-    let g2 = two_terms(z, c[5], c[4]);
-    let g3 = two_terms(z, c[7], c[6]);
-    let g4 = two_terms(z, c[9], c[8]);
-    let g5 = two_terms(z, c[11], c[10]);
-    let g6 = two_terms(z, c[13], c[12]);
+    let p = P_ASYMPT_LONG;
+    let g0 = two_terms(z, p[1], p[0]);
+    let g1 = two_terms(z, p[3], p[2]);
+    let g2 = two_terms(z, p[5], p[4]);
+    let g3 = two_terms(z, p[7], p[6]);
+    let g4 = two_terms(z, p[9], p[8]);
+    let g5 = two_terms(z, p[11], p[10]);
+    let g6 = two_terms(z, p[13], p[12]);
+    let h0 = DoubleDouble::mul_add(z2, g1, g0);
+    let h1 = DoubleDouble::mul_add(z2, g3, g2);
+    let h2 = DoubleDouble::mul_add(z2, g5, g4);
+    let q0 = DoubleDouble::mul_add(z4, h1, h0);
+    let q1 = DoubleDouble::mul_add(z4, g6, h2);
+    DoubleDouble::mul_add(z8, q1, q0)
+}
+
+fn long_den(z: DoubleDouble, z2: DoubleDouble, z4: DoubleDouble, z8: DoubleDouble) -> DoubleDouble
+    ensures { λ r. ⌜ r ≡ paired14 qAsymptLong z z2 z4 z8 ⌝ }
+{
+    let q = Q_ASYMPT_LONG;
+    let g0 = two_terms(z, q[1], q[0]);
+    let g1 = two_terms(z, q[3], q[2]);
+    let g2 = two_terms(z, q[5], q[4]);
+    let g3 = two_terms(z, q[7], q[6]);
+    let g4 = two_terms(z, q[9], q[8]);
+    let g5 = two_terms(z, q[11], q[10]);
+    let g6 = two_terms(z, q[13], q[12]);
     let h0 = DoubleDouble::mul_add(z2, g1, g0);
     let h1 = DoubleDouble::mul_add(z2, g3, g2);
     let h2 = DoubleDouble::mul_add(z2, g5, g4);
@@ -245,8 +256,8 @@ pub(crate) fn inverf_0p06_to_0p75(x: DoubleDouble) -> DoubleDouble
     let vx2 = vz.mul(vz);
     let vx4 = vx2.mul(vx2);
     let vx8 = vx4.mul(vx4);
-    let num = paired10(P_0P06_TO_0P75, vz, vx2, vx4, vx8);
-    let den = paired10(Q_0P06_TO_0P75, vz, vx2, vx4, vx8);
+    let num = mid_num(vz, vx2, vx4, vx8);
+    let den = mid_den(vz, vx2, vx4, vx8);
     let r = DoubleDouble::div(num, den);
     DoubleDouble::quick_mult(r, x)
 }
@@ -271,8 +282,8 @@ pub(crate) fn inverf_asympt_long(z: DoubleDouble, zeta_sqrt: DoubleDouble) -> Do
     let z2 = z.mul(z);
     let z4 = z2.mul(z2);
     let z8 = z4.mul(z4);
-    let num = paired14(P_ASYMPT_LONG, z, z2, z4, z8);
-    let den = paired14(Q_ASYMPT_LONG, z, z2, z4, z8);
+    let num = long_num(z, z2, z4, z8);
+    let den = long_den(z, z2, z4, z8);
     let r = DoubleDouble::div(num, den);
     DoubleDouble::quick_mult(r, zeta_sqrt)
 }

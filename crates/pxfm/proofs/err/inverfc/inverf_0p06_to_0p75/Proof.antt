@@ -1,22 +1,14 @@
--- `inverf_0p06_to_0p75`: no row of its two lists is a NaN's pattern, which is computed; the equations of its eight calls, from the product with x
--- back to the centred square, rewrite the result to the definition's. Assumes nothing.
-use lib.Ieee.{nanBits}
-use Rattle.pxfm.specs.Rationals.{inverf0p06To0p75, p0p06To0p75, q0p06To0p75}
+-- `inverf_0p06_to_0p75`: the equations of its eight calls, from the product with x back to the centred square, rewrite the result to the definition's.
+-- Assumes nothing.
+use Rattle.pxfm.specs.Rationals.{inverf0p06To0p75}
 use Rattle.pxfm.proofs.Calls.{ok}
 use Rattle.pxfm.proofs.err.inverfc.inverf_0p06_to_0p75.Statement.{statement}
 use Rattle.pxfm.proofs.err.inverfc.inverf_0p06_to_0p75.Tie as tie
 
-above : tie.Need-paired10-requires
-unfolding nanBits
-above c κs = ((tt, tt), (tt, tt), (tt, tt), (tt, tt), (tt, tt), (tt, tt), (tt, tt), (tt, tt), (tt, tt), (tt, tt))
-
-below : tie.Need-paired10-requires-2
-unfolding nanBits
-below c κs = ((tt, tt), (tt, tt), (tt, tt), (tt, tt), (tt, tt), (tt, tt), (tt, tt), (tt, tt), (tt, tt), (tt, tt))
-
-returns : tie.Need-returns
-unfolding inverf0p06To0p75 p0p06To0p75 q0p06To0p75
-returns c =
+pub inverf-0p06-to-0p75-spec : {M : Type 1} → statement M
+unfolding inverf0p06To0p75
+inverf-0p06-to-0p75-spec = tie.close (tie.spec ok ok ok ok ok ok ok ok
+    (λ c.
     let c1 = c .before in
     let c2 = c1 .before in
     let c3 = c2 .before in
@@ -27,13 +19,10 @@ returns c =
     rw (
       c .quick-mult .ensures,
       c1 .div .ensures,
-      c2 .paired102 .ensures,
-      c3 .paired10 .ensures,
+      c2 .mid-den .ensures,
+      c3 .mid-num .ensures,
       c4 .mul3 .ensures,
       c5 .mul2 .ensures,
       c6 .mul .ensures,
       c7 .centred .ensures,
-    )
-
-pub inverf-0p06-to-0p75-spec : {M : Type 1} → statement M
-inverf-0p06-to-0p75-spec = tie.close (tie.spec ok ok ok ok above below ok ok returns)
+    )))
