@@ -15,7 +15,8 @@ use Rattle.journal_spec.specs.Read.{letterOf, markOf}
 use Rattle.journal_spec.specs.Ranges.{Each, RecordRanges}
 use Rattle.journal_spec.specs.Scan.{ScanResult, whole, torn, damaged}
 use Rattle.journal_spec.specs.Log.{space}
-use Rattle.journal_listing.specs.Listing.{lineOf, meanBits, spreadBits, quotedLimit, quotedLimits, wordWhole, wordTorn, wordDamaged, recordLine, stateLine}
+use Rattle.journal_listing.specs.Listing.{lineOf, meanBits, spreadBits, quotedLimit, quotedLimits}
+use Rattle.journal_listing.specs.Listing.{wordWhole, wordTorn, wordDamaged, recordLine, stateLine}
 use Rattle.journal_listing.specs.Spaced.{eachSpaced}
 use Rattle.journal_listing.specs.Lines.{maxLine}
 use Rattle.journal_listing.proofs.Texts.{momentsPart, record-line, words-line}

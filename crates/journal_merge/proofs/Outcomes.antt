@@ -22,7 +22,8 @@ use Rattle.journal.specs.declared.Status.the-variants as J
 use Rattle.journal_merge_spec.specs.Records.{mergedOf, fallFrom}
 use Rattle.journal_merge_spec.specs.Merge.{faultOf, tornOf, mergeRefusals, firstRefusal, mergeBy, mergeOf}
 use Rattle.journal_merge_spec.proofs.Inputs.{Whole, whole-scanned, whole-alone}
-use Rattle.journal_merge_spec.proofs.Rows.{first-damaged, second-damaged, second-damaged-torn, first-torn, both-torn, second-torn, whole-falls, whole-long, whole-put}
+use Rattle.journal_merge_spec.proofs.Rows.{first-damaged, second-damaged, second-damaged-torn, first-torn}
+use Rattle.journal_merge_spec.proofs.Rows.{both-torn, second-torn, whole-falls, whole-long, whole-put}
 use Rattle.journal_merge.specs.Passes.{measuredBy, measuredOf, wholeOutcome}
 use Rattle.journal_merge.specs.Answers.{whoseOf, answerOf, outcomeOf, secondOf, inputsOf}
 use Rattle.journal_merge.specs.declared.Merged.the-variants as MV

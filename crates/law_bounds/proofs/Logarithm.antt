@@ -15,7 +15,8 @@ use Rattle.law_bounds.specs.Interval.{In}
 use Rattle.law_bounds.specs.Ranges.{Depth, start, shareB}
 use Rattle.law_bounds.proofs.Arithmetic.{within}
 use Rattle.law_bounds.proofs.Operations.{widen}
-use Rattle.law_bounds.proofs.Estimate.{Est, EstP, given, pairE, point, constE, sumE, timesE, overE, negE, exactMultE, exactAddE, f64AddE, mulF64AddE, fmaE}
+use Rattle.law_bounds.proofs.Estimate.{Est, EstP, given, pairE, point, constE, sumE}
+use Rattle.law_bounds.proofs.Estimate.{timesE, overE, negE, exactMultE, exactAddE, f64AddE, mulF64AddE, fmaE}
 use Rattle.law_bounds.proofs.Pairs.{by-test}
 use Rattle.law_bounds.proofs.Table.{z-in, exponent-in, low-in, high-in}
 

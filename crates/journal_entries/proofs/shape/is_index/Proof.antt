@@ -4,7 +4,8 @@ use mathlib.Core.Path.{sym}
 use native.Mathlib.Omega.{arith}
 use borrow.Author.Needs.{needs}
 use borrow.Author.Tests.{not-true, not-false}
-use Rattle.journal_entries.proofs.Telling.{Telling, telling-short, telling-start, telling-room, telling-beyond, telling-order, telling-goes, telling-ends}
+use Rattle.journal_entries.proofs.Telling.{Telling, telling-short, telling-start, telling-room}
+use Rattle.journal_entries.proofs.Telling.{telling-beyond, telling-order, telling-goes, telling-ends}
 use Rattle.journal_entries.proofs.shape.is_index.Statement.{statement}
 use Rattle.journal_entries.proofs.shape.is_index.Tie as tie
 
