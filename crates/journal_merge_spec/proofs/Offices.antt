@@ -31,8 +31,8 @@ use Rattle.journal_merge_spec.proofs.Rows.{refused}
 use Rattle.journal_merge_spec.proofs.Answers.{answered-exactly, forms-fall, too-long}
 
 -- document 01's leaf under a form
-unfoldable pub leafOf : ℕ → Record
-leafOf f = record {
+unfoldable pub exampleOf : ℕ → Record
+exampleOf f = record {
   form = f;
   day = 1;
   name = 0x41 ∷ [];
@@ -51,8 +51,8 @@ hundred-bits : toBits binary64 (ofBits binary64 0x4059_0000_0000_0000) ≡ 0x405
 unfolding ofBits toBits
 hundred-bits = refl
 
-in-range : (f : ℕ) → 1 ≤ f → f ≤ 2 → workedOut f (100 ∷ 100 ∷ []) 500_000 ≡ ofBits binary64 0x4059_0000_0000_0000 → RecordRanges (lastOf []) (leafOf f)
-unfolding leafOf lastOf
+in-range : (f : ℕ) → 1 ≤ f → f ≤ 2 → workedOut f (100 ∷ 100 ∷ []) 500_000 ≡ ofBits binary64 0x4059_0000_0000_0000 → RecordRanges (lastOf []) (exampleOf f)
+unfolding exampleOf lastOf
 in-range f low high worked = record {
   form = (low, high);
   forms = omega arith;
@@ -85,24 +85,24 @@ in-range f low high worked = record {
 
 -- a volume of that leaf
 record Volume (f : ℕ) : Type 0 where
-  scan : scanOf plain (recordBytes (leafOf f)) 33 ≡ whole 1 33
-  records : recordsUpto (recordBytes (leafOf f)) 33 ≡ leafOf f ∷ []
+  scan : scanOf plain (recordBytes (exampleOf f)) 33 ≡ whole 1 33
+  records : recordsUpto (recordBytes (exampleOf f)) 33 ≡ exampleOf f ∷ []
 
-size : (f : ℕ) → length (recordBytes (leafOf f)) ≡ 33
-unfolding leafOf recordBytes joined sectionBytes numberBytes bytesOf
+size : (f : ℕ) → length (recordBytes (exampleOf f)) ≡ 33
+unfolding exampleOf recordBytes joined sectionBytes numberBytes bytesOf
 size f = refl
 
-volume : (f : ℕ) → RecordRanges (lastOf []) (leafOf f) → Volume f
+volume : (f : ℕ) → RecordRanges (lastOf []) (exampleOf f) → Volume f
 unfolding recordsBytes joined
 volume f g =
     let n = size f in
-    let one : recordsBytes (leafOf f ∷ []) ≡ recordBytes (leafOf f) = append-nil (recordBytes (leafOf f)) in
-    let bytes : take 33 (recordBytes (leafOf f)) ≡ recordsBytes (leafOf f ∷ []) =
-    ap (λ (k : ℕ). take k (recordBytes (leafOf f))) (sym n) ∙ take-length (recordBytes (leafOf f)) ∙ sym one in
+    let one : recordsBytes (exampleOf f ∷ []) ≡ recordBytes (exampleOf f) = append-nil (recordBytes (exampleOf f)) in
+    let bytes : take 33 (recordBytes (exampleOf f)) ≡ recordsBytes (exampleOf f ∷ []) =
+    ap (λ (k : ℕ). take k (recordBytes (exampleOf f))) (sym n) ∙ take-length (recordBytes (exampleOf f)) ∙ sym one in
     record {
       scan =
-          whole-scan (recordBytes (leafOf f)) 33 (leafOf f ∷ []) (g, tt) (omega arith) (omega arith) bytes ∙ ap (whole 1) (ap length one ∙ n);
-      records = whole-records (recordBytes (leafOf f)) 33 (omega arith) (leafOf f ∷ []) bytes (g, tt);
+          whole-scan (recordBytes (exampleOf f)) 33 (exampleOf f ∷ []) (g, tt) (omega arith) (omega arith) bytes ∙ ap (whole 1) (ap length one ∙ n);
+      records = whole-records (recordBytes (exampleOf f)) 33 (omega arith) (exampleOf f ∷ []) bytes (g, tt);
     }
 
 old : Volume 1
@@ -114,30 +114,30 @@ new = volume 2 (in-range 2 (omega arith) (omega arith) worked-sample)
 -- ---- the merges
 
 abbrev office : ℕ → List ℕ
-office f = recordBytes (leafOf f)
+office f = recordBytes (exampleOf f)
 
-in-turn : mergedOf (leafOf 2 ∷ []) (leafOf 1 ∷ []) ≡ leafOf 2 ∷ leafOf 1 ∷ []
-unfolding mergedOf byDay before from undropped select isAmong sameBytes recordBytes joined bytesOf sectionBytes numberBytes leafOf
+in-turn : mergedOf (exampleOf 2 ∷ []) (exampleOf 1 ∷ []) ≡ exampleOf 2 ∷ exampleOf 1 ∷ []
+unfolding mergedOf byDay before from undropped select isAmong sameBytes recordBytes joined bytesOf sectionBytes numberBytes exampleOf
 in-turn = refl
 
-only-once : mergedOf (leafOf 1 ∷ []) (leafOf 1 ∷ []) ≡ leafOf 1 ∷ []
-unfolding mergedOf byDay before from undropped select isAmong sameBytes recordBytes joined bytesOf sectionBytes numberBytes leafOf
+only-once : mergedOf (exampleOf 1 ∷ []) (exampleOf 1 ∷ []) ≡ exampleOf 1 ∷ []
+unfolding mergedOf byDay before from undropped select isAmong sameBytes recordBytes joined bytesOf sectionBytes numberBytes exampleOf
 only-once = refl
 
-one-length : lengthsOf (leafOf 1 ∷ []) ≡ 33
+one-length : lengthsOf (exampleOf 1 ∷ []) ≡ 33
 unfolding lengthsOf
 one-length = omega (arith, size 1)
 
-the-fall : FirstFall 0 0 (leafOf 2 ∷ leafOf 1 ∷ []) 33
-unfolding leafOf recordsBytes joined
+the-fall : FirstFall 0 0 (exampleOf 2 ∷ exampleOf 1 ∷ []) 33
+unfolding exampleOf recordsBytes joined
 the-fall = record {
-  front = leafOf 2 ∷ [];
-  falling = leafOf 1;
+  front = exampleOf 2 ∷ [];
+  falling = exampleOf 1;
   others = [];
   parts = refl;
   rises = (omega arith, tt);
   below = omega arith;
-  place = omega (arith, ap length (append-nil (recordBytes (leafOf 2))), size 2);
+  place = omega (arith, ap length (append-nil (recordBytes (exampleOf 2))), size 2);
 }
 
 -- form 2 in the first volume and form 1 in the second: 13 behind 33 bytes, and nothing is written
@@ -147,14 +147,14 @@ fall-there buffer =
 
 -- 33 bytes into a third buffer of 32: 9, and nothing is written
 pub no-room-there : mergeOf (office 1) 33 (office 1) 33 (replicate 32 0) ≡ refused (declined 9) (replicate 32 0)
-unfolding leafOf
+unfolding exampleOf
 no-room-there =
     too-long (office 1) 33 (office 1) 33 (replicate 32 0) 1 33 1 33 (old .scan) (old .scan)
     (rw (old .records, only-once) (omega arith, tt)) (rw (old .records, only-once) (inl (omega (arith, one-length))))
 
 -- into 33 or more: the leaf once, and its length is answered
 pub once-there : (buffer : List ℕ) → 33 ≤ length buffer → mergeOf (office 1) 33 (office 1) 33 buffer .answer ≡ merged 33
-unfolding leafOf
+unfolding exampleOf
 once-there buffer h =
     answered-exactly (office 1) 33 (office 1) 33 buffer (merged 33) .1
     (rw (old .records, only-once)

@@ -8,7 +8,7 @@ use Rattle.journal_spec.specs.Tests.{same}
 use Rattle.journal_spec.specs.Record.{Record}
 use Rattle.journal_spec.specs.Scan.{recordsOf, Contents, standing}
 use Rattle.journal_spec.specs.Index.{orderOf, amend, entryOf, amendAll, indexOf}
-use Rattle.journal_trial_spec.specs.Trial.{lastNamed, leafAt}
+use Rattle.journal_spec.specs.Indexed.{lastNamed, standingAt}
 use Rattle.journal_slot.specs.Slot.{gap, fill, column, nameColumn, slotLine}
 use Rattle.journal_report.specs.Report.{lineOf, reportLine, widest, widthOf, headColumns, headLine}
 
@@ -32,7 +32,7 @@ pub record Lines (tabs : Bool) (width : ℕ) (asked : List ℕ) : Type 0 where
   pub third : reportLine tabs width asked three 2 ≡ []
 
 pub by-name : (tabs : Bool) (width : ℕ) (asked : List ℕ) → Lines tabs width asked
-unfolding reportLine lineOf leafAt lastNamed recordsOf indexOf amendAll amend entryOf orderOf same
+unfolding reportLine lineOf standingAt lastNamed recordsOf indexOf amendAll amend entryOf orderOf same
 by-name tabs width asked = record { first = refl; second = refl; third = refl }
 
 -- the head over names of six bytes: `name` and two spaces, then the other columns

@@ -30,9 +30,8 @@ use Rattle.journal_spec.proofs.Limits.{times-good}
 use Rattle.journal_spec.proofs.Ranged.{time-ranged}
 use Rattle.law_shown.specs.Shown.{maxSlot}
 use Rattle.law_shown.proofs.Records.{shown-record}
-use Rattle.journal_trial_spec.proofs.Names.{noEntry}
-use Rattle.journal_trial_spec.proofs.Standing.{leaf-beyond}
-use Rattle.journal_trial_spec.proofs.Leaves.{leaf-bytes, leaf-is}
+use Rattle.journal_spec.proofs.Standing.{noEntry, standing-beyond}
+use Rattle.journal_spec.proofs.StandingBytes.{standing-bytes, standing-there}
 use Rattle.journal_spec.specs.Log.{space}
 use Rattle.journal_listing.specs.Listing.{meanBits, spreadBits}
 use Rattle.journal_slot.specs.Slot.{gap, fill, column, nameColumn, nearText, slotText}
@@ -252,7 +251,7 @@ module _ (v : List ℕ) (len : ℕ) (ps : List Placed) (committed : ℕ) (b : Ar
   unfolding widthOf
   width-most =
       widest-most 32 4 (indexOf ps) (omega arith)
-      (λ i h. let x = leaf-bytes v len ps committed b s i h in rw (← x .named) (x .ranges .name .most))
+      (λ i h. let x = standing-bytes v len ps committed b s i h in rw (← x .named) (x .ranges .name .most))
 
   -- every line of the report fits
   pub report-fits : (tabs : Bool) (asked : List ℕ) → Asked asked → (k : ℕ)
@@ -260,10 +259,10 @@ module _ (v : List ℕ) (len : ℕ) (ps : List Placed) (committed : ℕ) (b : Ar
   unfolding reportLine lineOf
   report-fits tabs asked a k =
       rw s (by-order (length (indexOf ps)) k
-      (λ beyond. rw (leaf-beyond (recordsOf ps) (indexOf ps) k beyond) (omega arith))
+      (λ beyond. rw (standing-beyond (recordsOf ps) (indexOf ps) k beyond) (omega arith))
       (λ h.
-      let x = leaf-bytes v len ps committed b s k h in
-      rw (leaf-is v len ps committed b s k h) (slot-fits tabs (widthOf (indexOf ps)) asked (x .last) (x .leaf) (x .ranges) width-most a)))
+      let x = standing-bytes v len ps committed b s k h in
+      rw (standing-there v len ps committed b s k h) (slot-fits tabs (widthOf (indexOf ps)) asked (x .last) (x .shown) (x .ranges) width-most a)))
 
   -- and so does its head
   pub head-fits : length (headLine (widthOf (indexOf ps))) ≤ maxLine

@@ -17,14 +17,12 @@ use Rattle.journal_spec.specs.Profile.{plain}
 use Rattle.journal_spec.specs.Scan.{Placed, recordsOf, standing, contentsOf}
 use Rattle.journal_spec.specs.Index.{IndexEntry, indexBytes, inFront, indexOf}
 use Rattle.journal_spec.proofs.Numbers.{are-bytes}
-use Rattle.journal_spec.specs.Indexed.{lookUp}
 use Rattle.journal_entries.specs.Entries.{entriesIn}
 use Rattle.journal_entries.proofs.Parsed.{index-read}
 use Rattle.journal_entries.proofs.Fitting.{own-index-here}
-use Rattle.journal_trial_spec.specs.Trial.{lastNamed, leafAt}
-use Rattle.journal_trial_spec.proofs.Names.{noEntry}
-use Rattle.journal_trial_spec.proofs.Standing.{leaf-beyond}
-use Rattle.journal_trial_spec.proofs.Leaves.{LeafBytes, last-bytes, leaf-bytes, leaf-is}
+use Rattle.journal_spec.specs.Indexed.{lookUp, lastNamed, standingAt}
+use Rattle.journal_spec.proofs.Standing.{noEntry, standing-beyond}
+use Rattle.journal_spec.proofs.StandingBytes.{StandingBytes, last-bytes, standing-bytes, standing-there}
 use Rattle.journal_listing.specs.Plain.{plainRecordAt}
 use Rattle.journal_listing.proofs.Starting.{record-there}
 use Rattle.journal_slot.specs.Slot.{slotLine, slotOf}
@@ -38,11 +36,11 @@ unfolding linesTo
 same-lines f g zero h = refl
 same-lines f g (suc n) h = ap₂ (λ (x y : List ℕ). x ++ y) (h 0) (same-lines (λ k. f (suc k)) (λ k. g (suc k)) n (λ k. h (suc k)))
 
-leaf-lines : (tabs : Bool) (w : ℕ) (asked : List ℕ) (rs : List Record) (es : List IndexEntry)
-    → linesTo (λ (k : ℕ). lineOf tabs w asked (leafAt rs es k)) (length es) ≡ joined (map (λ (e : IndexEntry). lineOf tabs w asked (lastNamed (e .name) rs)) es)
-unfolding linesTo leafAt joined
-leaf-lines tabs w asked rs [] = refl
-leaf-lines tabs w asked rs (e ∷ es) = ap (λ (l : List ℕ). lineOf tabs w asked (lastNamed (e .name) rs) ++ l) (leaf-lines tabs w asked rs es)
+standing-lines : (tabs : Bool) (w : ℕ) (asked : List ℕ) (rs : List Record) (es : List IndexEntry)
+    → linesTo (λ (k : ℕ). lineOf tabs w asked (standingAt rs es k)) (length es) ≡ joined (map (λ (e : IndexEntry). lineOf tabs w asked (lastNamed (e .name) rs)) es)
+unfolding linesTo standingAt joined
+standing-lines tabs w asked rs [] = refl
+standing-lines tabs w asked rs (e ∷ es) = ap (λ (l : List ℕ). lineOf tabs w asked (lastNamed (e .name) rs) ++ l) (standing-lines tabs w asked rs es)
 
 position-is : (es : List IndexEntry) (k : ℕ) → k < length es → startAtPosition es k ≡ some (getD es k noEntry .start)
 unfolding startAtPosition
@@ -54,24 +52,24 @@ position-is (e ∷ es) (suc k) h = position-is es k (omega arith)
 
 module _ (v : List ℕ) (len : ℕ) (ps : List Placed) (committed : ℕ) (b : AreBytes v) (s : contentsOf plain v len ≡ standing ps committed) where
   -- the record is read where its name's start is
-  there : (name : List ℕ) (start : ℕ) (x : LeafBytes v len ps committed name start)
-      → plainRecordAt start v ≡ found (x .leaf) (length (x .front) + length (recordBytes (x .leaf))) (x .back)
-  there name start x = ap₂ plainRecordAt (x .place) (x .bytes) ∙ record-there (x .last) (x .leaf) (x .front) (x .back) (x .ranges)
+  there : (name : List ℕ) (start : ℕ) (x : StandingBytes v len ps committed name start)
+      → plainRecordAt start v ≡ found (x .shown) (length (x .front) + length (recordBytes (x .shown))) (x .back)
+  there name start x = ap₂ plainRecordAt (x .place) (x .bytes) ∙ record-there (x .last) (x .shown) (x .front) (x .back) (x .ranges)
 
-  slot-is : (tabs : Bool) (w : ℕ) (asked : List ℕ) (name : List ℕ) (start : ℕ) (x : LeafBytes v len ps committed name start)
-      → startLine tabs w asked v (some start) ≡ slotLine tabs w asked (x .leaf)
+  slot-is : (tabs : Bool) (w : ℕ) (asked : List ℕ) (name : List ℕ) (start : ℕ) (x : StandingBytes v len ps committed name start)
+      → startLine tabs w asked v (some start) ≡ slotLine tabs w asked (x .shown)
   unfolding startLine slotOf
   slot-is tabs w asked name start x = rw (there name start x) refl
 
   module _ (tabs : Bool) (w : ℕ) (asked : List ℕ) where
-    leaf-line : (k : ℕ) → startLine tabs w asked v (startAtPosition (indexOf ps) k) ≡ lineOf tabs w asked (leafAt (recordsOf ps) (indexOf ps) k)
+    standing-line : (k : ℕ) → startLine tabs w asked v (startAtPosition (indexOf ps) k) ≡ lineOf tabs w asked (standingAt (recordsOf ps) (indexOf ps) k)
     unfolding lineOf startLine
-    leaf-line k =
+    standing-line k =
         by-order (length (indexOf ps)) k
-        (λ beyond. rw (← position-beyond (indexOf ps) k beyond, leaf-beyond (recordsOf ps) (indexOf ps) k beyond) refl)
+        (λ beyond. rw (← position-beyond (indexOf ps) k beyond, standing-beyond (recordsOf ps) (indexOf ps) k beyond) refl)
         (λ h.
-        rw (position-is (indexOf ps) k h, leaf-is v len ps committed b s k h)
-        (slot-is tabs w asked _ _ (leaf-bytes v len ps committed b s k h)))
+        rw (position-is (indexOf ps) k h, standing-there v len ps committed b s k h)
+        (slot-is tabs w asked _ _ (standing-bytes v len ps committed b s k h)))
 
     -- what a buffer leads to that begins with the journal's index
     module _ (index : List ℕ) (own : inFront (indexBytes (indexOf ps)) index ≡ true) where
@@ -81,7 +79,7 @@ module _ (v : List ℕ) (len : ℕ) (ps : List Placed) (committed : ℕ) (b : Ar
       -- line k is that of the last standing record of the k-th name
       pub line-is : (k : ℕ) → startLine tabs w asked v (startAtPosition (entriesIn index) k) ≡ reportLine tabs w asked (contentsOf plain v len) k
       unfolding reportLine
-      line-is k = rw (s, entries-own) (leaf-line k)
+      line-is k = rw (s, entries-own) (standing-line k)
 
       -- the lines of all positions are the report's
       pub lines-joined : linesTo (λ (k : ℕ). startLine tabs w asked v (startAtPosition (entriesIn index) k)) (length (entriesIn index))
@@ -89,7 +87,7 @@ module _ (v : List ℕ) (len : ℕ) (ps : List Placed) (committed : ℕ) (b : Ar
       unfolding reportLines
       lines-joined =
           rw (s, entries-own)
-          (same-lines _ _ (length (indexOf ps)) leaf-line ∙ leaf-lines tabs w asked (recordsOf ps) (indexOf ps))
+          (same-lines _ _ (length (indexOf ps)) standing-line ∙ standing-lines tabs w asked (recordsOf ps) (indexOf ps))
 
 -- so that a call which writes the line that the index leads to writes the report's
 pub writes-line : (tabs : Bool) (w : ℕ) (asked v index : List ℕ) (k : ℕ) (out after : List ℕ) (r : ℕ) → ((i : ℕ) → getD v i 0 < 256)
@@ -104,11 +102,11 @@ writes-line tabs w asked v index k out after r bytes p = record {
 
 -- the last record of the name stands at s
 pub record LastAt (name v : List ℕ) (rs : List Record) (s : ℕ) : Type 0 where
-  pub leaf : Record
+  pub shown : Record
   pub next : ℕ
   pub rest : List ℕ
-  pub last : lastNamed name rs ≡ some leaf
-  pub reads : plainRecordAt s v ≡ found leaf next rest
+  pub last : lastNamed name rs ≡ some shown
+  pub reads : plainRecordAt s v ≡ found shown next rest
 
 -- where the journal's index has a start for a name
 pub named-is : (v : List ℕ) (len : ℕ) (ps : List Placed) (committed : ℕ) → AreBytes v → contentsOf plain v len ≡ standing ps committed
@@ -118,8 +116,8 @@ named-is v len ps committed b e index own name s h =
     let same = index-read index (indexOf ps) (own-index-here v len ps committed b e index own) in
     let x = last-bytes v len ps committed b e name s (sym (ap (lookUp name) same) ∙ h) in
     record {
-      leaf = x .leaf;
-      next = length (x .front) + length (recordBytes (x .leaf));
+      shown = x .shown;
+      next = length (x .front) + length (recordBytes (x .shown));
       rest = x .back;
       last = x .is;
       reads = there v len ps committed b e name s x;

@@ -13,7 +13,7 @@ use Rattle.journal_spec.specs.Profile.{plain}
 use Rattle.journal_spec.specs.Scan.{Placed, recordsOf, Contents, standing, faulty, contentsOf}
 use Rattle.journal_spec.specs.Index.{IndexEntry, indexBytes, inFront, indexOf}
 use Rattle.journal_entries.specs.Entries.{entriesIn}
-use Rattle.journal_trial_spec.specs.Trial.{lastNamed, leafAt}
+use Rattle.journal_spec.specs.Indexed.{lastNamed, standingAt}
 use Rattle.journal_spec.specs.Log.{space, newline}
 use Rattle.journal_listing.specs.Plain.{plainRecordAt}
 use Rattle.journal_slot.specs.Slot.{column, nameColumn, timesWidth, momentWidth, limitWidth, slotLine, slotOf}
@@ -27,7 +27,7 @@ lineOf tabs width asked (some r) = slotLine tabs width asked r
 
 -- line k of what a journal holds, counted from 0: that of the last standing record of the k-th name by name; none where it has a fault
 unfoldable pub reportLine : Bool → ℕ → List ℕ → Contents → ℕ → List ℕ
-reportLine tabs width asked (standing ps committed) k = lineOf tabs width asked (leafAt (recordsOf ps) (indexOf ps) k)
+reportLine tabs width asked (standing ps committed) k = lineOf tabs width asked (standingAt (recordsOf ps) (indexOf ps) k)
 reportLine tabs width asked (faulty n p) k = []
 
 -- all lines: for each name of the index the line of its last standing record

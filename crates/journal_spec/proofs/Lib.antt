@@ -24,6 +24,7 @@ pub mod Scanning
 pub mod Profiles
 pub mod NameOrder
 pub mod Indexes
+pub mod Standing
 pub mod Explained
 pub mod Independent
 pub mod Format
@@ -31,6 +32,7 @@ pub mod Refused
 pub mod Table
 pub mod Scanned
 pub mod Placing
+pub mod StandingBytes
 -- the log
 pub mod Lines
 pub mod Logs

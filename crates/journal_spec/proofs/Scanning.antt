@@ -36,6 +36,11 @@ lastOf-snoc [] r = refl
 lastOf-snoc (s ∷ []) r = refl
 lastOf-snoc (s ∷ t ∷ rs) r = lastOf-snoc (t ∷ rs) r
 
+-- a record in its place is in range
+pub in-ranges : (before front : List Record) (r : Record) (back : List Record) → AllRanges before (front ++ r ∷ back) → (last : Last) × RecordRanges last r
+in-ranges before [] r back f = (lastOf before, f .0)
+in-ranges before (s ∷ front) r back f = in-ranges (before ++ s ∷ []) front r back (f .1)
+
 pub follow-snoc : (before rs : List Record) (r : Record) → AllRanges before rs → RecordRanges (lastOf (before ++ rs)) r → AllRanges before (rs ++ r ∷ [])
 follow-snoc before [] r f g = (rw append-nil at g, tt)
 follow-snoc before (s ∷ rs) r f g = (f .0, follow-snoc (before ++ s ∷ []) rs r (f .1) (rw append-snoc g))

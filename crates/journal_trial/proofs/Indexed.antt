@@ -24,7 +24,8 @@ use Rattle.journal_entries.proofs.Indexed.{Entries, entry-read, IndexHere}
 use Rattle.journal_entries.proofs.Parsed.{index-read}
 use Rattle.journal_trial_spec.specs.Links.{Link}
 use Rattle.journal_trial_spec.specs.Trial.{isNamed, isKnown}
-use Rattle.journal_trial_spec.proofs.Names.{noEntry, not-known}
+use Rattle.journal_spec.proofs.Standing.{noEntry}
+use Rattle.journal_trial_spec.proofs.Names.{not-known}
 use Rattle.journal_trial.specs.Unknown.{knownIn}
 use Rattle.journal_trial.specs.Answers.{startOf}
 

@@ -14,9 +14,9 @@ use Rattle.journal_spec.specs.Profile.{plain}
 use Rattle.journal_spec.specs.Scan.{Placed, recordsOf, standing, contentsOf}
 use Rattle.journal_spec.specs.Index.{IndexEntry, indexOf}
 use Rattle.journal_spec.proofs.Pieces.{RecordHere, record-here}
-use Rattle.journal_trial_spec.specs.Trial.{leafAt}
-use Rattle.journal_trial_spec.proofs.Names.{noEntry}
-use Rattle.journal_trial_spec.proofs.Leaves.{leaf-bytes, leaf-is}
+use Rattle.journal_spec.specs.Indexed.{standingAt}
+use Rattle.journal_spec.proofs.Standing.{noEntry}
+use Rattle.journal_spec.proofs.StandingBytes.{standing-bytes, standing-there}
 
 module _ (v : List ℕ) (len : ℕ) (ps : List Placed) (committed : ℕ) (b : AreBytes v) (s : contentsOf plain v len ≡ standing ps committed) where
   abbrev entries : List IndexEntry
@@ -28,21 +28,21 @@ module _ (v : List ℕ) (len : ℕ) (ps : List Placed) (committed : ℕ) (b : Ar
     pub last : Last
     pub ranges : RecordRanges last leaf
     pub here : RecordHere v (getD entries i noEntry .start) leaf
-    pub is : leafAt (recordsOf ps) entries i ≡ some leaf
+    pub is : standingAt (recordsOf ps) entries i ≡ some leaf
 
   pub leaf-of : (i : ℕ) → i < length entries → LeafAt i
   leaf-of i h =
-      let x = leaf-bytes v len ps committed b s i h in
+      let x = standing-bytes v len ps committed b s i h in
       let start : ℕ = getD entries i noEntry .start in
-      let all : length v ≡ length (x .front) + length (recordBytes (x .leaf) ++ x .back) =
-      ap length (x .bytes) ∙ length-append (x .front) (recordBytes (x .leaf) ++ x .back) in
-      let there : drop start v ≡ recordBytes (x .leaf) ++ x .back =
+      let all : length v ≡ length (x .front) + length (recordBytes (x .shown) ++ x .back) =
+      ap length (x .bytes) ∙ length-append (x .front) (recordBytes (x .shown) ++ x .back) in
+      let there : drop start v ≡ recordBytes (x .shown) ++ x .back =
       ap (λ (k : ℕ). drop k v) (x .place) ∙ ap (drop (length (x .front))) (x .bytes)
-      ∙ drop-at (x .front) (recordBytes (x .leaf) ++ x .back) (length (x .front)) refl in
+      ∙ drop-at (x .front) (recordBytes (x .shown) ++ x .back) (length (x .front)) refl in
       record {
-        leaf = x .leaf;
+        leaf = x .shown;
         last = x .last;
         ranges = x .ranges;
-        here = record-here v start (x .last) (x .leaf) (x .back) (omega (arith, x .place, all)) (x .ranges) there;
-        is = leaf-is v len ps committed b s i h;
+        here = record-here v start (x .last) (x .shown) (x .back) (omega (arith, x .place, all)) (x .ranges) there;
+        is = standing-there v len ps committed b s i h;
       }

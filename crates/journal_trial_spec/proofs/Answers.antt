@@ -20,12 +20,12 @@ use Rattle.journal_spec.proofs.Each.{same-lists, same-self}
 use Rattle.journal_spec.proofs.Refused.{standing-not-damaged}
 use Rattle.journal_spec.proofs.Table.{scan-never}
 use Rattle.journal_trial_spec.specs.Links.{Link, LogRead, read, misread, logOf}
-use Rattle.journal_trial_spec.specs.Trial.{unknownOf, trialOf, lastNamed, Refusal, declinedAt, damaged, declined}
+use Rattle.journal_trial_spec.specs.Trial.{unknownOf, trialOf, Refusal, declinedAt, damaged, declined}
 use Rattle.journal_trial_spec.specs.Trial.{ready, refused, readyOf, tried, untried, trialAt, entryTrial, tryEntry}
 use Rattle.journal_trial_spec.specs.Trial.{unknown, uncounted, unknownCount, tryUnknown}
 use Rattle.journal_trial_spec.proofs.Rows.{first-unread, then-damaged, then-declined, else-ready}
-use Rattle.journal_trial_spec.proofs.Names.{noEntry}
-use Rattle.journal_trial_spec.proofs.Standing.{leaf-beyond}
+use Rattle.journal_spec.specs.Indexed.{lastNamed}
+use Rattle.journal_spec.proofs.Standing.{noEntry, standing-beyond}
 use Rattle.journal_trial_spec.proofs.Trials.{position-tried}
 
 -- ---- what both calls go by
@@ -161,7 +161,7 @@ module _ (log slice : List ℕ) (len : ℕ) (index : List ℕ) where
     pub entry-absent : (u : Unrefused) → length (indexOf (u .stands .records)) ≤ i → tryEntry log slice len index i ≡ untried (declined 10)
     unfolding tryEntry entryTrial trialAt
     entry-absent u h =
-        rw (ready-there u) (rw (leaf-beyond (recordsOf (u .stands .records)) (indexOf (u .stands .records)) i h) refl)
+        rw (ready-there u) (rw (standing-beyond (recordsOf (u .stands .records)) (indexOf (u .stands .records)) i h) refl)
 
     -- else the trial of the last record of the entry's name
     abbrev pub TriedThere : Unrefused → Type 0

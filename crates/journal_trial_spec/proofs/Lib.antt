@@ -7,11 +7,9 @@ pub mod Gathering
 pub mod Names
 pub mod Counts
 pub mod Overrun
-pub mod Standing
 pub mod Rows
 pub mod Trials
 pub mod Answers
-pub mod Leaves
 pub mod Pieces
 -- examples
 pub mod Examples

@@ -24,14 +24,15 @@ use Rattle.journal_spec.proofs.Explained.{holding}
 use Rattle.journal_spec.proofs.Indexes.{amended-is}
 use Rattle.journal_trial_spec.specs.Tally.{tally, sumTo}
 use Rattle.journal_trial_spec.specs.Links.{Link, logOf}
-use Rattle.journal_trial_spec.specs.Trial.{linksOf, oversOf, unknownOf, overruns, Lowest, noChance, chance, Trial, trialOf, lastNamed, leafAt}
+use Rattle.journal_trial_spec.specs.Trial.{linksOf, oversOf, unknownOf, overruns, Lowest, noChance, chance, Trial, trialOf}
 use Rattle.journal_trial_spec.specs.Trial.{declined, ready, readyOf, TrialResult, tried, untried}
 use Rattle.journal_trial_spec.specs.Trial.{trialAt, entryTrial, tryEntry, UnknownResult, unknown, uncounted, unknownCount, tryUnknown}
 use Rattle.journal_trial_spec.proofs.Lines.{isNewline, links-counted}
-use Rattle.journal_trial_spec.proofs.Names.{noEntry}
 use Rattle.journal_trial_spec.proofs.Counts.{linksSum, links-and-unknown, overs-at-most, over-at}
 use Rattle.journal_trial_spec.proofs.Overrun.{OverrunAt, FirstOverrun, lowest-first, none-overrun, lowest-least}
-use Rattle.journal_trial_spec.proofs.Standing.{leaf-at, leaf-beyond, entry-stands}
+use Rattle.journal_spec.specs.Indexed.{lastNamed}
+use Rattle.journal_spec.proofs.Scanning.{in-ranges}
+use Rattle.journal_spec.proofs.Standing.{noEntry, standing-at, standing-beyond, entry-stands}
 use Rattle.journal_trial_spec.proofs.Rows.{ready-exactly}
 
 -- ---- one trial
@@ -80,11 +81,6 @@ trial-lowest last r ls c g h =
 
 -- ---- the positions
 
--- a record in its place is in range
-pub in-ranges : (before front : List Record) (r : Record) (back : List Record) → AllRanges before (front ++ r ∷ back) → (last : Last) × RecordRanges last r
-in-ranges before [] r back f = (lastOf before, f .0)
-in-ranges before (s ∷ front) r back f = in-ranges (before ++ s ∷ []) front r back (f .1)
-
 -- the links of an answer, none of a refusal
 abbrev pub linksIn : TrialResult → ℕ
 linksIn (tried t) = t .links
@@ -123,15 +119,15 @@ module _ (log slice : List ℕ) (len : ℕ) (index : List ℕ) (b : AreBytes sli
       let s = entry-stands (x .records) i inside in
       let name : getD (indexOf (placedFrom 0 (x .records))) i noEntry .name ≡ getD (indexOf ps) i noEntry .name =
       ap (λ (qs : List Placed). getD (indexOf qs) i noEntry .name) (sym (x .places)) in
-      let g = in-ranges [] (s .front) (s .leaf) (s .back) (rw (s .parts) at (x .follow)) in
-      let is : lastNamed (s .leaf .name) (recordsOf ps) ≡ some (s .leaf) = rw same (rw (s .named) (s .last)) in
+      let g = in-ranges [] (s .front) (s .shown) (s .back) (rw (s .parts) at (x .follow)) in
+      let is : lastNamed (s .shown .name) (recordsOf ps) ≡ some (s .shown) = rw same (rw (s .named) (s .last)) in
       record {
-        leaf = s .leaf;
+        leaf = s .shown;
         last = g .0;
         ranges = g .1;
         named = s .named ∙ name;
         stands = is;
-        answer = rw r (rw (leaf-at (recordsOf ps) (indexOf ps) i h ∙ ap (λ (n : List ℕ). lastNamed n (recordsOf ps)) (sym (s .named ∙ name)) ∙ is)
+        answer = rw r (rw (standing-at (recordsOf ps) (indexOf ps) i h ∙ ap (λ (n : List ℕ). lastNamed n (recordsOf ps)) (sym (s .named ∙ name)) ∙ is)
             (unfold trialAt in refl));
       }
 
@@ -142,7 +138,7 @@ module _ (log slice : List ℕ) (len : ℕ) (index : List ℕ) (b : AreBytes sli
   -- 10 beyond them
   pub position-beyond : (i : ℕ) → length (indexOf ps) ≤ i → tryEntry log slice len index i ≡ untried (declined absentRefusal)
   unfolding tryEntry entryTrial trialAt
-  position-beyond i h = rw r (rw (leaf-beyond (recordsOf ps) (indexOf ps) i h) refl)
+  position-beyond i h = rw r (rw (standing-beyond (recordsOf ps) (indexOf ps) i h) refl)
 
   links-at : (i : ℕ) → i < length (indexOf ps) → linksIn (tryEntry log slice len index i) ≡ linksOf (getD (indexOf ps) i noEntry .name) ls
   links-at i h =

@@ -1,5 +1,5 @@
--- A name's standing record is the one at its entry's start: the last of the name, and every position of the index has one.
--- Assumes nothing.
+-- Entries that rise by name: no two have one name, and each is looked up by its own. A name's standing record is the one at its entry's start: the
+-- last of the name, and every position of the index has one. Assumes nothing.
 use mathlib.Core.Path.{_≡_, refl, sym, ap, _∙_}
 use Prim.Native.Nat.{ℕ, zero, suc, _+_, _≤_, _<_}
 use mathlib.Core.List.{List, [], _∷_, _++_}
@@ -8,17 +8,53 @@ use mathlib.Core.Option.{Option, none, some}
 use native.Mathlib.Omega.{arith}
 use native.Mathlib.Nat.{add-assoc}
 use lib.ListN.{length, getD}
 use Rattle.journal_spec.specs.Tests.{same}
 use Rattle.journal_spec.specs.Record.{Record, recordBytes}
 use Rattle.journal_spec.specs.Model.{lengthsOf}
 use Rattle.journal_spec.specs.Index.{IndexEntry, Order, lower, equal, higher, orderOf, indexOf}
 use Rattle.journal_spec.proofs.Each.{same-lists, same-self}
 use Rattle.journal_spec.proofs.NameOrder.{lower-not-equal, higher-not-equal, order-self, order-equal}
 use Rattle.journal_spec.proofs.Places.{placedFrom}
-use Rattle.journal_spec.specs.Indexed.{orElse, whereEqual, lastStart}
-use Rattle.journal_spec.proofs.Indexes.{amended-is}
-use Rattle.journal_trial_spec.specs.Trial.{lastNamed, leafAt}
-use Rattle.journal_trial_spec.proofs.Names.{noEntry, own-start}
+use Rattle.journal_spec.specs.Indexed.{orElse, whereEqual, lookUp, lastStart, Before, Rising, lastNamed, standingAt}
+use Rattle.journal_spec.proofs.Indexes.{before-others, amended-is}
+
+-- ---- entries that rise
+
+-- stands in for an entry where there is none
+abbrev pub noEntry : IndexEntry
+noEntry = record { name = []; start = 0 }
+
+-- names of which one is lower are not the same
+pub lower-differs : (a b : List ℕ) → orderOf a b ≡ lower → same a b ≡ false
+lower-differs a b e = go (same a b) refl
+  where
+    go : (t : Bool) → same a b ≡ t → t ≡ false
+    go false h = refl
+    go true h = absurd (lower-not-equal (sym e ∙ ap (orderOf a) (sym (same-lists a b h)) ∙ order-self a))
+
+-- the first of rising entries is lower than each later one
+pub first-lowest : (name : List ℕ) (es : List IndexEntry) (i : ℕ) → Before name es → Rising es → i < length es → orderOf name (getD es i noEntry .name) ≡ lower
+first-lowest name [] i b r h = absurd (omega arith)
+first-lowest name (e ∷ es) zero b r h = b
+first-lowest name (e ∷ es) (suc i) b r h = first-lowest name es i (before-others name e es b (r .0)) (r .1) (omega arith)
+
+-- each entry is looked up by its name
+pub own-start : (es : List IndexEntry) (i : ℕ) → Rising es → i < length es → lookUp (getD es i noEntry .name) es ≡ some (getD es i noEntry .start)
+unfolding lookUp
+own-start [] i r h = absurd (omega arith)
+own-start (e ∷ es) zero r h = rw (order-self (e .name)) (unfold whereEqual orElse in refl)
+own-start (e ∷ es) (suc i) r h =
+    let l = first-lowest (e .name) es i (r .0) (r .1) (omega arith) in
+    later (orderOf (getD es i noEntry .name) (e .name)) refl l (own-start es i (r .1) (omega arith))
+  where
+    later : (o : Order) → orderOf (getD es i noEntry .name) (e .name) ≡ o → orderOf (e .name) (getD es i noEntry .name) ≡ lower
+        → lookUp (getD es i noEntry .name) es ≡ some (getD es i noEntry .start)
+        → orElse (whereEqual (orderOf (getD es i noEntry .name) (e .name)) (e .start)) (lookUp (getD es i noEntry .name) es)
+        ≡ some (getD es i noEntry .start)
+    later lower k l ih = rw k (unfold whereEqual orElse in ih)
+    later higher k l ih = rw k (unfold whereEqual orElse in ih)
+    later equal k l ih =
+        absurd (lower-not-equal (sym l ∙ ap (λ (n : List ℕ). orderOf n (getD es i noEntry .name)) (sym (order-equal _ (e .name) k)) ∙ order-self _))
 
 -- ---- the last record of a name
 
@@ -75,12 +111,12 @@ none-named name at (r ∷ rs) h =
 
 -- the last record of a name stands at the name's start: behind the records `front`
 pub record StandsAt (name : List ℕ) (at : ℕ) (rs : List Record) (s : ℕ) : Type 0 where
-  pub leaf : Record
+  pub shown : Record
   pub front : List Record
   pub back : List Record
-  pub last : lastNamed name rs ≡ some leaf
-  pub named : leaf .name ≡ name
-  pub parts : rs ≡ front ++ leaf ∷ back
+  pub last : lastNamed name rs ≡ some shown
+  pub named : shown .name ≡ name
+  pub parts : rs ≡ front ++ shown ∷ back
   pub place : s ≡ at + lengthsOf front
 
 pub last-stands : (name : List ℕ) (at : ℕ) (rs : List Record) (s : ℕ) → lastStart name at rs ≡ some s → StandsAt name at rs s
@@ -98,10 +134,10 @@ last-stands name at (r ∷ rs) s h =
     go (some u) e o k h later =
         let x = later u e in
         record {
-          leaf = x .leaf;
+          shown = x .shown;
           front = r ∷ x .front;
           back = x .back;
-          last = later-stands name r rs (x .leaf) (x .last);
+          last = later-stands name r rs (x .shown) (x .last);
           named = x .named;
           parts = ap (λ (l : List Record). r ∷ l) (x .parts);
           place = sym (first-start (whereEqual o at) u s h) ∙ x .place ∙ further (x .front);
@@ -111,7 +147,7 @@ last-stands name at (r ∷ rs) s h =
     go none e equal k h later =
         let n : name ≡ r .name = order-equal name (r .name) k in
         record {
-          leaf = r;
+          shown = r;
           front = [];
           back = rs;
           last = this-stands name r rs (none-named name (at + length (recordBytes r)) rs e) n;
@@ -122,17 +158,17 @@ last-stands name at (r ∷ rs) s h =
 
 -- ---- the positions of the index
 
-pub leaf-at : (rs : List Record) (es : List IndexEntry) (i : ℕ) → i < length es → leafAt rs es i ≡ lastNamed (getD es i noEntry .name) rs
-unfolding leafAt
-leaf-at rs [] i h = absurd (omega arith)
-leaf-at rs (e ∷ es) zero h = refl
-leaf-at rs (e ∷ es) (suc i) h = leaf-at rs es i (omega arith)
+pub standing-at : (rs : List Record) (es : List IndexEntry) (i : ℕ) → i < length es → standingAt rs es i ≡ lastNamed (getD es i noEntry .name) rs
+unfolding standingAt
+standing-at rs [] i h = absurd (omega arith)
+standing-at rs (e ∷ es) zero h = refl
+standing-at rs (e ∷ es) (suc i) h = standing-at rs es i (omega arith)
 
-pub leaf-beyond : (rs : List Record) (es : List IndexEntry) (i : ℕ) → length es ≤ i → leafAt rs es i ≡ none
-unfolding leafAt
-leaf-beyond rs [] i h = refl
-leaf-beyond rs (e ∷ es) zero h = absurd (omega arith)
-leaf-beyond rs (e ∷ es) (suc i) h = leaf-beyond rs es i (omega arith)
+pub standing-beyond : (rs : List Record) (es : List IndexEntry) (i : ℕ) → length es ≤ i → standingAt rs es i ≡ none
+unfolding standingAt
+standing-beyond rs [] i h = refl
+standing-beyond rs (e ∷ es) zero h = absurd (omega arith)
+standing-beyond rs (e ∷ es) (suc i) h = standing-beyond rs es i (omega arith)
 
 -- at each position of the index of some records stands the last record of the entry's name, at the entry's start
 pub entry-stands : (rs : List Record) (i : ℕ) → i < length (indexOf (placedFrom 0 rs))
