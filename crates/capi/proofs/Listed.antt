@@ -13,7 +13,7 @@ use Rattle.journal_spec.specs.Profile.{plain}
 use Rattle.journal_spec.specs.Log.{newline}
 use Rattle.journal_spec.specs.Scan.{ScanResult, whole, torn, damaged, scanOf}
 use Rattle.journal_listing.specs.Listing.{spaced, lineOf, recordLine, stateLine, listingOf}
-use Rattle.journal_listing.specs.Plain.{plainRecordAt}
+use Rattle.journal_parts.specs.Plain.{plainRecordAt}
 use Rattle.journal_listing.specs.Lines.{Position, listedOf, startOf, endOf, noLine, recordStep, stepBy, step, onward, linesFrom}
 use Rattle.journal_listing.proofs.LinesJoined.{lines-joined}
 use Rattle.capi.specs.Line.{positionAfter, lineAt, callsFrom}

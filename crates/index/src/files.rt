@@ -170,10 +170,10 @@ fn may_be_index(b: &[u8]) -> bool {
     if b.len() < 4 {
         return true;
     }
-    if journal::number_in(b, 0, 2) == 0 {
+    if journal_parts::number_in(b, 0, 2) == 0 {
         return true;
     }
-    let count = journal::number_in(b, 2, 2);
+    let count = journal_parts::number_in(b, 2, 2);
     if count == 0 {
         return false;
     }

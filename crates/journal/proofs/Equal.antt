@@ -9,8 +9,8 @@ use lib.ListN.{length}
 use borrow.Author.Tests.{eq-eqb, ne-eqb}
 use Rattle.journal_spec.specs.Bytes.{numberAt, numbersIn}
 use Rattle.journal_spec.specs.Read.{allEqual, areEqual}
-use Rattle.journal.specs.Numbers.{numberIn}
-use Rattle.journal.proofs.NumberStands.{number-stands}
+use Rattle.journal_parts.specs.Numbers.{numberIn}
+use Rattle.journal_parts.proofs.NumberStands.{number-stands}
 
 pub length-numbers : (w n at : ℕ) (b : List ℕ) → length (numbersIn w n at b) ≡ n
 unfolding numbersIn

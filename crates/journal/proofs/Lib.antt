@@ -2,7 +2,6 @@
 -- `Inside` says that the part which reading answers lies inside the slice.
 
 -- fields and sections
-pub mod NumberStands
 pub mod Ranges
 pub mod Fields
 pub mod Items

@@ -5,7 +5,7 @@ ghost use Prim.Native.Nat.{_≤_, _<_};
 ghost use lib.ListN.{length};
 ghost use Rattle.journal.specs.Found.{fieldAt};
 use crate::Fault;
-use crate::number::number_at;
+use journal_parts::number_at;
 
 // The field's value; that the bytes run out before its last; or its refusal.
 pub(crate) enum FieldRead {

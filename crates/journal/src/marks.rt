@@ -6,8 +6,8 @@ ghost use lib.ListN.{length};
 ghost use Rattle.journal_spec.specs.Bytes.{numbersIn};
 ghost use Rattle.journal_spec.specs.Read.{letterOf, areEqual, markFrom, markOf, timesIn};
 ghost use Rattle.journal.specs.Answers.{asMark};
-use crate::number::number_at;
-use crate::number::number_in;
+use journal_parts::number_at;
+use journal_parts::number_in;
 
 // Below so many times the mark is S.
 const FEW_TIMES: u64 = 8;

@@ -14,8 +14,8 @@ use Rattle.facts.proofs.Tests.{by-test}
 use Rattle.journal_spec.specs.Bytes.{numberAt}
 use Rattle.journal_spec.specs.Index.{IndexEntry}
 use Rattle.journal_spec.specs.Index.{entriesSize}
-use Rattle.journal.specs.Numbers.{numberIn}
-use Rattle.journal.proofs.NumberStands.{number-stands}
+use Rattle.journal_parts.specs.Numbers.{numberIn}
+use Rattle.journal_parts.proofs.NumberStands.{number-stands}
 use Rattle.journal_entries.specs.Entries.{nameAt, startAt, behindEntry, sizeAt, startIn, entriesFrom, entriesIn}
 use Rattle.journal_entries.specs.Places.{endOf}
 

@@ -18,7 +18,7 @@ use Rattle.journal_spec.specs.Index.{IndexEntry}
 use Rattle.journal_spec.proofs.NameOrder.{order-equal}
 use Rattle.journal_spec.specs.Indexed.{lookUp}
 use Rattle.journal_spec.proofs.Indexes.{own, other}
-use Rattle.journal.specs.Numbers.{numberIn}
+use Rattle.journal_parts.specs.Numbers.{numberIn}
 use Rattle.journal_entries.specs.Entries.{nameAt, startAt, sizeAt, startIn, entriesFrom, entriesIn}
 use Rattle.journal_entries.specs.Answers.{startMeaning}
 use Rattle.journal_entries.specs.declared.finding.Start.the-variants as S

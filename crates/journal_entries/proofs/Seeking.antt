@@ -7,7 +7,7 @@ use mathlib.Core.Bool.{true, false}
 use native.Mathlib.Omega.{arith}
 use lib.ListN.{length}
 use Rattle.journal_spec.specs.Index.{Order, orderOf}
-use Rattle.journal.specs.Numbers.{numberIn}
+use Rattle.journal_parts.specs.Numbers.{numberIn}
 use Rattle.journal_entries.specs.Entries.{nameAt, sizeAt, entriesFrom, entriesIn}
 use Rattle.journal_entries.specs.Places.{foundBy, findIn}
 use Rattle.journal_entries.specs.Answers.{orderMeaning}

@@ -10,8 +10,8 @@ use lib.Dec.{leb}
 use borrow.Author.Tests.{le-leb, lt-leb}
 use Rattle.journal_spec.specs.Bytes.{numberAt}
 use Rattle.journal_spec.specs.Index.{orderOf}
-use Rattle.journal.specs.Numbers.{numberIn}
-use Rattle.journal.proofs.NumberStands.{number-stands}
+use Rattle.journal_parts.specs.Numbers.{numberIn}
+use Rattle.journal_parts.proofs.NumberStands.{number-stands}
 use Rattle.journal_entries.specs.Entries.{nameAt, behindEntry}
 use Rattle.journal_entries.specs.Shape.{isLower, isBelow, standFrom, isIndex}
 use Rattle.journal_entries.specs.Answers.{orderMeaning}

@@ -14,7 +14,7 @@ use crate::names::NameOrder;
 use crate::names::order_of;
 use crate::walking::size_at;
 use crate::walking::start_at;
-use journal::number_in;
+use journal_parts::number_in;
 use text_digits::same;
 
 // The place of the name's entry; or, where it has none, of the first entry above it, or behind the last.

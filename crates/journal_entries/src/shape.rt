@@ -4,7 +4,7 @@ ghost use mathlib.Core.Path.{_≡_};
 ghost use Rattle.journal_entries.specs.Shape.{isBelow, isIndex};
 use crate::names::NameOrder;
 use crate::names::order_of;
-use journal::number_in;
+use journal_parts::number_in;
 
 // Whether a buffer begins with an index.
 pub fn is_index(b: &[u8]) -> bool

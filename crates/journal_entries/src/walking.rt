@@ -6,7 +6,7 @@ ghost use lib.ListN.{take};
 ghost use Rattle.journal_spec.specs.Index.{entriesSize};
 ghost use Rattle.journal_entries.specs.Entries.{sizeAt, startIn, entriesFrom, entriesIn};
 ghost use Rattle.journal_entries.specs.Places.{endOf};
-use journal::number_in;
+use journal_parts::number_in;
 
 // The place behind entries, and how many they are.
 pub struct End {

@@ -15,7 +15,7 @@ use Rattle.facts.proofs.Orders.{by-order}
 use Rattle.text_digits.specs.Same.{sameBytes}
 use Rattle.text_digits.proofs.Comparing.{equal-same, same-equal}
 use Rattle.journal_spec.specs.Index.{IndexEntry}
-use Rattle.journal.specs.Numbers.{numberIn}
+use Rattle.journal_parts.specs.Numbers.{numberIn}
 use Rattle.journal_parts.specs.Front.{recordName}
 use Rattle.journal_entries.specs.Entries.{nameAt, startAt, sizeAt, entriesFrom, entriesIn}
 use Rattle.journal_entries.proofs.ByCounts.{entries-end, entries-none, entries-more, count-read}

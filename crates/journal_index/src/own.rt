@@ -12,7 +12,6 @@ use journal::Contents;
 use journal::Fault;
 use journal::Rule;
 use journal::contents_of;
-use journal::number_in;
 use journal_entries::is_entry;
 use journal_entries::is_index;
 use journal_entries::size_at;
@@ -21,6 +20,7 @@ use journal_order::MOST;
 use journal_order::key_at;
 use journal_order::latest_of;
 use journal_order::wide;
+use journal_parts::number_in;
 
 // Document 02's number for an index that is not the journal's.
 pub(crate) const INDEX_REFUSAL: u32 = 14;

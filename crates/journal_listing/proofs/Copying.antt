@@ -14,8 +14,8 @@ use Rattle.facts.proofs.Orders.{by-order}
 use Rattle.limit.specs.Times.{minCount, maxCount, inRange, timesInRange}
 use Rattle.limit.specs.Limit.{momentsOfTimes}
 use Rattle.journal_spec.specs.Bytes.{numberAt, numbersIn}
-use Rattle.journal.specs.Numbers.{numberIn}
-use Rattle.journal.proofs.NumberStands.{number-stands}
+use Rattle.journal_parts.specs.Numbers.{numberIn}
+use Rattle.journal_parts.proofs.NumberStands.{number-stands}
 use Rattle.journal.proofs.Heads.{number-below}
 use Rattle.journal.proofs.Equal.{length-numbers}
 

@@ -10,7 +10,7 @@ use lib.Seq.{length-paste}
 use Rattle.text_digits.specs.Text.{roomFor}
 use Rattle.journal_spec.specs.Reader.{Found, found, fault, short}
 use Rattle.journal_spec.specs.Record.{Record}
-use Rattle.journal_listing.specs.Plain.{plainRecordAt}
+use Rattle.journal_parts.specs.Plain.{plainRecordAt}
 use Rattle.journal_listing.specs.Lines.{Position, Step, endOf, noLine, recordStep, stepBy, step, Writes}
 use Rattle.journal_listing.specs.declared.Line.{Line}
 

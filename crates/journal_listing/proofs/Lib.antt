@@ -1,12 +1,8 @@
 -- The laws of the listing a line at a time, one idea to a file, in the order in which they build on each other, and worked examples of its text.
 -- `LinesJoined` has the theorem that the lines are the listing, `LinesFit` that each fits the buffer.
 
--- a record found again without judging it
-pub mod Plainly
-pub mod Reached
-pub mod Insides
+-- mean and spread of what stands at a place
 pub mod There
-pub mod Rooms
 -- texts put one behind another
 pub mod Putting
 pub mod Texts

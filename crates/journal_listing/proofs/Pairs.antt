@@ -7,8 +7,8 @@ use native.Mathlib.Omega.{arith}
 use lib.ListN.{length}
 use Rattle.text_digits.specs.Text.{Put}
 use Rattle.journal_spec.specs.Bytes.{numberAt, numbersIn}
-use Rattle.journal.specs.Numbers.{numberIn}
-use Rattle.journal.proofs.NumberStands.{number-stands}
+use Rattle.journal_parts.specs.Numbers.{numberIn}
+use Rattle.journal_parts.proofs.NumberStands.{number-stands}
 use Rattle.journal_spec.specs.Log.{space}
 use Rattle.journal_listing.specs.Listing.{quotedLimit, quotedLimits}
 use Rattle.journal_listing.specs.Spaced.{eachSpaced}

@@ -19,25 +19,11 @@ use Rattle.journal_spec.proofs.Places.{recordsOf-placed, length-placed}
 use Rattle.journal_spec.proofs.Explained.{holding}
 use Rattle.journal_spec.proofs.Profiles.{rule-then-plain}
 use Rattle.journal_listing.specs.Listing.{recordLine, recordLines, stateLine, listingOf}
-use Rattle.journal_listing.specs.Plain.{unjudged, plainRecordAt}
+use Rattle.journal_parts.specs.Plain.{unjudged, plainRecordAt}
 use Rattle.journal_listing.specs.Lines.{Position, listedOf, before, startOf, recordStep, stepBy, step}
-use Rattle.journal_listing.proofs.Plainly.{plain-finds}
+use Rattle.journal_parts.proofs.Parts.{record-there}
 
 -- ---- a record in its place
-
--- the plain reader is the same after every record
-plain-same : (last other : Last) → unjudged (recordReader last) ≡ unjudged (recordReader other)
-unfolding recordReader unjudged then
-plain-same last other = refl
-
--- a record that nothing refuses is found again behind any bytes
-pub record-there : (last : Last) (r : Record) (pre post : List ℕ) → RecordRanges last r
-    → plainRecordAt (length pre) (pre ++ (recordBytes r ++ post)) ≡ found r (length pre + length (recordBytes r)) post
-unfolding plainRecordAt
-record-there last r pre post good =
-    let bytes : drop (length pre) (pre ++ (recordBytes r ++ post)) ≡ recordBytes r ++ post = drop-at pre (recordBytes r ++ post) (length pre) refl in
-    let read = reads-back last r good .on (length pre) post in
-    rw (bytes, plain-same (lastOf []) last) (plain-finds (recordReader last) (length pre) (recordBytes r ++ post) r _ post read)
 
 -- a position before some records that are left
 abbrev pub leaving : List ℕ → List Record → ScanResult → Position

@@ -7,13 +7,13 @@ use mathlib.Core.Bool.{Bool, true, false, cond}
 use native.Mathlib.Omega.{arith}
 use Rattle.journal.specs.Answers.{meaning}
 use Rattle.journal_listing.specs.Listing.{recordLine, stateLine}
-use Rattle.journal_listing.specs.Plain.{plainRecordAt}
-use Rattle.journal_listing.specs.Spans.{spansAt, recordIn}
+use Rattle.journal_parts.specs.Plain.{plainRecordAt}
+use Rattle.journal_parts.specs.Spans.{spansAt, recordIn}
 use Rattle.journal_listing.specs.Lines.{Position, positionOf, endOf, noLine, recordStep, stepBy, step, Writes}
-use Rattle.journal_listing.specs.declared.spans.Spans.{Spans}
+use Rattle.journal_parts.specs.declared.spans.Spans.{Spans}
 use Rattle.journal_listing.specs.declared.Cursor.{Cursor}
 use Rattle.journal_listing.proofs.Putting.{put-nothing}
-use Rattle.journal_listing.proofs.Reached.{record-stands, record-short}
+use Rattle.journal_parts.proofs.Reached.{record-stands, record-short}
 
 -- no line
 pub writes-none : (p : Position) (out : List ℕ) (c : Cursor) → positionOf c ≡ endOf p → Writes (noLine p) out (record { size = 0; cursor = c }) out

@@ -6,9 +6,9 @@ use mathlib.Core.Bool.{true, false}
 use Rattle.limit.specs.Answer.{unworked, timesRefusal}
 use Rattle.limit.specs.Limit.{momentsOfTimes}
 use Rattle.journal_spec.specs.Bytes.{numberAt}
-use Rattle.journal_listing.specs.Spans.{spansAt, numbersOf}
+use Rattle.journal_parts.specs.Spans.{spansAt, numbersOf}
 use Rattle.journal_listing.specs.MomentsIn.{momentsIn}
-use Rattle.journal_listing.specs.declared.spans.Spans.{Spans}
+use Rattle.journal_parts.specs.declared.spans.Spans.{Spans}
 
 pub moments-none : (at : ℕ) (b : List ℕ) (s : Spans) → s ≡ spansAt at b → s .limits .stands ≡ false → unworked timesRefusal ≡ momentsIn at b
 unfolding momentsIn

@@ -2,7 +2,5 @@
 -- They stand over the journal's definitions in crate journal_spec and the digits of crate text_digits.
 pub mod Listing
 pub mod Spaced
-pub mod Plain
-pub mod Spans
 pub mod MomentsIn
 pub mod Lines

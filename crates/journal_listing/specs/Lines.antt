@@ -12,7 +12,7 @@ use Rattle.journal_spec.specs.Profile.{Rule}
 use Rattle.journal_spec.specs.Scan.{ScanResult, whole, torn, damaged, scanOf}
 use Rattle.journal.specs.Answers.{meaning}
 use Rattle.journal_listing.specs.Listing.{recordLine, stateLine}
-use Rattle.journal_listing.specs.Plain.{plainRecordAt}
+use Rattle.journal_parts.specs.Plain.{plainRecordAt}
 use Rattle.journal_listing.specs.declared.Cursor.{Cursor}
 use Rattle.journal_listing.specs.declared.Line.{Line}
 

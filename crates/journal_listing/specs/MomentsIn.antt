@@ -5,7 +5,7 @@ use mathlib.Core.Bool.{cond}
 use Rattle.limit.specs.Answer.{MomentsResult, unworked, timesRefusal}
 use Rattle.limit.specs.Limit.{momentsOfTimes}
 use Rattle.journal_spec.specs.Bytes.{numberAt}
-use Rattle.journal_listing.specs.Spans.{spansAt, numbersOf}
+use Rattle.journal_parts.specs.Spans.{spansAt, numbersOf}
 
 -- under the record's own form (document 02, 2026-03 and 2026-04); where no record stands there are no times
 unfoldable pub momentsIn : ℕ → List ℕ → MomentsResult

@@ -6,15 +6,14 @@ ghost use Prim.Native.Nat.{_-_, _<_};
 ghost use Rattle.journal_listing.specs.Lines.{positionOf, listedOf, startOf, step, recordStep, endOf, Writes};
 ghost use Rattle.journal.specs.Answers.{meaning};
 ghost use Rattle.journal.specs.Handed.{asRule};
-ghost use Rattle.journal_listing.specs.Plain.{plainRecordAt};
-use crate::spans::spans_at;
+ghost use Rattle.journal_parts.specs.Plain.{plainRecordAt};
 use crate::words::put_record;
 use crate::words::put_state;
 use journal::Rule;
 use journal::Status;
+use journal_parts::spans_at;
 
 pub mod moments;
-pub mod spans;
 mod text;
 mod words;
 

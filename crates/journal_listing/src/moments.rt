@@ -11,10 +11,10 @@ ghost use Rattle.limit.specs.Limit.{momentsOfTimes};
 ghost use Rattle.journal_spec.specs.Bytes.{numberAt, numbersIn};
 ghost use Rattle.journal_listing.specs.Listing.{meanBits, spreadBits};
 ghost use Rattle.journal_listing.specs.MomentsIn.{momentsIn};
-ghost use Rattle.journal_listing.specs.Spans.{Inside, numbersOf};
-use crate::spans::Span;
-use crate::spans::spans_at;
-use journal::number_in;
+ghost use Rattle.journal_parts.specs.Spans.{Inside, numbersOf};
+use journal_parts::Span;
+use journal_parts::number_in;
+use journal_parts::spans_at;
 use limit::Worked;
 
 // The most times of a record, and document 01's refusal of times.

@@ -1,27 +1,22 @@
 -- What the counts of a record that stands at a place say, as the code reads them. Assumes nothing.
-use mathlib.Core.Path.{_≡_, refl, sym, _∙_}
+use mathlib.Core.Path.{_≡_, refl}
 use Prim.Native.Nat.{ℕ, _+_, _-_, _≤_, _<_}
 use mathlib.Core.List.{List, [], _∷_}
 use mathlib.Core.Bool.{true, false}
 use native.Mathlib.Omega.{arith}
 use lib.ListN.{length, take, drop}
-use borrow.Author.Tests.{le-leb}
 use Rattle.text_digits.specs.Text.{Put}
-use Rattle.journal_spec.specs.Bytes.{numberAt}
 use Rattle.journal_spec.specs.Record.{Record}
 use Rattle.journal_spec.specs.Scan.{maxLength}
-use Rattle.journal_spec.specs.Cursor.{formAt, dayAt, sizeAt}
-use Rattle.journal_spec.proofs.Pieces.{RecordHere}
-use Rattle.journal_spec.proofs.Cursor.{Cursor, cursor-read, cursor-some}
-use Rattle.journal.specs.Numbers.{numberIn}
+use Rattle.journal_spec.proofs.Cursor.{Cursor, cursor-some}
+use Rattle.journal_parts.specs.Numbers.{numberIn}
+use Rattle.journal_parts.specs.Spans.{formAt, dayAt}
 use Rattle.journal_parts.specs.Front.{recordSize}
+use Rattle.journal_parts.proofs.NumberStands.{number-stands}
+use Rattle.journal_parts.proofs.Parts.{Parts, cursor-parts}
 use Rattle.journal_parts.proofs.Front.{front-size}
 use Rattle.journal_merge.specs.Records.{Rest, AtRecord, sourceOf}
 use Rattle.journal_merge.specs.declared.parts.Part.{Part}
-
-number-stands : (at : ℕ) (b : List ℕ) → at + 2 ≤ length b → numberIn 2 at b ≡ numberAt 2 at b
-unfolding numberIn
-number-stands at b h = rw (le-leb (at + 2) (length b) h) refl
 
 -- the journal in which a part stands
 module _ (a b : List ℕ) (part : Part) where
@@ -55,30 +50,26 @@ pub rest-record : (b : List ℕ) (at : ℕ) → Rest b at → at < length b → 
 rest-record b at r h = at-record b at (r .records) (r .cursor) (r .short) h
 
 module _ (b : List ℕ) (at : ℕ) (a : AtRecord b at) where
-  abbrev read : RecordHere b at (a .first)
-  read = cursor-read b at (a .first) (a .others) (a .cursor)
+  abbrev read : Parts b at (a .first)
+  read = cursor-parts b at (a .first) (a .others) (a .cursor)
 
   pub day-read : numberIn 2 (at + 2) b ≡ dayAt b at
-  unfolding dayAt
-  day-read = number-stands (at + 2) b (omega (arith, read .inside, read .length′))
+  day-read = number-stands 2 (at + 2) b (omega arith) (omega (arith, read .inside, read .length′))
 
   pub form-read : numberIn 2 at b ≡ formAt b at
-  unfolding formAt
-  form-read = number-stands at b (omega (arith, read .inside, read .length′))
+  form-read = number-stands 2 at b (omega arith) (omega (arith, read .inside, read .length′))
 
   -- where the record ends
   pub record Bounds : Type 0 where
-    pub inside : at + sizeAt b at ≤ length b
-    pub some : 0 < sizeAt b at
+    pub inside : at + recordSize (drop at b) ≤ length b
+    pub some : 0 < recordSize (drop at b)
     pub short : length b ≤ maxLength
 
   pub bounds : Bounds
-  bounds = record {
-    inside = omega (arith, read .inside, read .size);
-    some = omega (arith, read .size, read .length′);
-    short = a .short;
-  }
-
-  -- the size, by the bytes from the record on
-  pub size-read : recordSize (drop at b) ≡ sizeAt b at
-  size-read = front-size b at (a .first) (a .others) (a .cursor) ∙ sym (read .size)
+  bounds =
+      let size = front-size b at (a .first) (a .others) (a .cursor) in
+      record {
+        inside = omega (arith, read .inside, size);
+        some = omega (arith, size, read .length′);
+        short = a .short;
+      }

@@ -9,10 +9,14 @@ use lib.Seq.{append-snoc}
 use borrow.Author.Tests.{le-leb, lt-leb, leb-true, leb-false}
 use Rattle.facts.proofs.Orders.{by-order}
 use Rattle.journal_spec.specs.Record.{Record, recordBytes, lastOf}
-use Rattle.journal_spec.specs.Cursor.{dayAt, sizeAt, recordsIn}
-use Rattle.journal_spec.proofs.Cursor.{Cursor, cursor-none, cursor-some, cursor-part, cursor-next, cursor-read}
+use Rattle.journal_spec.specs.Cursor.{recordsIn}
+use Rattle.journal_spec.proofs.Cursor.{Cursor, cursor-none, cursor-some, cursor-part, cursor-next}
 use Rattle.journal_spec.proofs.Whole.{WholeBytes}
-use Rattle.journal.specs.Numbers.{numberIn}
+use Rattle.journal_parts.specs.Numbers.{numberIn}
+use Rattle.journal_parts.specs.Spans.{dayAt}
+use Rattle.journal_parts.specs.Front.{recordSize}
+use Rattle.journal_parts.proofs.Parts.{cursor-parts}
+use Rattle.journal_parts.proofs.Front.{front-size}
 use Rattle.journal_merge_spec.specs.Records.{isAmong, isTwin, mergedOf}
 use Rattle.journal_merge_spec.proofs.ByDay.{HeadFrom, DaysFrom}
 use Rattle.journal_merge_spec.proofs.Following.{follow-days}
@@ -88,21 +92,21 @@ record IsSecond (xs ys : List Record) : Type 0 where
 
 module _ (a b : List ℕ) (i j : ℕ) where
   inside : (c : List ℕ) (at : ℕ) (r : Record) (rs : List Record) → Cursor c at (r ∷ rs) → at < length c
-  inside c at r rs d = let k = cursor-read c at r rs d in omega (arith, k .inside, k .length′)
+  inside c at r rs d = let k = cursor-parts c at r rs d in omega (arith, k .inside, k .length′)
 
   is-first : (xs ys : List Record) → Cursor a i xs → Cursor b j ys → firstNext a b i j ≡ true → IsFirst xs ys
   is-first [] ys c d h = absurd (cursor-some a i c (next-first a b i j h .0))
   is-first (x ∷ xs) [] c d h = record { x = x; rest = xs; is = refl; head = tt }
   is-first (x ∷ xs) (y ∷ ys) c d h =
       let k = next-first a b i j h .1 (inside b j y ys d) in
-      record { x = x; rest = xs; is = refl; head = omega (arith, k, cursor-read a i x xs c .day, cursor-read b j y ys d .day) }
+      record { x = x; rest = xs; is = refl; head = omega (arith, k, cursor-parts a i x xs c .day, cursor-parts b j y ys d .day) }
 
   is-second : (xs ys : List Record) → Cursor a i xs → Cursor b j ys → firstNext a b i j ≡ false → j < length b → IsSecond xs ys
   is-second xs [] c d h l = absurd (cursor-some b j d l)
   is-second [] (y ∷ ys) c d h l = record { y = y; rest = ys; is = refl; head = tt }
   is-second (x ∷ xs) (y ∷ ys) c d h l =
       let k = next-second a b i j h (inside a i x xs c) .1 in
-      record { y = y; rest = ys; is = refl; head = omega (arith, k, cursor-read a i x xs c .day, cursor-read b j y ys d .day) }
+      record { y = y; rest = ys; is = refl; head = omega (arith, k, cursor-parts a i x xs c .day, cursor-parts b j y ys d .day) }
 
   is-none : (xs ys : List Record) → Cursor a i xs → Cursor b j ys → firstNext a b i j ≡ false → length b ≤ j → (xs ≡ []) × (ys ≡ [])
   is-none [] ys c d h l = (refl, cursor-none b j ys d l)
@@ -116,9 +120,9 @@ coming-of : (first xs ys xs′ ys′ now rest : List Record) (result : List Reco
 coming-of first xs ys xs′ ys′ now rest result e f g h = e ∙ rw (f, g, h) refl
 
 -- the part in which a record stands
-module _ (c : List ℕ) (at size : ℕ) (r : Record) (rs : List Record) (d : Cursor c at (r ∷ rs)) (e : size ≡ sizeAt c at) where
+module _ (c : List ℕ) (at size : ℕ) (r : Record) (rs : List Record) (d : Cursor c at (r ∷ rs)) (e : size ≡ recordSize (drop at c)) where
   size-is : size ≡ length (recordBytes r)
-  size-is = e ∙ cursor-read c at r rs d .size
+  size-is = e ∙ front-size c at r rs d
 
   part-is : take size (drop at c) ≡ recordBytes r
   part-is = rw size-is (cursor-part c at r rs d)
@@ -127,10 +131,10 @@ module _ (c : List ℕ) (at size : ℕ) (r : Record) (rs : List Record) (d : Cur
   part-next = rw size-is (cursor-next c at r rs d)
 
   part-inside : (at + size ≤ length c) × (0 < size)
-  part-inside = let k = cursor-read c at r rs d in (omega (arith, k .inside, size-is), omega (arith, k .length′, size-is))
+  part-inside = let k = cursor-parts c at r rs d in (omega (arith, k .inside, size-is), omega (arith, k .length′, size-is))
 
   part-form : length c ≤ 65_536 → numberIn 2 at c ≡ r .form
-  part-form s = form-read c at (record { first = r; others = rs; cursor = d; short = s }) ∙ cursor-read c at r rs d .form
+  part-form s = form-read c at (record { first = r; others = rs; cursor = d; short = s }) ∙ cursor-parts c at r rs d .form
 
 module _ (a b : List ℕ) (p : Places) (made : List Record) (w : WholeBytes a) (v : WholeBytes b) (m : Reached a b p made) where
   -- none is left
@@ -141,7 +145,7 @@ module _ (a b : List ℕ) (p : Places) (made : List Record) (w : WholeBytes a) (
 
   module _ (size : ℕ) where
     -- the first journal's record
-    pub stepped-first : firstNext a b (p .first) (p .second) ≡ true → size ≡ sizeAt a (p .first)
+    pub stepped-first : firstNext a b (p .first) (p .second) ≡ true → size ≡ recordSize (drop (p .first) a)
         → Took a b p made (record { first = true; start = p .first; size = size })
         (record { first = p .first + size; second = p .second })
     unfolding sourceOf
@@ -172,7 +176,7 @@ module _ (a b : List ℕ) (p : Places) (made : List Record) (w : WholeBytes a) (
         }
 
     -- the second's
-    module _ (h : firstNext a b (p .first) (p .second) ≡ false) (k : p .second < length b) (e : size ≡ sizeAt b (p .second)) where
+    module _ (h : firstNext a b (p .first) (p .second) ≡ false) (k : p .second < length b) (e : size ≡ recordSize (drop (p .second) b)) where
       next : IsSecond (m .xs) (m .ys)
       next = is-second a b (p .first) (p .second) (m .xs) (m .ys) (m .first) (m .second) h k
 

@@ -10,10 +10,11 @@ use lib.Dec.{leb}
 use Rattle.journal_spec.specs.Record.{Record, recordBytes}
 use Rattle.journal_spec.specs.Scan.{maxLength}
 use Rattle.journal_spec.specs.Model.{lengthsOf}
-use Rattle.journal_spec.specs.Cursor.{dayAt, recordsIn}
+use Rattle.journal_spec.specs.Cursor.{recordsIn}
 use Rattle.journal_spec.proofs.Cursor.{Cursor}
 use Rattle.journal_spec.proofs.Whole.{WholeBytes}
-use Rattle.journal.specs.Numbers.{numberIn}
+use Rattle.journal_parts.specs.Numbers.{numberIn}
+use Rattle.journal_parts.specs.Spans.{dayAt}
 use Rattle.journal_merge_spec.specs.Records.{undropped, byDay, mergedOf, fallFrom}
 use Rattle.journal_merge_spec.specs.Merge.{MergeOutcome, fallOf, roomOf, firstRefusal, settleMerge}
 use Rattle.journal_merge_spec.proofs.ByDay.{DaysFrom}

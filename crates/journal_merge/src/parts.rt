@@ -5,10 +5,11 @@ ghost use Prim.Native.Nat.{_+_, _≤_};
 ghost use lib.ListN.{length, take, drop};
 ghost use Rattle.text_digits.specs.Text.{Put};
 ghost use Rattle.journal_spec.specs.Scan.{maxLength};
-ghost use Rattle.journal_spec.specs.Cursor.{dayAt, sizeAt};
-ghost use Rattle.journal.specs.Numbers.{numberIn};
+ghost use Rattle.journal_parts.specs.Numbers.{numberIn};
+ghost use Rattle.journal_parts.specs.Spans.{dayAt};
+ghost use Rattle.journal_parts.specs.Front.{recordSize};
 ghost use Rattle.journal_merge.specs.Records.{AtRecord, sourceOf};
-use journal::number_in;
+use journal_parts::number_in;
 use journal_parts::record_size;
 use text_digits::put;
 
@@ -30,7 +31,7 @@ pub(crate) fn day_at(b: &[u8], at: usize) -> u64
 // Its bytes' number.
 pub(crate) fn size_at(b: &[u8], at: usize) -> usize
     requires { ⌜ AtRecord (now b) at ⌝ }
-    ensures { λ r. ⌜ r ≡ sizeAt (now (b .entry)) at ⌝ }
+    ensures { λ r. ⌜ r ≡ recordSize (drop at (now (b .entry))) ⌝ }
 {
     record_size(&b[at..])
 }

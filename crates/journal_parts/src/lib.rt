@@ -1,27 +1,33 @@
-// The record at the front of a slice, by its counts alone: its bytes' number, and its name. It has as many limits as chances.
-// Nothing is assumed of the bytes: a count that does not stand in the slice is 0, and a name that does not is empty.
+// A record by its counts: a number in bytes, where the sections of the record at a place stand, and of the one at a slice's front its size and its
+// name. Nothing is judged and nothing is assumed of the bytes: what does not stand in the slice is 0 or empty.
 ghost use mathlib.Core.Path.{_≡_};
 ghost use Rattle.journal_parts.specs.Front.{recordSize, recordName};
-use journal::number_in;
+use crate::spans::name_at;
 
-// The number of bytes that the counts come to.
+mod number;
+mod spans;
+
+pub use number::number_at;
+pub use number::number_in;
+pub use spans::Span;
+pub use spans::Spans;
+pub use spans::spans_at;
+
+// The number of bytes of the record at the front.
 pub fn record_size(b: &[u8]) -> usize
     ensures { λ r. ⌜ r ≡ recordSize (now (b .entry)) ⌝ }
 {
-    let names = number_in(b, 4, 2) as usize;
-    let chances = number_in(b, 6 + names, 2) as usize;
-    let times = number_in(b, 8 + names + 4 * chances, 2) as usize;
-    12 + names + 12 * chances + 4 * times
+    let s = spans_at(b, 0);
+    let last = s.limits;
+    last.next
 }
 
 // The name's bytes.
 pub fn record_name<'a>(b: &'a [u8]) -> &'a [u8]
     ensures { λ r. ⌜ now r ≡ recordName (now (b .entry)) ⌝ }
 {
-    let names = number_in(b, 4, 2) as usize;
-    let end = 6 + names;
-    if b.len() < end {
-        return &b[..0];
-    }
-    &b[6..end]
+    let name = name_at(b, 0);
+    let first = name.first;
+    let end = name.next;
+    &b[first..end]
 }

@@ -9,13 +9,13 @@ use lib.ListN.{length, take}
 use Rattle.facts.proofs.Orders.{by-order}
 use Rattle.journal_spec.specs.Index.{IndexEntry}
 use Rattle.journal_spec.specs.Index.{entriesSize}
-use Rattle.journal.specs.Numbers.{numberIn}
+use Rattle.journal_parts.specs.Numbers.{numberIn}
 use Rattle.journal_entries.specs.Entries.{nameAt, startAt, sizeAt, startIn, entriesFrom, entriesIn}
 use Rattle.journal_entries.specs.Answers.{startMeaning}
 use Rattle.journal_entries.specs.declared.finding.Start.{Start}
 use Rattle.journal_entries.specs.declared.finding.Start.the-variants as S
 use Rattle.journal_entries.proofs.ByCounts.{size-here, start-stands, entries-end, entries-more, count-read, few}
-use Rattle.journal_listing.specs.Plain.{plainRecordAt}
+use Rattle.journal_parts.specs.Plain.{plainRecordAt}
 use Rattle.journal_slot.specs.Slot.{slotOf}
 use Rattle.journal_report.specs.Report.{startAtPosition, startLine}
 

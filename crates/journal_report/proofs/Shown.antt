@@ -23,8 +23,8 @@ use Rattle.journal_entries.proofs.Fitting.{own-index-here}
 use Rattle.journal_spec.specs.Indexed.{lookUp, lastNamed, standingAt}
 use Rattle.journal_spec.proofs.Standing.{noEntry, standing-beyond}
 use Rattle.journal_spec.proofs.StandingBytes.{StandingBytes, last-bytes, standing-bytes, standing-there}
-use Rattle.journal_listing.specs.Plain.{plainRecordAt}
-use Rattle.journal_listing.proofs.Starting.{record-there}
+use Rattle.journal_parts.specs.Plain.{plainRecordAt}
+use Rattle.journal_parts.proofs.Parts.{record-there}
 use Rattle.journal_slot.specs.Slot.{slotLine, slotOf}
 use Rattle.journal_report.specs.Report.{lineOf, reportLine, reportLines, linesTo, startAtPosition, startLine, WritesLine}
 use Rattle.journal_report.proofs.Positions.{position-beyond}

@@ -4,7 +4,7 @@ use Prim.Native.Nat.{ℕ, _+_, _-_, _≤_, _<_, max}
 use mathlib.Core.List.{List, []}
 use native.Mathlib.Omega.{arith}
 use Rattle.facts.proofs.Orders.{by-order}
-use Rattle.journal.specs.Numbers.{numberIn}
+use Rattle.journal_parts.specs.Numbers.{numberIn}
 use Rattle.journal_entries.specs.Entries.{sizeAt, entriesFrom, entriesIn}
 use Rattle.journal_entries.proofs.ByCounts.{size-here, entries-end, entries-none, entries-more, count-read}
 use Rattle.journal_report.specs.Report.{widest, widthOf}

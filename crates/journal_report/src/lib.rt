@@ -4,11 +4,11 @@ ghost use mathlib.Core.Path.{_≡_};
 ghost use Rattle.journal_entries.specs.Entries.{entriesIn};
 ghost use Rattle.journal_entries.specs.Answers.{startMeaning};
 ghost use Rattle.journal_report.specs.Report.{startAtPosition, WritesLine};
-use journal::number_in;
 use journal_entries::Start;
 use journal_entries::entry_place;
 use journal_entries::size_at;
 use journal_entries::start_at;
+use journal_parts::number_in;
 use journal_slot::Layout;
 use journal_slot::slot_line;
 

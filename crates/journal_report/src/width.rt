@@ -4,8 +4,8 @@ ghost use mathlib.Core.Path.{_≡_};
 ghost use Prim.Native.Nat.{max};
 ghost use Rattle.journal_entries.specs.Entries.{entriesIn};
 ghost use Rattle.journal_report.specs.Report.{widthOf};
-use journal::number_in;
 use journal_entries::size_at;
+use journal_parts::number_in;
 
 // The width of the head's `name`, the least.
 const HEAD_WIDTH: usize = 4;

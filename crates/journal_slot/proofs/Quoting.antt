@@ -13,8 +13,8 @@ use borrow.Author.Tests.{eq-eqb, ne-eqb}
 use Rattle.text_digits.specs.Text.{Put}
 use Rattle.text_digits.proofs.Putting.{put-nothing, put-put}
 use Rattle.journal_spec.specs.Bytes.{numberAt, numbersIn}
-use Rattle.journal.specs.Numbers.{numberIn}
-use Rattle.journal.proofs.NumberStands.{number-stands}
+use Rattle.journal_parts.specs.Numbers.{numberIn}
+use Rattle.journal_parts.proofs.NumberStands.{number-stands}
 use Rattle.journal_slot.specs.Slot.{Quote, column, slotText, quotesOf, limitFor, noLimit, limitWidth, quoteColumns, askedColumns, limitColumns}
 
 -- n quotes, the chances from c on and the limits from l on

@@ -16,16 +16,16 @@ use Rattle.text_ticks.proofs.Longest.{up-text-most, near-text-most}
 use Rattle.limit.specs.Answer.{MomentsResult}
 use Rattle.limit.specs.Limit.{momentsOfTimes}
 use Rattle.journal_spec.specs.Bytes.{numberAt, numbersIn}
-use Rattle.journal.specs.Numbers.{numberIn}
-use Rattle.journal.proofs.NumberStands.{number-stands}
+use Rattle.journal_parts.specs.Numbers.{numberIn}
+use Rattle.journal_parts.proofs.NumberStands.{number-stands}
 use Rattle.journal.proofs.Heads.{number-below}
 use Rattle.journal.proofs.Equal.{length-numbers}
 use Rattle.journal_listing.specs.Listing.{meanBits, spreadBits}
 use Rattle.journal_listing.specs.MomentsIn.{momentsIn}
-use Rattle.journal_listing.specs.Plain.{plainRecordAt}
-use Rattle.journal_listing.specs.Spans.{spansAt, numbersOf, recordIn}
-use Rattle.journal_listing.specs.declared.spans.Spans.{Spans}
-use Rattle.journal_listing.proofs.Reached.{record-stands, record-short}
+use Rattle.journal_parts.specs.Plain.{plainRecordAt}
+use Rattle.journal_parts.specs.Spans.{spansAt, numbersOf, recordIn}
+use Rattle.journal_parts.specs.declared.spans.Spans.{Spans}
+use Rattle.journal_parts.proofs.Reached.{record-stands, record-short}
 use Rattle.journal_listing.proofs.Texts.{bytes-in}
 use Rattle.journal_listing.proofs.There.{moments-there}
 use Rattle.journal_slot.specs.Slot.{fill, column, nameColumn, nearText, slotText, timesWidth, momentWidth, figureColumns, slotLine, slotOf}

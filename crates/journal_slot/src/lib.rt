@@ -3,14 +3,14 @@
 ghost use mathlib.Core.Path.{_≡_};
 ghost use mathlib.Core.Bool.{true};
 ghost use Rattle.text_digits.specs.Text.{Put};
-ghost use Rattle.journal_listing.specs.Plain.{plainRecordAt};
-ghost use Rattle.journal_listing.specs.Spans.{recordIn, spansAt};
+ghost use Rattle.journal_parts.specs.Plain.{plainRecordAt};
+ghost use Rattle.journal_parts.specs.Spans.{recordIn, spansAt};
 ghost use Rattle.journal_slot.specs.Slot.{slotLine, slotOf};
 use crate::figures::put_figures;
 use crate::front::put_front;
 use crate::quotes::put_limits;
-use journal_listing::spans::Spans;
-use journal_listing::spans::spans_at;
+use journal_parts::Spans;
+use journal_parts::spans_at;
 use text_digits::put;
 
 mod cells;

@@ -6,8 +6,8 @@ use mathlib.Core.Bool.{Bool, true, false, cond}
 use native.Mathlib.Omega.{arith}
 use lib.ListN.{length, take, drop}
 use Rattle.journal_spec.specs.Bytes.{numberAt}
-use Rattle.journal.specs.Numbers.{numberIn}
-use Rattle.journal.proofs.NumberStands.{number-stands}
+use Rattle.journal_parts.specs.Numbers.{numberIn}
+use Rattle.journal_parts.proofs.NumberStands.{number-stands}
 use Rattle.journal_trial_spec.specs.Links.{LogRead}
 use Rattle.journal_trial.specs.Counting.{countedBy}
 use Rattle.journal_trial.specs.Lowest.{ChancesIn}

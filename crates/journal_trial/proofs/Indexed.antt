@@ -16,8 +16,8 @@ use Rattle.journal_spec.proofs.Each.{same-lists, same-self}
 use Rattle.journal_spec.proofs.NameOrder.{higher-not-equal, order-self, order-equal}
 use Rattle.journal_spec.specs.Indexed.{Rising}
 use Rattle.journal_spec.specs.Index.{entriesSize}
-use Rattle.journal.specs.Numbers.{numberIn}
-use Rattle.journal.proofs.NumberStands.{number-stands}
+use Rattle.journal_parts.specs.Numbers.{numberIn}
+use Rattle.journal_parts.proofs.NumberStands.{number-stands}
 use Rattle.journal_entries.specs.Entries.{behindEntry, startAt, startIn, entriesIn}
 use Rattle.journal_entries.specs.Places.{foundBy, findIn}
 use Rattle.journal_entries.proofs.Indexed.{Entries, entry-read, IndexHere}

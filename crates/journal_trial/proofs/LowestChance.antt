@@ -6,8 +6,8 @@ use mathlib.Core.Bool.{Bool, true, false, cond}
 use native.Mathlib.Omega.{arith}
 use lib.ListN.{length, getD}
 use Rattle.journal_spec.specs.Bytes.{numberAt, numbersIn}
-use Rattle.journal.specs.Numbers.{numberIn}
-use Rattle.journal.proofs.NumberStands.{number-stands}
+use Rattle.journal_parts.specs.Numbers.{numberIn}
+use Rattle.journal_parts.proofs.NumberStands.{number-stands}
 use Rattle.journal_trial_spec.specs.Trial.{overruns, Lowest, noChance, chance, lowestOf}
 use Rattle.journal_trial.specs.Lowest.{ChancesIn, lowestFrom, lowestIn}
 

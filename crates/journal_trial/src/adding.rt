@@ -13,7 +13,7 @@ use crate::leaf::Trial;
 use crate::strangers::Unknown;
 use crate::strangers::try_unknown;
 use journal::Fault;
-use journal::number_in;
+use journal_parts::number_in;
 
 // The numbers of a position.
 pub const NUMBERS: usize = 9;

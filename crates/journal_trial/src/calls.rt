@@ -11,11 +11,11 @@ use crate::leaf::LINE_REFUSAL;
 use crate::leaf::Trial;
 use crate::leaf::try_leaf;
 use journal::Fault;
-use journal::number_in;
 use journal_entries::entry_place;
 use journal_entries::start_at;
 use journal_index::Checked;
 use journal_index::check_index;
+use journal_parts::number_in;
 
 // Document 02's number for a position that the index does not have.
 const ABSENT_REFUSAL: u32 = 10;

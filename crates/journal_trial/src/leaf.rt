@@ -9,7 +9,7 @@ use crate::counting::Counts;
 use crate::counting::count_links;
 use crate::lowest::lowest;
 use journal::Fault;
-use journal::number_in;
+use journal_parts::number_in;
 
 // Document 02's number for a line of the log that is refused.
 pub(crate) const LINE_REFUSAL: u32 = 11;

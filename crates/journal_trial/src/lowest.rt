@@ -6,7 +6,7 @@ ghost use mathlib.Core.Bool.{_&&_};
 ghost use lib.Dec.{leb};
 ghost use Rattle.journal_trial_spec.specs.Trial.{million, overruns};
 ghost use Rattle.journal_trial.specs.Lowest.{ChancesIn, lowestIn};
-use journal::number_in;
+use journal_parts::number_in;
 
 // The least chance that is certain.
 const MILLION: u64 = 1_000_000;

@@ -2,11 +2,11 @@
 // The texts of dates, ticks and numbers are those of crates text_dates, text_ticks and text_digits. No line is longer than a limit's may be.
 use journal::marks::Mark;
 use journal::marks::mark_of;
-use journal::number_in;
 use journal_listing::moments::mean_bits;
 use journal_listing::moments::moments_in;
 use journal_listing::moments::spread_bits;
-use journal_listing::spans::spans_at;
+use journal_parts::number_in;
+use journal_parts::spans_at;
 use journal_report::MAX_FIGURE;
 use journal_report::limit_line;
 use journal_report::moment_line;

@@ -12,7 +12,7 @@ use crate::table::table_room;
 use crate::text::put_chance;
 use crate::text::put_head;
 use command_io::Gathered;
-use journal::number_in;
+use journal_parts::number_in;
 use journal_trial::Unknown;
 use text_digits::put;
 

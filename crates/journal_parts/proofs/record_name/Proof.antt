@@ -1,33 +1,30 @@
--- `record_name` cuts the name out where all of it stands. Assumes nothing.
-use Prim.Native.Nat.{_<_}
+-- `record_name` cuts out the bytes of the name's section, none where it does not stand. Assumes nothing.
+use Prim.Native.Nat.{_≤_}
 use native.Mathlib.Omega.{arith}
 use borrow.Author.Needs.{needs}
 use denote.Ref.{now}
-use Rattle.journal_parts.proofs.Front.{count-small, name-stands, name-beyond}
+use lib.ListN.{length}
+use Rattle.journal_parts.specs.Spans.{partOf}
+use Rattle.journal_parts.specs.Front.{recordName}
+use Rattle.journal_parts.proofs.Insides.{name-within}
 use Rattle.journal_parts.proofs.record_name.Statement.{statement}
 use Rattle.journal_parts.proofs.record_name.Tie as tie
 
-small : (c : tie.After-number-in) → c .number-in .result < 65_536
-small c = omega (arith, c .number-in .ensures, count-small 4 (now (c .before .before .args .b)) (λ i. omega (arith, c .before .shared-slice-known .given i)))
+within : (c : tie.After-name-at) → (c .name-at .result .first ≤ c .name-at .result .next) × (c .name-at .result .next ≤ length (now (c .before .before .args .b)))
+within c = name-within 0 _ (c .name-at .result) (c .name-at .ensures)
 
-add-end : tie.Need-add-end
-add-end c = omega (arith, small c)
+sub-result : tie.Need-sub-result
+sub-result c = omega (arith, within c)
+
+part-result-start : tie.Need-part-result-start
+part-result-start c = omega (arith, within c)
+
+part-result-end : tie.Need-part-result-end
+part-result-end c = omega (arith, within c)
 
 returns : tie.Need-returns
-returns c = let read = c .before .before in name-beyond _ (read .number-in .result) (read .number-in .ensures) (omega arith)
-
-returns-2 : tie.Need-returns-2
-returns-2 c = let read = c .before .before in name-stands _ (read .number-in .result) (read .number-in .ensures) (omega arith)
+unfolding recordName partOf
+returns c = cc
 
 pub record-name-spec : {M : Type 1} → statement M
-record-name-spec =
-    tie.close
-    (tie.spec
-    (λ c κs. search needs)
-    add-end
-    (λ c. search needs)
-    returns
-    (λ c. search needs)
-    (λ c. search needs)
-    (λ c. search needs)
-    returns-2)
+record-name-spec = tie.close (tie.spec (λ c κs. search needs) sub-result part-result-start part-result-end returns)

@@ -3,8 +3,8 @@
 use borrow.Author.Needs.{needs}
 use denote.Ref.{now}
 use Rattle.text_digits.proofs.Putting.{put-put}
-use Rattle.journal_listing.specs.Spans.{recordIn}
-use Rattle.journal_listing.proofs.Insides.{standing}
+use Rattle.journal_parts.specs.Spans.{recordIn}
+use Rattle.journal_parts.proofs.Insides.{standing}
 use Rattle.journal_slot.specs.Slot.{slotLine}
 use Rattle.journal_slot.proofs.put_slot.Statement.{statement}
 use Rattle.journal_slot.proofs.put_slot.Tie as tie

@@ -7,8 +7,8 @@ use lib.ListN.{length-take}
 use borrow.Author.Needs.{needs}
 use denote.Ref.{now}
 use Rattle.limit.specs.Times.{maxCount}
-use Rattle.journal.proofs.NumberStands.{number-stands}
-use Rattle.journal_listing.specs.Spans.{numbersOf}
+use Rattle.journal_parts.proofs.NumberStands.{number-stands}
+use Rattle.journal_parts.specs.Spans.{numbersOf}
 use Rattle.journal_listing.proofs.Copying.{copied-most, moments-copied}
 use Rattle.journal_listing.proofs.moments.moments_at.Statement.{statement}
 use Rattle.journal_listing.proofs.moments.moments_at.Tie as tie

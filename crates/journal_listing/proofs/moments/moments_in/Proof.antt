@@ -4,7 +4,7 @@ use mathlib.Core.Path.{_∙_}
 use borrow.Author.Needs.{needs}
 use borrow.Author.Tests.{not-true, not-false}
 use Rattle.limit.specs.Answer.{momentsMeaning}
-use Rattle.journal_listing.proofs.Insides.{standing}
+use Rattle.journal_parts.proofs.Insides.{standing}
 use Rattle.journal_listing.proofs.There.{moments-none, moments-there}
 use Rattle.journal_listing.proofs.moments.moments_in.Statement.{statement}
 use Rattle.journal_listing.proofs.moments.moments_in.Tie as tie

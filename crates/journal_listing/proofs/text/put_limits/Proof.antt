@@ -4,7 +4,7 @@ use mathlib.Core.Path.{sym, ap}
 use borrow.Author.Needs.{needs}
 use denote.Ref.{now}
 use Rattle.journal_listing.specs.Spaced.{eachSpaced}
-use Rattle.journal_listing.specs.Spans.{numbersOf}
+use Rattle.journal_parts.specs.Spans.{numbersOf}
 use Rattle.journal_listing.proofs.Putting.{put-as}
 use Rattle.journal_listing.proofs.Texts.{pairs-fewer}
 use Rattle.journal_listing.proofs.text.put_limits.Statement.{statement}

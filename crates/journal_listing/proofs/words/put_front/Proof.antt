@@ -7,8 +7,8 @@ use native.Mathlib.Omega.{arith}
 use native.Mathlib.Nat.{add-sub-cancel-left}
 use borrow.Author.Needs.{needs}
 use denote.Ref.{now}
-use Rattle.journal_listing.specs.Spans.{numbersOf}
-use Rattle.journal.proofs.NumberStands.{number-stands}
+use Rattle.journal_parts.specs.Spans.{numbersOf}
+use Rattle.journal_parts.proofs.NumberStands.{number-stands}
 use Rattle.journal_listing.proofs.Putting.{put-put, put-as}
 use Rattle.journal_listing.proofs.Texts.{bytes-in}
 use Rattle.journal_listing.proofs.words.put_front.Statement.{statement}

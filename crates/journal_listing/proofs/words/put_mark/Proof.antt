@@ -9,7 +9,7 @@ use borrow.Author.Needs.{needs}
 use denote.Ref.{now}
 use Rattle.journal_spec.specs.Bytes.{numbersIn}
 use Rattle.journal_spec.specs.Read.{letterOf, markOf, timesIn}
-use Rattle.journal_listing.specs.Spans.{numbersOf}
+use Rattle.journal_parts.specs.Spans.{numbersOf}
 use Rattle.journal_listing.proofs.Putting.{put-put}
 use Rattle.journal_listing.proofs.Texts.{times-part}
 use Rattle.journal_listing.proofs.words.put_mark.Statement.{statement}

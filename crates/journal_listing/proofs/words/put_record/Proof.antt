@@ -2,10 +2,10 @@
 -- Assumes nothing.
 use borrow.Author.Needs.{needs}
 use denote.Ref.{now}
-use Rattle.journal_listing.specs.Spans.{recordIn}
+use Rattle.journal_parts.specs.Spans.{recordIn}
 use Rattle.journal_listing.proofs.Putting.{put-put, put-as}
 use Rattle.journal_listing.proofs.Texts.{record-line}
-use Rattle.journal_listing.proofs.Insides.{standing}
+use Rattle.journal_parts.proofs.Insides.{standing}
 use Rattle.journal_listing.proofs.words.put_record.Statement.{statement}
 use Rattle.journal_listing.proofs.words.put_record.Tie as tie
 

@@ -10,7 +10,7 @@ use denote.Ref.{now}
 use Rattle.text_digits.proofs.Putting.{put-put}
 use Rattle.journal_spec.specs.Bytes.{numbersIn}
 use Rattle.journal_spec.specs.Read.{letterOf, markOf, timesIn}
-use Rattle.journal_listing.specs.Spans.{numbersOf}
+use Rattle.journal_parts.specs.Spans.{numbersOf}
 use Rattle.journal_listing.proofs.Texts.{times-part}
 use Rattle.journal_slot.proofs.front.put_mark.Statement.{statement}
 use Rattle.journal_slot.proofs.front.put_mark.Tie as tie

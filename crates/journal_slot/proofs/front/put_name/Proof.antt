@@ -4,7 +4,7 @@ use native.Mathlib.Omega.{arith}
 use borrow.Author.Needs.{needs}
 use denote.Ref.{now}
 use Rattle.text_digits.proofs.Putting.{put-put, put-as}
-use Rattle.journal_listing.specs.Spans.{numbersOf}
+use Rattle.journal_parts.specs.Spans.{numbersOf}
 use Rattle.journal_slot.proofs.Slots.{name-parts}
 use Rattle.journal_slot.proofs.front.put_name.Statement.{statement}
 use Rattle.journal_slot.proofs.front.put_name.Tie as tie

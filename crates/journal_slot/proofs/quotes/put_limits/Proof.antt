@@ -2,7 +2,7 @@
 -- Assumes nothing.
 use borrow.Author.Needs.{needs}
 use Rattle.text_digits.proofs.Putting.{put-as}
-use Rattle.journal_listing.specs.Spans.{numbersOf}
+use Rattle.journal_parts.specs.Spans.{numbersOf}
 use Rattle.journal_slot.proofs.Quoting.{all-columns, asked-columns}
 use Rattle.journal_slot.proofs.quotes.put_limits.Statement.{statement}
 use Rattle.journal_slot.proofs.quotes.put_limits.Tie as tie

@@ -6,7 +6,7 @@ use native.Mathlib.Omega.{arith}
 use lib.ListN.{length}
 use denote.Ref.{now}
 use borrow.Author.Needs.{needs}
-use Rattle.journal.specs.Numbers.{numberIn}
+use Rattle.journal_parts.specs.Numbers.{numberIn}
 use Rattle.journal_trial_spec.specs.Trial.{tryEntry}
 use Rattle.journal_trial.specs.Adding.{numberHere, addedFirst}
 use Rattle.journal_trial.proofs.Tabled.{entry-numbers, none-yet, position-added, all-added, count-small}

@@ -4,10 +4,10 @@ use mathlib.Core.Path.{sym}
 use native.Mathlib.Omega.{arith}
 use borrow.Author.Needs.{needs}
 use denote.Ref.{now}
-use Rattle.journal_listing.specs.Spans.{noSpan}
-use Rattle.journal_listing.proofs.Reached.{head-stands, head-beyond}
-use Rattle.journal_listing.proofs.spans.head_at.Statement.{statement}
-use Rattle.journal_listing.proofs.spans.head_at.Tie as tie
+use Rattle.journal_parts.specs.Spans.{noSpan}
+use Rattle.journal_parts.proofs.Reached.{head-stands, head-beyond}
+use Rattle.journal_parts.proofs.spans.head_at.Statement.{statement}
+use Rattle.journal_parts.proofs.spans.head_at.Tie as tie
 
 returns : tie.Need-returns
 unfolding noSpan

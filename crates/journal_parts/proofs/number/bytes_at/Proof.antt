@@ -6,8 +6,8 @@ use native.Mathlib.Omega.{arith}
 use denote.Ref.{now}
 use lib.ListN.{getD}
 use Rattle.journal_spec.proofs.NumberFromBytes.{Gathering, gather-start, gather-turn, gather-fits, gather-end}
-use Rattle.journal.proofs.number.bytes_at.Statement.{statement}
-use Rattle.journal.proofs.number.bytes_at.Tie as tie
+use Rattle.journal_parts.proofs.number.bytes_at.Statement.{statement}
+use Rattle.journal_parts.proofs.number.bytes_at.Tie as tie
 
 abbrev Inv-loop : tie.InvT-loop
 Inv-loop b at w value₀ j₀ value j = Gathering b at w value j

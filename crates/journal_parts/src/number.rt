@@ -4,10 +4,10 @@ ghost use mathlib.Core.Path.{_≡_};
 ghost use Prim.Native.Nat.{_+_, _^_, _≤_, _<_};
 ghost use lib.ListN.{length};
 ghost use Rattle.journal_spec.specs.Bytes.{numberAt};
-ghost use Rattle.journal.specs.Numbers.{numberIn};
+ghost use Rattle.journal_parts.specs.Numbers.{numberIn};
 
 // The number in the w bytes at a place.
-pub(crate) fn number_at(b: &[u8], at: usize, w: usize) -> u64
+pub fn number_at(b: &[u8], at: usize, w: usize) -> u64
     requires { ⌜ (at + w ≤ length (now b)) × (w ≤ 8) ⌝ }
     ensures { λ r. ⌜ (r ≡ numberAt w at (now (b .entry))) × (r < 256 ^ w) ⌝ }
 {

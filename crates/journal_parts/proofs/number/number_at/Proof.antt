@@ -3,8 +3,8 @@
 use mathlib.Core.Path.{_≡_}
 use native.Mathlib.Omega.{arith}
 use borrow.Author.Needs.{needs}
-use Rattle.journal.proofs.number.number_at.Statement.{statement}
-use Rattle.journal.proofs.number.number_at.Tie as tie
+use Rattle.journal_parts.proofs.number.number_at.Statement.{statement}
+use Rattle.journal_parts.proofs.number.number_at.Tie as tie
 
 returns : tie.Need-returns
 returns c =

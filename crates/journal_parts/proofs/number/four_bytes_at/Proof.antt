@@ -7,8 +7,8 @@ use borrow.Author.Needs.{needs}
 use denote.Ref.{now}
 use lib.ListN.{getD}
 use Rattle.journal_spec.proofs.NumberFromBytes.{gather-four, gather-end}
-use Rattle.journal.proofs.number.four_bytes_at.Statement.{statement}
-use Rattle.journal.proofs.number.four_bytes_at.Tie as tie
+use Rattle.journal_parts.proofs.number.four_bytes_at.Statement.{statement}
+use Rattle.journal_parts.proofs.number.four_bytes_at.Tie as tie
 
 -- what is read so far and one byte more fit in 64 bits
 wider : (x : ℕ) → x < 256 → x < 2 ^ 64

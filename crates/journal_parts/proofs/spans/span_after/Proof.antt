@@ -3,9 +3,9 @@
 use mathlib.Core.Path.{_∙_}
 use borrow.Author.Needs.{needs}
 use borrow.Author.Tests.{not-true, not-false}
-use Rattle.journal_listing.specs.Spans.{noSpan, spanAfter}
-use Rattle.journal_listing.proofs.spans.span_after.Statement.{statement}
-use Rattle.journal_listing.proofs.spans.span_after.Tie as tie
+use Rattle.journal_parts.specs.Spans.{noSpan, spanAfter}
+use Rattle.journal_parts.proofs.spans.span_after.Statement.{statement}
+use Rattle.journal_parts.proofs.spans.span_after.Tie as tie
 
 returns : tie.Need-returns
 unfolding spanAfter noSpan

@@ -6,7 +6,7 @@ use mathlib.Core.List.{List}
 use lib.ListN.{length}
 use borrow.Author.Tests.{le-leb, lt-leb}
 use Rattle.journal_spec.specs.Bytes.{numberAt}
-use Rattle.journal.specs.Numbers.{numberIn}
+use Rattle.journal_parts.specs.Numbers.{numberIn}
 
 module _ (w at : ℕ) (b : List ℕ) where
   pub number-stands : w ≤ 8 → at + w ≤ length b → numberIn w at b ≡ numberAt w at b

@@ -13,7 +13,7 @@ use Rattle.journal_spec.specs.Reader.{Reader, done, field, found, short, run, t
 use Rattle.journal_spec.specs.Section.{Section, items, section}
 use Rattle.journal_spec.proofs.Reading.{field-short, field-good, field-found, after}
 use Rattle.journal_spec.proofs.FieldAt.{at-short, at-good}
-use Rattle.journal_listing.specs.Plain.{unjudged}
+use Rattle.journal_parts.specs.Plain.{unjudged}
 
 -- ---- for every reader
 

@@ -4,9 +4,9 @@ use mathlib.Core.Path.{sym, _∙_}
 use native.Mathlib.Omega.{arith}
 use borrow.Author.Needs.{needs}
 use denote.Ref.{now}
-use Rattle.journal.proofs.NumberStands.{number-stands, number-wide, number-beyond}
-use Rattle.journal.proofs.number.number_in.Statement.{statement}
-use Rattle.journal.proofs.number.number_in.Tie as tie
+use Rattle.journal_parts.proofs.NumberStands.{number-stands, number-wide, number-beyond}
+use Rattle.journal_parts.proofs.number.number_in.Statement.{statement}
+use Rattle.journal_parts.proofs.number.number_in.Tie as tie
 
 returns : tie.Need-returns
 returns c =

@@ -4,14 +4,15 @@ use mathlib.Core.Path.{_≡_, refl, sym, ap, _∙_}
 use Prim.Native.Nat.{ℕ, _+_, _*_, _≤_}
 use mathlib.Core.List.{List}
 use mathlib.Core.Bool.{Bool, true, false}
+use native.Mathlib.Omega.{arith}
 use lib.ListN.{length}
 use Rattle.facts.proofs.Tests.{true-not-false}
 use Rattle.facts.proofs.Orders.{by-order}
 use Rattle.journal_spec.specs.Bytes.{numberAt}
-use Rattle.journal_listing.specs.Spans.{noSpan, headAt, spanAt, spanAfter, spansAt, Inside}
-use Rattle.journal_listing.specs.declared.spans.Span.{Span}
-use Rattle.journal_listing.specs.declared.spans.Spans.{Spans}
-use Rattle.journal_listing.proofs.Reached.{span-stands, span-beyond, head-beyond}
+use Rattle.journal_parts.specs.Spans.{noSpan, headAt, spanAt, spanAfter, nameSpan, spansAt, Inside}
+use Rattle.journal_parts.specs.declared.spans.Span.{Span}
+use Rattle.journal_parts.specs.declared.spans.Spans.{Spans}
+use Rattle.journal_parts.proofs.Reached.{span-stands, span-beyond, head-beyond}
 
 span-inside : (w at : ℕ) (b : List ℕ) → spanAt w at b .stands ≡ true → Inside w (spanAt w at b) b
 unfolding noSpan
@@ -50,7 +51,7 @@ pub record Standing (at : ℕ) (s : Spans) (b : List ℕ) : Type 0 where
   pub limits : Inside 8 (s .limits) b
 
 pub standing : (at : ℕ) (s : Spans) (b : List ℕ) → s ≡ spansAt at b → s .limits .stands ≡ true → Standing at s b
-unfolding spansAt
+unfolding spansAt nameSpan
 standing at s b e t =
     let n : Span = spanAfter 1 (headAt at b) b in
     let c : Span = spanAfter 4 n b in
@@ -66,3 +67,27 @@ standing at s b e t =
       times = times .inside;
       limits = last .inside;
     })
+
+-- ---- whether they stand or not
+
+-- a section behind another ends inside the bytes, and not before its start
+span-within : (w : ℕ) (before : Span) (b : List ℕ)
+    → (spanAfter w before b .first ≤ spanAfter w before b .next) × (spanAfter w before b .next ≤ length b)
+span-within w before b = go (before .stands) refl
+  where
+    none : (noSpan .first ≤ noSpan .next) × (noSpan .next ≤ length b)
+    none = unfold noSpan in (omega arith, omega arith)
+
+    here : (at : ℕ) → (spanAt w at b .first ≤ spanAt w at b .next) × (spanAt w at b .next ≤ length b)
+    here at =
+        by-order (at + 2 + numberAt 2 at b * w) (length b)
+        (λ h. rw (span-stands w at b h) (omega arith, h))
+        (λ h. rw (span-beyond w at b h) none)
+
+    go : (t : Bool) → before .stands ≡ t → (spanAfter w before b .first ≤ spanAfter w before b .next) × (spanAfter w before b .next ≤ length b)
+    go true e = let same : spanAfter w before b ≡ spanAt w (before .next) b = unfold spanAfter in rw e refl in rw same (here (before .next))
+    go false e = let same : spanAfter w before b ≡ noSpan = unfold spanAfter in rw e refl in rw same none
+
+pub name-within : (at : ℕ) (b : List ℕ) (s : Span) → s ≡ nameSpan at b → (s .first ≤ s .next) × (s .next ≤ length b)
+unfolding nameSpan
+name-within at b s e = rw e (span-within 1 (headAt at b) b)

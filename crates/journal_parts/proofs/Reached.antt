@@ -17,10 +17,10 @@ use Rattle.journal_spec.specs.Stages.{dayStage, nameStage, chanceStage, timeSta
 use Rattle.journal_spec.proofs.Reading.{after}
 use Rattle.journal_spec.proofs.FieldAt.{at-short, at-good}
 use Rattle.journal_spec.proofs.Records.{by-stages}
-use Rattle.journal_listing.specs.Plain.{unjudged, plainRecordAt}
-use Rattle.journal_listing.specs.Spans.{noSpan, headAt, spanAt, spanAfter, spansAt, numbersOf, recordIn}
-use Rattle.journal_listing.specs.declared.spans.Span.{Span}
-use Rattle.journal_listing.proofs.Plainly.{plain-then, section-stands, section-short}
+use Rattle.journal_parts.specs.Plain.{unjudged, plainRecordAt}
+use Rattle.journal_parts.specs.Spans.{noSpan, headAt, spanAt, spanAfter, nameSpan, spansAt, numbersOf, recordIn}
+use Rattle.journal_parts.specs.declared.spans.Span.{Span}
+use Rattle.journal_parts.proofs.Plainly.{plain-then, section-stands, section-short}
 
 -- ---- a section, by whether it stands
 
@@ -114,7 +114,7 @@ module _ (at : ℕ) (b : List ℕ) (s : Section) (k : List ℕ → Reader Record
 
 -- all four
 reached-all : (at : ℕ) (b : List ℕ) → Reached at b (spansAt at b .limits) (done (recordIn at (spansAt at b) b))
-unfolding spansAt recordIn nameStage chanceStage timeStage limitStage nameSection chanceSection timeSection limitSection
+unfolding spansAt nameSpan recordIn nameStage chanceStage timeStage limitStage nameSection chanceSection timeSection limitSection
 reached-all at b =
     let form : ℕ = numberAt 2 at b in
     let day : ℕ = numberAt 2 (at + 2) b in

@@ -2,8 +2,8 @@
 // A section that the bytes do not hold to its end does not stand, and then no section behind it does.
 ghost use mathlib.Core.Path.{_≡_};
 ghost use Prim.Native.Nat.{_≤_, _<_};
-ghost use Rattle.journal_listing.specs.Spans.{headAt, spanAt, spanAfter, spansAt};
-use journal::number_in;
+ghost use Rattle.journal_parts.specs.Spans.{headAt, spanAt, spanAfter, nameSpan, spansAt};
+use crate::number::number_in;
 
 // The place of a section's first number, how many numbers there are, the place after them, and whether they all stand.
 pub struct Span {
@@ -32,8 +32,7 @@ const NO_SPAN: Span = Span {
 pub fn spans_at(b: &[u8], at: usize) -> Spans
     ensures { λ r. ⌜ r ≡ spansAt at (now (b .entry)) ⌝ }
 {
-    let head = head_at(b, at);
-    let name = span_after(b, head, 1);
+    let name = name_at(b, at);
     let chances = span_after(b, name, 4);
     let times = span_after(b, chances, 4);
     let limits = span_after(b, times, 8);
@@ -43,6 +42,14 @@ pub fn spans_at(b: &[u8], at: usize) -> Spans
         times,
         limits,
     }
+}
+
+// The name's section.
+pub(crate) fn name_at(b: &[u8], at: usize) -> Span
+    ensures { λ r. ⌜ r ≡ nameSpan at (now (b .entry)) ⌝ }
+{
+    let head = head_at(b, at);
+    span_after(b, head, 1)
 }
 
 // The form and the day at a place, before the first section.

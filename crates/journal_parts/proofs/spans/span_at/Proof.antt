@@ -7,12 +7,12 @@ use borrow.Author.Needs.{needs}
 use denote.Ref.{now}
 use lib.ListN.{length}
 use Rattle.journal_spec.specs.Bytes.{numberAt}
-use Rattle.journal.proofs.NumberStands.{number-stands}
-use Rattle.journal_listing.specs.Spans.{noSpan}
-use Rattle.journal_listing.proofs.Reached.{span-stands, span-beyond}
-use Rattle.journal_listing.proofs.Rooms.{room-holds, room-lacks}
-use Rattle.journal_listing.proofs.spans.span_at.Statement.{statement}
-use Rattle.journal_listing.proofs.spans.span_at.Tie as tie
+use Rattle.journal_parts.proofs.NumberStands.{number-stands}
+use Rattle.journal_parts.specs.Spans.{noSpan}
+use Rattle.journal_parts.proofs.Reached.{span-stands, span-beyond}
+use Rattle.journal_parts.proofs.Rooms.{room-holds, room-lacks}
+use Rattle.journal_parts.proofs.spans.span_at.Statement.{statement}
+use Rattle.journal_parts.proofs.spans.span_at.Tie as tie
 
 returns : tie.Need-returns
 unfolding noSpan
