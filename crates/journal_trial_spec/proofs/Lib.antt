@@ -11,6 +11,7 @@ pub mod Standing
 pub mod Rows
 pub mod Trials
 pub mod Answers
+pub mod Together
 pub mod Leaves
 pub mod Pieces
 -- examples
