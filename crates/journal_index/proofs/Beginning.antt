@@ -16,8 +16,8 @@ use Rattle.journal_spec.specs.Bytes.{valueOf, numberAt}
 use Rattle.journal_spec.specs.Record.{minName, maxName, minByte, maxByte}
 use Rattle.journal_spec.specs.Scan.{maxLength}
 use Rattle.journal_spec.specs.Tests.{each}
-use Rattle.journal.specs.Numbers.{numberIn}
-use Rattle.journal.proofs.NumberStands.{number-stands}
+use Rattle.journal_parts.specs.Numbers.{numberIn}
+use Rattle.journal_parts.proofs.NumberStands.{number-stands}
 use Rattle.journal_entries.specs.Entries.{nameAt, startAt, behindEntry, sizeAt}
 use Rattle.journal_entries.specs.Shape.{isBelow}
 use Rattle.journal_entries.proofs.ByCounts.{Here, size-here}

@@ -9,9 +9,9 @@ ghost use Rattle.journal_spec.specs.Record.{minByte, maxByte};
 ghost use Rattle.journal_spec.specs.Tests.{each};
 ghost use Rattle.journal_index.specs.Begun.{maxIndex, entryRanges, isBegun};
 use crate::longest::MAX_INDEX;
-use journal::number_in;
 use journal_entries::is_below;
 use journal_entries::size_at;
+use journal_parts::number_in;
 
 // The most entries: a record has 33 bytes or more.
 const MAX_ENTRIES: u64 = 1_985;

@@ -7,3 +7,4 @@ pub mod Shape
 pub mod Own
 pub mod ByLines
 pub mod Standing
+pub mod Missed

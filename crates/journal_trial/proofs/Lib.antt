@@ -1,6 +1,5 @@
 -- The laws for the trial's code: the line at a place, a pass over the log's lines, what is counted in it, and the index's entries.
 -- Assumes nothing.
-pub mod ByBytes
 pub mod Passes
 pub mod Counted
 pub mod Unknowns

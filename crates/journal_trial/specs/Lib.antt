@@ -1,6 +1,5 @@
 -- What the trial's code reads and answers, as its private contracts say it. The trial itself is defined in crate journal_trial_spec.
 -- Assumes nothing.
-pub mod Reading
 pub mod Counting
 pub mod Unknown
 pub mod Lowest

@@ -4,7 +4,6 @@ mod adding;
 mod calls;
 mod counting;
 mod leaf;
-mod links;
 mod lowest;
 mod strangers;
 mod unknown;

@@ -10,6 +10,7 @@ pub mod Overrun
 pub mod Rows
 pub mod Trials
 pub mod Answers
+pub mod Together
 pub mod Pieces
 -- examples
 pub mod Examples
