@@ -1,4 +1,4 @@
-/* What target/libawaqlla.a exports, for C and C++ (tools/library makes it); it exports no other name. docs/landings/c-names.md has the names of before.
+/* What libawaqlla.a and libawaqlla.so export, for C and C++; they export no other name. docs/landings/c-names.md has the names of before.
    Doubles go as bit patterns; a NaN comes out as 7ff8000000000000. Every argument is answered or refused.
    What a call writes to (v and index of the appends, index of awaqlla_index, c of the merge, every out) overlaps nothing else that the call is handed.
    A pointer must not be NULL, even where its length is 0.
