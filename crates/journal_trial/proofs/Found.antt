@@ -12,6 +12,7 @@ use Rattle.journal_trial_spec.specs.Links.{LogRead}
 use Rattle.journal_trial.specs.Counting.{countedBy}
 use Rattle.journal_trial.specs.Lowest.{ChancesIn}
 use Rattle.journal_trial.specs.Answers.{namesAt, chancesAt, countAt, timesAt, limitsAt, Tryable, finished, leafTried}
+use Rattle.journal_trial.specs.Together.{limitBytes}
 use Rattle.journal_trial.specs.declared.counting.Counts.{Counts}
 use Rattle.journal_trial.specs.declared.leaf.Trial.{Trial}
 
@@ -98,6 +99,15 @@ module _ (b : List ℕ) (at : ℕ) (h : Tryable b at) where
 
       chance-place : (n c t : ℕ) → Timed n c t → at + 6 + n + 2 ≡ at + 6 + namesAt b at + 2
       chance-place n c t k = omega (arith, k .names)
+
+  -- the limits by themselves
+  pub handed-limits : (n c t : ℕ) → Timed n c t
+      → take (at + 6 + n + 2 + 4 * c + 4 + 4 * t + 8 * c - (at + 6 + n + 2 + 4 * c + 4 + 4 * t)) (drop (at + 6 + n + 2 + 4 * c + 4 + 4 * t) b)
+      ≡ limitBytes b at
+  unfolding limitBytes
+  handed-limits n c t k =
+      let size : at + 6 + n + 2 + 4 * c + 4 + 4 * t + 8 * c - (at + 6 + n + 2 + 4 * c + 4 + 4 * t) ≡ 8 * countAt b at = omega (arith, k .count) in
+      ap₂ (λ (m p : ℕ). take m (drop p b)) size (k .limits)
 
   -- the chances that it hands on
   pub handed-chances : (n c t : ℕ) → Timed n c t → ChancesIn (take (at + 6 + n + 2 + 4 * c - (at + 6 + n + 2)) (drop (at + 6 + n + 2) b))

@@ -29,6 +29,7 @@ module _ (v : List ℕ) (len : ℕ) (ps : List Placed) (committed : ℕ) (b : Ar
     pub ranges : RecordRanges last leaf
     pub here : RecordHere v (getD entries i noEntry .start) leaf
     pub is : leafAt (recordsOf ps) entries i ≡ some leaf
+    pub named : leaf .name ≡ getD entries i noEntry .name
 
   pub leaf-of : (i : ℕ) → i < length entries → LeafAt i
   leaf-of i h =
@@ -45,4 +46,5 @@ module _ (v : List ℕ) (len : ℕ) (ps : List Placed) (committed : ℕ) (b : Ar
         ranges = x .ranges;
         here = record-here v start (x .last) (x .leaf) (x .back) (omega (arith, x .place, all)) (x .ranges) there;
         is = leaf-is v len ps committed b s i h;
+        named = x .named;
       }
