@@ -23,16 +23,16 @@ module _ (v : List ℕ) (len : ℕ) (ps : List Placed) (committed : ℕ) (b : Ar
   entries = indexOf ps
 
   -- what stands at a position
-  pub record LeafAt (i : ℕ) : Type 0 where
-    pub leaf : Record
+  pub record RecordAt (i : ℕ) : Type 0 where
+    pub shown : Record
     pub last : Last
-    pub ranges : RecordRanges last leaf
-    pub here : RecordHere v (getD entries i noEntry .start) leaf
-    pub is : leafAt (recordsOf ps) entries i ≡ some leaf
-    pub named : leaf .name ≡ getD entries i noEntry .name
+    pub ranges : RecordRanges last shown
+    pub here : RecordHere v (getD entries i noEntry .start) shown
+    pub is : leafAt (recordsOf ps) entries i ≡ some shown
+    pub named : shown .name ≡ getD entries i noEntry .name
 
-  pub leaf-of : (i : ℕ) → i < length entries → LeafAt i
-  leaf-of i h =
+  pub record-of : (i : ℕ) → i < length entries → RecordAt i
+  record-of i h =
       let x = leaf-bytes v len ps committed b s i h in
       let start : ℕ = getD entries i noEntry .start in
       let all : length v ≡ length (x .front) + length (recordBytes (x .leaf) ++ x .back) =
@@ -41,7 +41,7 @@ module _ (v : List ℕ) (len : ℕ) (ps : List Placed) (committed : ℕ) (b : Ar
       ap (λ (k : ℕ). drop k v) (x .place) ∙ ap (drop (length (x .front))) (x .bytes)
       ∙ drop-at (x .front) (recordBytes (x .leaf) ++ x .back) (length (x .front)) refl in
       record {
-        leaf = x .leaf;
+        shown = x .leaf;
         last = x .last;
         ranges = x .ranges;
         here = record-here v start (x .last) (x .leaf) (x .back) (omega (arith, x .place, all)) (x .ranges) there;

@@ -8,7 +8,7 @@ ghost use Rattle.journal_trial_spec.specs.Trial.{tryEntry, tryUnknown};
 ghost use Rattle.journal_trial.specs.Owning.{Owned};
 ghost use Rattle.journal_trial.specs.Strangers.{unknownBy};
 ghost use Rattle.journal_trial.specs.Adding.{numberHere, addedFirst, numbersFor, linesIn, answerAfter};
-use crate::leaf::LINE_REFUSAL;
+use crate::answer::LINE_REFUSAL;
 use crate::strangers::Unknown;
 use crate::strangers::refuse_unknown;
 use crate::together::ALL_NUMBERS;

@@ -5,8 +5,8 @@ ghost use Rattle.journal_trial_spec.specs.Links.{logOf};
 ghost use Rattle.journal_trial_spec.specs.Trial.{tryUnknown};
 ghost use Rattle.journal_trial.specs.Strangers.{unknownBy, unknownUnless};
 use crate::adding::add_here;
+use crate::answer::LINE_REFUSAL;
 use crate::counting::count_links;
-use crate::leaf::LINE_REFUSAL;
 use journal::Fault;
 
 // The lines; or a refusal with its number: 14; the journal's fault; or 11 with the place of the log's line.

@@ -4,7 +4,7 @@ ghost use mathlib.Core.Path.{_≡_};
 ghost use Rattle.journal_spec.specs.Record.{Record};
 ghost use Rattle.journal_trial_spec.specs.Links.{logOf};
 ghost use Rattle.journal_trial.specs.Lowest.{ChancesIn};
-ghost use Rattle.journal_trial.specs.Answers.{Tryable, finished, leafTried};
+ghost use Rattle.journal_trial.specs.Answers.{Tryable, finished, recordTried};
 use crate::counting::Counts;
 use crate::counting::count_links;
 use crate::lowest::lowest;
@@ -34,9 +34,9 @@ pub struct Trial {
 }
 
 // The trial of the record at a place.
-pub(crate) fn try_leaf(log: &[u8], v: &[u8], at: usize) -> Trial
+pub(crate) fn try_record(log: &[u8], v: &[u8], at: usize) -> Trial
     requires { ⌜ Tryable (now v) at ⌝ }
-    ensures { λ r. ⌜ r ≡ leafTried (now (v .entry)) at (logOf (now (log .entry))) ⌝ }
+    ensures { λ r. ⌜ r ≡ recordTried (now (v .entry)) at (logOf (now (log .entry))) ⌝ }
 {
     let name = at + 6;
     let names = number_in(v, at + 4, 2) as usize;

@@ -3,8 +3,8 @@
 use mathlib.Core.Path.{refl}
 use borrow.Author.Needs.{needs}
 use Rattle.journal_trial.specs.Answers.{finished}
-use Rattle.journal_trial.proofs.leaf.finish.Statement.{statement}
-use Rattle.journal_trial.proofs.leaf.finish.Tie as tie
+use Rattle.journal_trial.proofs.answer.finish.Statement.{statement}
+use Rattle.journal_trial.proofs.answer.finish.Tie as tie
 
 returns : tie.Need-returns
 unfolding finished

@@ -1,11 +1,11 @@
--- `try_leaf` finds the record's parts by its counts.
+-- `try_record` finds the record's parts by its counts.
 -- Assumes nothing.
 use native.Mathlib.Omega.{arith}
 use denote.Ref.{now}
 use borrow.Author.Needs.{needs}
 use Rattle.journal_trial.proofs.Found.{early, Named, named, Offered, offered, Timed, timed, handed, handed-chances}
-use Rattle.journal_trial.proofs.leaf.try_leaf.Statement.{statement}
-use Rattle.journal_trial.proofs.leaf.try_leaf.Tie as tie
+use Rattle.journal_trial.proofs.answer.try_record.Statement.{statement}
+use Rattle.journal_trial.proofs.answer.try_record.Tie as tie
 
 first : (c : tie.After-number-in)
     → let start = c .before .before .before in
@@ -34,8 +34,8 @@ returns c =
     let k = c .before .before .before .before .before in
     handed _ _ (k .before .before .before .before .before .pre) _ _ _ _ _ _ (third k) (c .before .before .count-links .ensures) (c .finish .ensures)
 
-pub try-leaf-spec : {M : Type 1} → statement M
-try-leaf-spec =
+pub try-record-spec : {M : Type 1} → statement M
+try-record-spec =
     tie.close
     (tie.spec
     (λ c. omega (arith, early _ _ (c .before .before .pre)))
