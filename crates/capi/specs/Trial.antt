@@ -7,9 +7,9 @@ use Rattle.journal_trial_spec.specs.Trial.{Refusal, declinedAt, damaged, declin
 use Rattle.journal_trial_spec.specs.Trial.{UnknownResult, unknown, uncounted}
 use Rattle.journal_trial.specs.Counting.{eight}
 use Rattle.journal_trial.specs.Answers.{padded, lowestWord}
-use Rattle.journal_trial.specs.declared.leaf.Answer.{Answer}
-use Rattle.journal_trial.specs.declared.leaf.Answer.the-variants as A
-use Rattle.journal_trial.specs.declared.leaf.Trial.{Trial}
+use Rattle.journal_trial.specs.declared.answer.Answer.{Answer}
+use Rattle.journal_trial.specs.declared.answer.Answer.the-variants as A
+use Rattle.journal_trial.specs.declared.answer.Trial.{Trial}
 use Rattle.journal_trial.specs.declared.strangers.Unknown.{Unknown}
 use Rattle.journal_trial.specs.declared.strangers.Unknown.the-variants as U
 

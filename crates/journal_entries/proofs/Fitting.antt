@@ -35,7 +35,7 @@ module _ (new : IndexEntry) where
 
 -- what is known of an index by its records
 pub record IndexFit (es : List IndexEntry) : Type 0 where
-  pub few : length es < 256 ^ 2
+  pub few : 33 * length es ≤ maxLength
   pub fits : AllFit es
   pub named : Before [] es
   pub rising : Rising es
@@ -89,7 +89,7 @@ index-fits b rs c h =
 -- where it is in front of a buffer, it stands there
 pub own-here : (b : List ℕ) (rs : List Record) (index : List ℕ) → Cursor b 0 rs → length b ≤ maxLength
     → inFront (indexBytes (indexOf (placedFrom 0 rs))) index ≡ true → IndexHere index (indexOf (placedFrom 0 rs))
-own-here b rs index c h e = let f = index-fits b rs c h in index-here index (indexOf (placedFrom 0 rs)) e (f .few) (f .fits)
+own-here b rs index c h e = let f = index-fits b rs c h in index-here index (indexOf (placedFrom 0 rs)) e (omega (arith, f .few)) (f .fits)
 
 -- the same of a journal of a length in a slice
 pub own-index-here : (v : List ℕ) (len : ℕ) (ps : List Placed) (committed : ℕ) → AreBytes v → contentsOf plain v len ≡ standing ps committed
@@ -97,3 +97,10 @@ pub own-index-here : (v : List ℕ) (len : ℕ) (ps : List Placed) (committed : 
 own-index-here v len ps committed b s index h =
     let k = committed-bytes plain v len ps committed b s in
     rw (k .places) (own-here (take committed v) (recordsIn (take committed v)) index (k .whole .cursor) (k .whole .short) (rw (k .places) at h))
+
+-- and is no longer than so many records could be
+pub own-index-few : (v : List ℕ) (len : ℕ) (ps : List Placed) (committed : ℕ) → AreBytes v → contentsOf plain v len ≡ standing ps committed
+    → 33 * length (indexOf ps) ≤ maxLength
+own-index-few v len ps committed b s =
+    let k = committed-bytes plain v len ps committed b s in
+    rw (k .places) (index-fits (take committed v) (recordsIn (take committed v)) (k .whole .cursor) (k .whole .short) .few)

@@ -2,7 +2,6 @@
 -- Assumes nothing.
 pub mod Passes
 pub mod Counted
-pub mod Unknowns
 pub mod LowestChance
 pub mod Padded
 pub mod Indexed
@@ -11,5 +10,8 @@ pub mod Answered
 pub mod Owned
 pub mod Deciding
 pub mod NotIndexed
+pub mod Halving
+pub mod OnePass
 pub mod Tabled
+pub mod AddedAll
 pub mod InPieces

@@ -23,15 +23,16 @@ module _ (v : List ℕ) (len : ℕ) (ps : List Placed) (committed : ℕ) (b : Ar
   entries = indexOf ps
 
   -- what stands at a position
-  pub record LeafAt (i : ℕ) : Type 0 where
-    pub leaf : Record
+  pub record RecordAt (i : ℕ) : Type 0 where
+    pub shown : Record
     pub last : Last
-    pub ranges : RecordRanges last leaf
-    pub here : RecordHere v (getD entries i noEntry .start) leaf
-    pub is : standingAt (recordsOf ps) entries i ≡ some leaf
+    pub ranges : RecordRanges last shown
+    pub here : RecordHere v (getD entries i noEntry .start) shown
+    pub is : standingAt (recordsOf ps) entries i ≡ some shown
+    pub named : shown .name ≡ getD entries i noEntry .name
 
-  pub leaf-of : (i : ℕ) → i < length entries → LeafAt i
-  leaf-of i h =
+  pub record-of : (i : ℕ) → i < length entries → RecordAt i
+  record-of i h =
       let x = standing-bytes v len ps committed b s i h in
       let start : ℕ = getD entries i noEntry .start in
       let all : length v ≡ length (x .front) + length (recordBytes (x .shown) ++ x .back) =
@@ -40,9 +41,10 @@ module _ (v : List ℕ) (len : ℕ) (ps : List Placed) (committed : ℕ) (b : Ar
       ap (λ (k : ℕ). drop k v) (x .place) ∙ ap (drop (length (x .front))) (x .bytes)
       ∙ drop-at (x .front) (recordBytes (x .shown) ++ x .back) (length (x .front)) refl in
       record {
-        leaf = x .shown;
+        shown = x .shown;
         last = x .last;
         ranges = x .ranges;
         here = record-here v start (x .last) (x .shown) (x .back) (omega (arith, x .place, all)) (x .ranges) there;
         is = standing-there v len ps committed b s i h;
+        named = x .named;
       }

@@ -1,18 +1,21 @@
 // A log in pieces: what each has for the positions of the index is added to a table, nine numbers to a position, its links and the overs at each of
 // eight chances; and the lines with unknown names are added up. The law `piece-added` says that this is the trial of the whole log.
 ghost use mathlib.Core.Path.{_≡_};
-ghost use Prim.Native.Nat.{ℕ, suc, _+_, _*_, _<_};
+ghost use Prim.Native.Nat.{ℕ, suc, _≤_};
 ghost use mathlib.Core.List.{List};
-ghost use lib.ListN.{getD};
+ghost use lib.ListN.{length, getD};
 ghost use Rattle.journal_trial_spec.specs.Trial.{tryEntry, tryUnknown};
+ghost use Rattle.journal_trial.specs.Owning.{Owned};
 ghost use Rattle.journal_trial.specs.Strangers.{unknownBy};
-ghost use Rattle.journal_trial.specs.Adding.{numberHere, addedFirst, numbersFor, linesIn, answerAfter, linksIn, numbersIn};
-use crate::calls::try_entry;
-use crate::leaf::Answer;
-use crate::leaf::Trial;
+ghost use Rattle.journal_trial.specs.Adding.{numberHere, addedFirst, numbersFor, linesIn, answerAfter};
+use crate::answer::LINE_REFUSAL;
 use crate::strangers::Unknown;
-use crate::strangers::try_unknown;
+use crate::strangers::refuse_unknown;
+use crate::together::ALL_NUMBERS;
+use crate::together::count_all;
 use journal::Fault;
+use journal_index::Checked;
+use journal_index::check_index;
 use journal_parts::number_in;
 
 // The numbers of a position.
@@ -33,37 +36,59 @@ pub fn add_piece(
     ensures { λ r. ⌜ now (table .exit) ≡ addedFirst (now (table .entry)) (numbersFor (now (index .entry)))
         (numberHere (tryEntry (now (piece .entry)) (now (v .entry)) len (now (index .entry)))) ⌝ }
 {
-    add_entries(piece, v, len, index, table);
-    let here = try_unknown(piece, v, len, index);
+    let here = add_here(piece, v, len, index, table);
     answer_after(before, place, here)
 }
 
-// Adds the numbers of every position.
-fn add_entries(piece: &[u8], v: &[u8], len: usize, index: &[u8], table: &mut [u64])
+// Adds the numbers of all positions, and answers for the lines with unknown names: one pass over the piece.
+pub(crate) fn add_here(
+    piece: &[u8],
+    v: &[u8],
+    len: usize,
+    index: &[u8],
+    table: &mut [u64],
+) -> Unknown
+    ensures { λ r. ⌜ r ≡ unknownBy (tryUnknown (now (piece .entry)) (now (v .entry)) len (now (index .entry))) ⌝ }
     ensures { λ r. ⌜ now (table .exit) ≡ addedFirst (now (table .entry)) (numbersFor (now (index .entry)))
         (numberHere (tryEntry (now (piece .entry)) (now (v .entry)) len (now (index .entry)))) ⌝ }
 {
-    let count = number_in(index, 0, 2) as usize;
-    let mut k: usize = 0;
-    while k < count {
-        let t = try_entry(piece, v, len, index, k);
-        add_numbers(table, k, numbers_of(t));
-        k += 1;
+    let s = check_index(v, len, index);
+    match s {
+        Checked::Own => add_own(piece, v, len, index, table),
+        Checked::Declined(number) => refuse_unknown(piece, Unknown::Declined(number)),
+        Checked::Damaged(fault) => refuse_unknown(piece, Unknown::Damaged(fault)),
     }
 }
 
-// Adds the numbers of a position to those of the positions before it.
-fn add_numbers(table: &mut [u64], k: usize, numbers: [u64; 9])
-    requires { ⌜ k < 65_536 ⌝ }
-    ensures { λ r. ⌜ ((xs : List ℕ) (f : ℕ → ℕ) → ((j : ℕ) → j < 9 → getD numbers j 0 ≡ f (9 * k + j))
-        → now (table .entry) ≡ addedFirst xs (9 * k) f → now (table .exit) ≡ addedFirst xs (9 * k + 9) f) ⌝ }
+// The same with the journal's own index. Nothing is added where a line is refused.
+fn add_own(piece: &[u8], v: &[u8], len: usize, index: &[u8], table: &mut [u64]) -> Unknown
+    requires { ⌜ Owned (now v) len (now index) ⌝ }
+    ensures { λ r. ⌜ r ≡ unknownBy (tryUnknown (now (piece .entry)) (now (v .entry)) len (now (index .entry))) ⌝ }
+    ensures { λ r. ⌜ now (table .exit) ≡ addedFirst (now (table .entry)) (numbersFor (now (index .entry)))
+        (numberHere (tryEntry (now (piece .entry)) (now (v .entry)) len (now (index .entry)))) ⌝ }
 {
-    let at = NUMBERS * k;
-    let mut j: usize = 0;
-    while j < NUMBERS {
-        let place = at + j;
-        add_at(table, place, numbers[j]);
-        j += 1;
+    let mut counts: [u64; ALL_NUMBERS] = [0; ALL_NUMBERS];
+    let u = count_all(piece, v, index, &mut counts);
+    if u.unread {
+        return Unknown::DeclinedAt(Fault {
+            number: LINE_REFUSAL,
+            place: u.place,
+        });
+    }
+    let numbers = NUMBERS * (number_in(index, 0, 2) as usize);
+    add_counts(table, &counts, numbers);
+    Unknown::Lines(u.lines)
+}
+
+// Adds counts to the first numbers of the table.
+fn add_counts(table: &mut [u64], counts: &[u64], numbers: usize)
+    requires { ⌜ numbers ≤ length (now counts) ⌝ }
+    ensures { λ r. ⌜ now (table .exit) ≡ addedFirst (now (table .entry)) numbers (λ i. getD (now (counts .entry)) i 0) ⌝ }
+{
+    let mut i: usize = 0;
+    while i < numbers {
+        add_at(table, i, counts[i]);
+        i += 1;
     }
 }
 
@@ -74,32 +99,6 @@ fn add_at(table: &mut [u64], place: usize, n: u64)
 {
     if place < table.len() {
         table[place] = std::num::wrapping_add_u64(table[place], n);
-    }
-}
-
-// The numbers of an answer.
-fn numbers_of(t: Trial) -> [u64; 9]
-    ensures { λ r. ⌜ r ≡ numbersIn t ⌝ }
-{
-    let answer = t.answer;
-    let o = t.overs;
-    let links = links_of(answer);
-    [links, o[0], o[1], o[2], o[3], o[4], o[5], o[6], o[7]]
-}
-
-// The links of an answer; a refusal has none.
-fn links_of(answer: Answer) -> u64
-    ensures { λ r. ⌜ r ≡ linksIn answer ⌝ }
-{
-    match answer {
-        Answer::Tried {
-            links,
-            chances: _,
-            lowest: _,
-        } => links,
-        Answer::Declined(_) => 0,
-        Answer::Damaged(_) => 0,
-        Answer::DeclinedAt(_) => 0,
     }
 }
 

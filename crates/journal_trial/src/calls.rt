@@ -5,11 +5,11 @@ ghost use Rattle.journal_trial_spec.specs.Links.{logOf};
 ghost use Rattle.journal_trial_spec.specs.Trial.{tryEntry};
 ghost use Rattle.journal_trial.specs.Answers.{answeredBy, refusedUnless, startOf};
 ghost use Rattle.journal_trial.specs.Owning.{Owned};
+use crate::answer::Answer;
+use crate::answer::LINE_REFUSAL;
+use crate::answer::Trial;
+use crate::answer::try_record;
 use crate::counting::count_links;
-use crate::leaf::Answer;
-use crate::leaf::LINE_REFUSAL;
-use crate::leaf::Trial;
-use crate::leaf::try_leaf;
 use journal::Fault;
 use journal_entries::entry_place;
 use journal_entries::start_at;
@@ -41,12 +41,12 @@ fn own_trial(log: &[u8], v: &[u8], len: usize, index: &[u8], position: usize) ->
     if count <= position {
         return refuse(log, Answer::Declined(ABSENT_REFUSAL));
     }
-    let start = leaf_start(index, position);
-    try_leaf(log, v, start)
+    let start = record_start(index, position);
+    try_record(log, v, start)
 }
 
 // Where the record of the entry at a position starts.
-fn leaf_start(index: &[u8], position: usize) -> usize
+fn record_start(index: &[u8], position: usize) -> usize
     ensures { λ r. ⌜ r ≡ startOf (now (index .entry)) position ⌝ }
 {
     let at = entry_place(index, position);
