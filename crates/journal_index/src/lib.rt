@@ -8,6 +8,8 @@ mod own;
 pub use append::append_indexed;
 pub use log::append_log_indexed;
 pub use make::IndexMade;
+pub use make::Scanned;
 pub use make::make_index;
+pub use make::scan_and_index;
 pub use own::Checked;
 pub use own::check_index;

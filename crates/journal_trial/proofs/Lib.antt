@@ -7,7 +7,6 @@ pub mod Unknowns
 pub mod LowestChance
 pub mod Padded
 pub mod Indexed
-pub mod Found
 pub mod Answered
 pub mod Owned
 pub mod Deciding
