@@ -3,15 +3,14 @@
 use mathlib.Core.Path.{_≡_, refl, sym, ap, _∙_}
 use Prim.Native.Nat.{ℕ, zero, suc, _≤_, _<_, min}
 use mathlib.Core.List.{List, [], _∷_}
-use mathlib.Core.Bool.{cond}
 use mathlib.Core.Option.{none}
 use native.Mathlib.Omega.{arith}
 use lib.ListN.{length, take}
-use lib.Dec.{eqb}
+use borrow.Author.Tests.{eq-eqb, ne-eqb}
 use Rattle.journal_spec.specs.Refusals.{lengthRefusal, absentRefusal}
 use Rattle.journal_spec.specs.Record.{Last, lastOf}
 use Rattle.journal_spec.specs.Profile.{Rule}
-use Rattle.journal_spec.specs.Scan.{maxLength, Placed, recordsOf, standing, faulty, contentsOf, whole, torn, damaged, statusOf, scanOf}
+use Rattle.journal_spec.specs.Scan.{maxLength, Placed, recordsOf, standing, faulty, contentsOf, whole, torn, damaged, statusOf}
 use Rattle.journal_spec.specs.Scan as Scan
 use Rattle.journal_spec.specs.Read.{noPart, partAt, partOf, partPlace, marked, unmarked, markFrom, markOf, markAt, markIn, readMark}
 use Rattle.journal_spec.specs.Log.{gathered}
@@ -27,7 +26,7 @@ use Rattle.journal.specs.declared.contents.Contents.{Contents}
 use Rattle.journal.specs.declared.contents.Contents.the-variants as C
 use Rattle.journal.specs.declared.Appended.the-variants as A
 use Rattle.journal.specs.Records.{asLast}
-use Rattle.journal.specs.Contents.{headOf, shownOf, noneShown, shownAt, contentsRead, recordsRead}
+use Rattle.journal.specs.Contents.{headOf, shownOf, noneShown, shownAt, contentsRead, recordsRead, statusRead}
 use Rattle.journal.specs.Answers.{appendMeaning, lengthAfter, outcomeOf}
 
 -- ---- the length
@@ -84,10 +83,25 @@ shown-mark (p ∷ ps) (suc i) h = shown-mark ps i (omega arith)
 
 -- ---- the answers
 
-scan-placed : (ps : List Placed) (records committed len : ℕ) → records ≡ length ps
-    → cond (eqb committed len) (whole records committed) (torn records committed) ≡ statusOf len (standing ps committed)
-unfolding statusOf
-scan-placed ps records committed len e = rw e
+-- scan's answer, by what the pass answered
+module _ (len records committed : ℕ) (last : Head) (shown : Shown) (x : Contents) (told : x ≡ C.Stands records committed last shown) where
+  pub status-whole : committed ≡ len → whole records committed ≡ statusRead len x
+  unfolding statusRead
+  status-whole h = rw told (rw (eq-eqb committed len h) refl)
+
+  pub status-torn : (committed ≡ len → ⊥) → torn records committed ≡ statusRead len x
+  unfolding statusRead
+  status-torn h = rw told (rw (ne-eqb committed len h) refl)
+
+pub status-damaged : (len : ℕ) (f : Fault) (x : Contents) → x ≡ C.Damaged f → damaged (f .number) (f .place) ≡ statusRead len x
+unfolding statusRead
+status-damaged len f x told = rw told refl
+
+-- and by what the journal holds
+pub status-read : (len i : ℕ) (k : Scan.Contents) → statusRead len (contentsRead i k) ≡ statusOf len k
+unfolding statusRead contentsRead statusOf
+status-read len i (standing ps committed) = refl
+status-read len i (faulty n p) = refl
 
 part-placed : (ps : List Placed) (i : ℕ) (shown : Shown) → shown ≡ shownAt ps i → record { start = shown .start; size = shown .size } ≡ partAt ps i
 part-placed ps i shown e = rw e (shown-part ps i)
@@ -104,10 +118,6 @@ module _ (rule : Rule) (v : List ℕ) (len i : ℕ) (x : Contents) (read : x ≡
   module _ (records committed : ℕ) (last : Head) (shown : Shown) (told : x ≡ C.Stands records committed last shown) where
     pub stood : Stood (contentsOf rule v len) i records committed last shown
     stood = stands-stood (contentsOf rule v len) i records committed last shown (sym told ∙ read)
-
-    pub scan-stands : cond (eqb committed len) (whole records committed) (torn records committed) ≡ scanOf rule v len
-    unfolding scanOf
-    scan-stands = scan-placed (stood .ps) records committed len (stood .count) ∙ ap (statusOf len) (sym (stood .is))
 
     pub part-stands : record { start = shown .start; size = shown .size } ≡ partPlace rule v len i
     unfolding partPlace partOf
@@ -135,10 +145,6 @@ module _ (rule : Rule) (v : List ℕ) (len i : ℕ) (x : Contents) (read : x ≡
   module _ (f : Fault) (told : x ≡ C.Damaged f) where
     pub faulted : contentsOf rule v len ≡ faulty (f .number) (f .place)
     faulted = damaged-faulty (contentsOf rule v len) i f (sym told ∙ read)
-
-    pub scan-damaged : damaged (f .number) (f .place) ≡ scanOf rule v len
-    unfolding scanOf statusOf
-    scan-damaged = rw faulted
 
     pub part-damaged : noPart ≡ partPlace rule v len i
     unfolding partPlace partOf

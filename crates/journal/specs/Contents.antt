@@ -4,9 +4,10 @@ use Prim.Native.Nat.{ℕ, zero, suc, _-_}
 use mathlib.Core.List.{List, [], _∷_}
 use mathlib.Core.Bool.{Bool, false, cond}
 use lib.ListN.{length}
+use lib.Dec.{eqb}
 use Rattle.journal_spec.specs.Record.{Last, lastOf}
 use Rattle.journal_spec.specs.Profile.{Rule}
-use Rattle.journal_spec.specs.Scan.{Placed, recordsOf, standing, faulty, contentsFrom}
+use Rattle.journal_spec.specs.Scan.{Placed, recordsOf, standing, faulty, contentsFrom, ScanResult, whole, torn, damaged}
 use Rattle.journal_spec.specs.Scan as Scan
 use Rattle.journal_spec.specs.Read.{areEqual}
 use Rattle.journal.specs.declared.record.Head.{Head}
@@ -51,3 +52,8 @@ contentsRead i (faulty n p) = C.Damaged (record { number = n; place = p })
 -- the answer for a journal that takes all of its bytes, by a rule
 unfoldable pub recordsRead : ℕ → Rule → List ℕ → Contents
 recordsRead i rule b = contentsRead i (contentsFrom rule (length b) [] 0 b)
+
+-- scan's answer for a journal of a length, by what the pass answered
+unfoldable pub statusRead : ℕ → Contents → ScanResult
+statusRead len (C.Stands records committed last shown) = cond (eqb committed len) (whole records committed) (torn records committed)
+statusRead len (C.Damaged f) = damaged (f .number) (f .place)

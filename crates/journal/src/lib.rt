@@ -40,6 +40,7 @@ pub use reading::mark_by;
 pub use reading::part_place_by;
 pub use reading::read_by;
 pub use reading::scan_by;
+pub use reading::status_of;
 pub use record::Head;
 
 // A refusal's number, and the place of what is refused: a field's first byte in the journal, or a line's in the log.

@@ -3,6 +3,7 @@
 ghost use mathlib.Core.Path.{_≡_};
 ghost use Rattle.journal_spec.specs.Scan.{scanOf};
 ghost use Rattle.journal_spec.specs.Read.{partPlace, readPart, readMark};
+ghost use Rattle.journal.specs.Contents.{statusRead};
 ghost use Rattle.journal.specs.Handed.{asRule};
 ghost use Rattle.journal.specs.Answers.{meaning, partMeaning, markMeaning};
 use crate::Marked;
@@ -21,6 +22,13 @@ pub fn scan_by(v: &[u8], len: usize, rule: Rule) -> Status
     ensures { λ r. ⌜ meaning r ≡ scanOf (asRule rule) (now (v .entry)) len ⌝ }
 {
     let x = contents_of(v, len, 0, rule);
+    status_of(x, len)
+}
+
+// What scan answers of a journal of a length, by what stands in it.
+pub fn status_of(x: Contents, len: usize) -> Status
+    ensures { λ r. ⌜ meaning r ≡ statusRead len x ⌝ }
+{
     match x {
         Contents::Stands {
             records,

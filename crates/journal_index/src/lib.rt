@@ -13,6 +13,8 @@ pub use log::append_log_indexed;
 pub use longest::MAX_INDEX;
 pub use longest::index_room;
 pub use make::IndexMade;
+pub use make::Scanned;
 pub use make::make_index;
+pub use make::scan_and_index;
 pub use own::Checked;
 pub use own::check_index;

@@ -3,17 +3,23 @@
 ghost use mathlib.Core.Path.{_≡_};
 ghost use Prim.Native.Nat.{_≤_};
 ghost use lib.ListN.{length};
+ghost use Rattle.journal_spec.specs.Profile.{plain};
+ghost use Rattle.journal_spec.specs.Scan.{contentsOf, scanOf};
 ghost use Rattle.journal_spec.specs.Index.{indexBytes};
 ghost use Rattle.journal_spec.specs.Append.{written, judgeIndexRoom};
 ghost use Rattle.journal_spec.specs.MakeIndex.{makeUnless, makeIndexOf};
 ghost use Rattle.journal_spec.proofs.Whole.{WholeBytes};
+ghost use Rattle.journal.specs.Answers.{meaning};
+ghost use Rattle.journal.specs.Contents.{contentsRead};
 ghost use Rattle.journal_index.specs.Standing.{indexIn};
 ghost use Rattle.journal_index.specs.Made.{madeOutcome};
 ghost use Rattle.journal_index.specs.Places.{Named};
 use journal::Contents;
 use journal::Fault;
 use journal::Rule;
+use journal::Status;
 use journal::contents_of;
+use journal::status_of;
 use journal_entries::put_count;
 use journal_entries::put_entry;
 use journal_order::Key;
@@ -32,12 +38,37 @@ pub enum IndexMade {
     Damaged(Fault),
 }
 
+// What a scan answers, and what making the index does.
+pub struct Scanned {
+    pub status: Status,
+    pub made: IndexMade,
+}
+
 // Makes the index of the journal of a length in a slice. Where it answers a length the index stands at the buffer's front, and the bytes behind it
 // are as they were; else no byte is changed.
 pub fn make_index(v: &[u8], len: usize, out: &mut [u8]) -> IndexMade
     ensures { λ r. ⌜ madeOutcome r (now (out .exit)) ≡ makeIndexOf (record { slice = now (v .entry); len = len }) (now (out .entry)) ⌝ }
 {
+    let both = scan_and_index(v, len, out);
+    both.made
+}
+
+// The same, with the scan's answer, by one pass over the journal.
+pub fn scan_and_index(v: &[u8], len: usize, out: &mut [u8]) -> Scanned
+    ensures { λ r. ⌜ (meaning (r .status) ≡ scanOf plain (now (v .entry)) len)
+        × (madeOutcome (r .made) (now (out .exit)) ≡ makeIndexOf (record { slice = now (v .entry); len = len }) (now (out .entry))) ⌝ }
+{
     let x = contents_of(v, len, 0, Rule::Plain);
+    let status = status_of(x, len);
+    let made = make_standing(v, len, x, out);
+    Scanned { status, made }
+}
+
+// The index of what stands.
+fn make_standing(v: &[u8], len: usize, x: Contents, out: &mut [u8]) -> IndexMade
+    requires { ⌜ x ≡ contentsRead 0 (contentsOf plain (now v) len) ⌝ }
+    ensures { λ r. ⌜ madeOutcome r (now (out .exit)) ≡ makeIndexOf (record { slice = now (v .entry); len = len }) (now (out .entry)) ⌝ }
+{
     match x {
         Contents::Stands {
             records: _,

@@ -9,7 +9,6 @@ use lib.ListN.{length}
 use lib.Dec.{ltb}
 use borrow.Author.Tests.{lt-ltb, le-ltb, ltb-true, ltb-false}
 use Rattle.journal_spec.specs.Record.{Record}
-use Rattle.journal_spec.specs.Model.{lengthsOf}
 use Rattle.journal_merge_spec.specs.Records.{before, from, byDay}
 use Rattle.journal_merge_spec.proofs.Tally.{tally}
 
@@ -67,14 +66,6 @@ tally-by-day test = by-steps (λ xs ys zs. tally test zs ≡ tally test xs + tal
 
 pub length-by-day : (xs ys : List Record) → length (byDay xs ys) ≡ length xs + length ys
 length-by-day = by-steps (λ xs ys zs. length zs ≡ length xs + length ys) (record {
-  none = λ ys. omega arith;
-  first = λ x xs ys zs h e. omega (arith, e);
-  second = λ x xs y ys zs h e. omega (arith, e);
-})
-
-pub lengths-by-day : (xs ys : List Record) → lengthsOf (byDay xs ys) ≡ lengthsOf xs + lengthsOf ys
-unfolding lengthsOf
-lengths-by-day = by-steps (λ xs ys zs. lengthsOf zs ≡ lengthsOf xs + lengthsOf ys) (record {
   none = λ ys. omega arith;
   first = λ x xs ys zs h e. omega (arith, e);
   second = λ x xs y ys zs h e. omega (arith, e);

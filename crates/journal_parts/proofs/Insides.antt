@@ -1,15 +1,16 @@
--- Where the last section of a record stands, all its sections stand inside the bytes.
+-- Where the last section of a record stands, all its sections stand inside the bytes; and the bytes of a section, by whether they stand.
 -- Assumes nothing.
 use mathlib.Core.Path.{_≡_, refl, sym, ap, _∙_}
-use Prim.Native.Nat.{ℕ, _+_, _*_, _≤_}
-use mathlib.Core.List.{List}
-use mathlib.Core.Bool.{Bool, true, false}
-use native.Mathlib.Omega.{arith}
-use lib.ListN.{length}
+use Prim.Native.Nat.{ℕ, _+_, _*_, _-_, _≤_, _<_}
+use mathlib.Core.List.{List, []}
+use mathlib.Core.Bool.{Bool, true, false, cond, _&&_}
+use lib.ListN.{length, take, drop}
+use lib.Dec.{leb}
+use borrow.Author.Tests.{le-leb, lt-leb}
 use Rattle.facts.proofs.Tests.{true-not-false}
 use Rattle.facts.proofs.Orders.{by-order}
 use Rattle.journal_spec.specs.Bytes.{numberAt}
-use Rattle.journal_parts.specs.Spans.{noSpan, headAt, spanAt, spanAfter, nameSpan, spansAt, Inside}
+use Rattle.journal_parts.specs.Spans.{noSpan, headAt, spanAt, spanAfter, nameSpan, spansAt, partOf, Inside}
 use Rattle.journal_parts.specs.declared.spans.Span.{Span}
 use Rattle.journal_parts.specs.declared.spans.Spans.{Spans}
 use Rattle.journal_parts.proofs.Reached.{span-stands, span-beyond, head-beyond}
@@ -68,26 +69,21 @@ standing at s b e t =
       limits = last .inside;
     })
 
--- ---- whether they stand or not
+-- ---- the bytes of a section
 
--- a section behind another ends inside the bytes, and not before its start
-span-within : (w : ℕ) (before : Span) (b : List ℕ)
-    → (spanAfter w before b .first ≤ spanAfter w before b .next) × (spanAfter w before b .next ≤ length b)
-span-within w before b = go (before .stands) refl
-  where
-    none : (noSpan .first ≤ noSpan .next) × (noSpan .next ≤ length b)
-    none = unfold noSpan in (omega arith, omega arith)
+module _ (s : Span) (b : List ℕ) where
+  pub part-inside : s .first ≤ s .next → s .next ≤ length b → partOf s b ≡ take (s .next - s .first) (drop (s .first) b)
+  unfolding partOf
+  part-inside h k = rw (le-leb (s .first) (s .next) h, le-leb (s .next) (length b) k) refl
 
-    here : (at : ℕ) → (spanAt w at b .first ≤ spanAt w at b .next) × (spanAt w at b .next ≤ length b)
-    here at =
-        by-order (at + 2 + numberAt 2 at b * w) (length b)
-        (λ h. rw (span-stands w at b h) (omega arith, h))
-        (λ h. rw (span-beyond w at b h) none)
+  pub part-turned : s .next < s .first → partOf s b ≡ []
+  unfolding partOf
+  part-turned h = rw (lt-leb (s .first) (s .next) h) refl
 
-    go : (t : Bool) → before .stands ≡ t → (spanAfter w before b .first ≤ spanAfter w before b .next) × (spanAfter w before b .next ≤ length b)
-    go true e = let same : spanAfter w before b ≡ spanAt w (before .next) b = unfold spanAfter in rw e refl in rw same (here (before .next))
-    go false e = let same : spanAfter w before b ≡ noSpan = unfold spanAfter in rw e refl in rw same none
-
-pub name-within : (at : ℕ) (b : List ℕ) (s : Span) → s ≡ nameSpan at b → (s .first ≤ s .next) × (s .next ≤ length b)
-unfolding nameSpan
-name-within at b s e = rw e (span-within 1 (headAt at b) b)
+  pub part-beyond : length b < s .next → partOf s b ≡ []
+  unfolding partOf
+  part-beyond k = rw (lt-leb (s .next) (length b) k) (none (leb (s .first) (s .next)))
+    where
+      none : (t : Bool) → cond (t && false) (take (s .next - s .first) (drop (s .first) b)) [] ≡ []
+      none true = refl
+      none false = refl

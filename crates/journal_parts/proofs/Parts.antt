@@ -24,6 +24,7 @@ use Rattle.journal_parts.specs.declared.spans.Span.{Span}
 use Rattle.journal_parts.specs.declared.spans.Spans.{Spans}
 use Rattle.journal_parts.proofs.Plainly.{plain-finds}
 use Rattle.journal_parts.proofs.Reached.{span-stands, head-stands, record-stands}
+use Rattle.journal_parts.proofs.Insides.{part-inside}
 
 -- ---- the record that is found
 
@@ -79,14 +80,15 @@ module _ (w at : ℕ) (b xs rest : List ℕ) (low : at ≤ length b) (e : drop a
       ∙ drop-at (bytesOf 2 (length xs)) (numberBytes w xs ++ rest) 2 (length-bytes 2 (length xs))
 
   span-here : length xs < 256 ^ 2 → SpanHere w at b xs
-  unfolding spanOf partOf
+  unfolding spanOf
   span-here h =
       let n = section-count h in
       let size : at + 2 + length xs * w - (at + 2) ≡ length xs * w = omega arith in
       record {
         span = span-stands w at b (rw n section-inside) ∙ ap (spanWith w at) n;
         inside = section-inside;
-        part = rw size (ap (take (length xs * w)) section-bytes ∙ take-at (numberBytes w xs) rest (length xs * w) (length-numbers w xs));
+        part = part-inside (spanWith w at (length xs)) b (omega arith) section-inside
+            ∙ rw size (ap (take (length xs * w)) section-bytes ∙ take-at (numberBytes w xs) rest (length xs * w) (length-numbers w xs));
       }
 
 -- ---- a record

@@ -1,8 +1,8 @@
 -- Where the parts of a record stand in some bytes, by its counts alone: the one account of the layout besides document 01's reader (crate
 -- journal_spec) and the writer's. Nothing is judged. Where a record stands these are its parts: law `parts-are`.
 use Prim.Native.Nat.{ℕ, _+_, _*_, _-_, _≤_}
-use mathlib.Core.List.{List}
-use mathlib.Core.Bool.{true, false, cond}
+use mathlib.Core.List.{List, []}
+use mathlib.Core.Bool.{true, false, cond, _&&_}
 use lib.ListN.{length, take, drop}
 use lib.Dec.{leb}
 use Rattle.journal_spec.specs.Bytes.{numberAt, numbersIn}
@@ -51,9 +51,9 @@ spansAt at b =
 
 -- ---- what stands there
 
--- the bytes of a section's numbers
+-- the bytes of a section's numbers, none where they do not all stand
 unfoldable pub partOf : Span → List ℕ → List ℕ
-partOf s b = take (s .next - s .first) (drop (s .first) b)
+partOf s b = cond (leb (s .first) (s .next) && leb (s .next) (length b)) (take (s .next - s .first) (drop (s .first) b)) []
 
 -- the numbers of w bytes of a section
 unfoldable pub numbersOf : ℕ → Span → List ℕ → List ℕ

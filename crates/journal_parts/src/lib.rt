@@ -11,6 +11,7 @@ pub use number::number_at;
 pub use number::number_in;
 pub use spans::Span;
 pub use spans::Spans;
+pub use spans::part_of;
 pub use spans::spans_at;
 
 // The number of bytes of the record at the front.
@@ -27,7 +28,5 @@ pub fn record_name<'a>(b: &'a [u8]) -> &'a [u8]
     ensures { λ r. ⌜ now r ≡ recordName (now (b .entry)) ⌝ }
 {
     let name = name_at(b, 0);
-    let first = name.first;
-    let end = name.next;
-    &b[first..end]
+    part_of(b, name)
 }

@@ -2,7 +2,7 @@
 // A section that the bytes do not hold to its end does not stand, and then no section behind it does.
 ghost use mathlib.Core.Path.{_≡_};
 ghost use Prim.Native.Nat.{_≤_, _<_};
-ghost use Rattle.journal_parts.specs.Spans.{headAt, spanAt, spanAfter, nameSpan, spansAt};
+ghost use Rattle.journal_parts.specs.Spans.{headAt, spanAt, spanAfter, nameSpan, spansAt, partOf};
 use crate::number::number_in;
 
 // The place of a section's first number, how many numbers there are, the place after them, and whether they all stand.
@@ -102,4 +102,19 @@ fn span_at(b: &[u8], at: usize, w: usize) -> Span
         next: at + 2 + n * w,
         stands: true,
     }
+}
+
+// The bytes of a section's numbers, none where they do not all stand.
+pub fn part_of<'a>(b: &'a [u8], s: Span) -> &'a [u8]
+    ensures { λ r. ⌜ now r ≡ partOf s (now (b .entry)) ⌝ }
+{
+    let first = s.first;
+    let end = s.next;
+    if end < first {
+        return &b[..0];
+    }
+    if b.len() < end {
+        return &b[..0];
+    }
+    &b[first..end]
 }

@@ -9,7 +9,7 @@ use Rattle.journal_spec.specs.Record.{Record}
 use Rattle.journal_spec.specs.Scan.{recordsOf, Contents, standing}
 use Rattle.journal_spec.specs.Index.{orderOf, amend, entryOf, amendAll, indexOf}
 use Rattle.journal_spec.specs.Indexed.{lastNamed, standingAt}
-use Rattle.journal_slot.specs.Slot.{gap, fill, column, nameColumn, slotLine}
+use Rattle.journal_report.specs.Slot.{gap, fill, column, nameColumn, slotLine}
 use Rattle.journal_report.specs.Report.{lineOf, reportLine, widest, widthOf, headColumns, headLine}
 
 -- a record of a name and a day

@@ -34,9 +34,9 @@ use Rattle.journal_spec.proofs.Standing.{noEntry, standing-beyond}
 use Rattle.journal_spec.proofs.StandingBytes.{standing-bytes, standing-there}
 use Rattle.journal_spec.specs.Log.{space}
 use Rattle.journal_listing.specs.Listing.{meanBits, spreadBits}
-use Rattle.journal_slot.specs.Slot.{gap, fill, column, nameColumn, nearText, slotText}
-use Rattle.journal_slot.specs.Slot.{Quote, quotesOf, noLimit, limitFor, limitWidth, quoteColumns, askedColumns}
-use Rattle.journal_slot.specs.Slot.{limitColumns, timesWidth, momentWidth, frontColumns, figureColumns, slotLine}
+use Rattle.journal_report.specs.Slot.{gap, fill, column, nameColumn, nearText, slotText}
+use Rattle.journal_report.specs.Slot.{Quote, quotesOf, noLimit, limitFor, limitWidth, quoteColumns, askedColumns}
+use Rattle.journal_report.specs.Slot.{limitColumns, timesWidth, momentWidth, frontColumns, figureColumns, slotLine}
 use Rattle.journal_report.specs.Report.{lineOf, reportLine, maxLine, headName, widest, widthOf, headColumns, headLine}
 
 -- ---- columns

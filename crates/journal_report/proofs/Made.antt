@@ -1,5 +1,5 @@
 -- An index that is made afresh is the journal's own, in front of its buffer, so that the laws of the report hold of it. Assumes nothing.
-use mathlib.Core.Path.{_≡_, refl, ap}
+use mathlib.Core.Path.{_≡_, refl, ap, _∙_}
 use Prim.Native.Nat.{ℕ, zero, suc}
 use mathlib.Core.Bool.{true}
 use mathlib.Core.List.{List}
@@ -8,12 +8,18 @@ use native.Mathlib.Nat.{zero-add}
 use lib.ListN.{length, drop}
 use lib.Seq.{take-at}
 use Rattle.journal_spec.specs.Profile.{plain}
-use Rattle.journal_spec.specs.Scan.{Contents, standing, faulty, contentsOf}
+use Rattle.journal_spec.specs.Scan.{Contents, standing, faulty, contentsOf, scanOf}
 use Rattle.journal_spec.specs.Index.{IndexEntry, indexBytes, inFront, indexOf}
 use Rattle.journal_spec.specs.Append.{written, judgeIndexRoom}
 use Rattle.journal_spec.specs.MakeIndex.{made, declined, damaged, Made, makeUnless, makeFrom, makeIndexOf}
 use Rattle.journal_spec.proofs.Each.{same-self}
-use Rattle.journal_report.specs.Report.{OwnIndex}
+use Rattle.journal.specs.Answers.{meaning}
+use Rattle.journal.specs.declared.Status.{Status}
+use Rattle.journal_entries.specs.Entries.{entriesIn}
+use Rattle.journal_index.specs.Made.{madeMeaning, madeOutcome}
+use Rattle.journal_index.specs.declared.make.IndexMade.{IndexMade}
+use Rattle.journal_report.specs.Report.{OwnIndex, widthOf}
+use Rattle.journal_report.specs.Begin.{namesMade, Begins}
 
 module _ (room index : List ℕ) (n : ℕ) where
   -- bytes written at the front stand there
@@ -37,3 +43,15 @@ module _ (room index : List ℕ) (n : ℕ) where
           let e : damaged m p ≡ made n = ap (λ (x : Made). x .answer) h in let z : _≡_ {A = ℕ} 0 1 = cc in absurd (omega arith)
       go (standing ps committed) k h =
           record { records = ps; committed = committed; stands = k; own = unfold makeFrom in by-room (judgeIndexRoom (indexOf ps) room) (indexOf ps) h }
+
+-- what a report begins with, by what the one pass answered and left
+pub begins : (v before after : List ℕ) (status : Status) (answer : IndexMade) (names width : ℕ) → meaning status ≡ scanOf plain v (length v)
+    → madeOutcome answer after ≡ makeIndexOf (record { slice = v; len = length v }) before → names ≡ namesMade (madeMeaning answer) after
+    → width ≡ widthOf (entriesIn after) → Begins v before after (record { status = status; names = names; width = width })
+unfolding madeOutcome
+begins v before after status answer names width s m n w = record {
+  status = s;
+  index = ap (λ (x : Made). x .buffer) m;
+  names = n ∙ ap (λ (x : Made). namesMade (x .answer) after) m;
+  width = w;
+}

@@ -16,7 +16,7 @@ use Rattle.journal_entries.specs.declared.finding.Start.{Start}
 use Rattle.journal_entries.specs.declared.finding.Start.the-variants as S
 use Rattle.journal_entries.proofs.ByCounts.{size-here, start-stands, entries-end, entries-more, count-read, few}
 use Rattle.journal_parts.specs.Plain.{plainRecordAt}
-use Rattle.journal_slot.specs.Slot.{slotOf}
+use Rattle.journal_report.specs.Slot.{slotOf}
 use Rattle.journal_report.specs.Report.{startAtPosition, startLine}
 
 pub position-beyond : (es : List IndexEntry) (k : ℕ) → length es ≤ k → none ≡ startAtPosition es k

@@ -25,7 +25,7 @@ use Rattle.journal_spec.proofs.Standing.{noEntry, standing-beyond}
 use Rattle.journal_spec.proofs.StandingBytes.{StandingBytes, last-bytes, standing-bytes, standing-there}
 use Rattle.journal_parts.specs.Plain.{plainRecordAt}
 use Rattle.journal_parts.proofs.Parts.{record-there}
-use Rattle.journal_slot.specs.Slot.{slotLine, slotOf}
+use Rattle.journal_report.specs.Slot.{slotLine, slotOf}
 use Rattle.journal_report.specs.Report.{lineOf, reportLine, reportLines, linesTo, startAtPosition, startLine, WritesLine}
 use Rattle.journal_report.proofs.Positions.{position-beyond}
 

@@ -16,7 +16,7 @@ use Rattle.journal_entries.specs.Entries.{entriesIn}
 use Rattle.journal_spec.specs.Indexed.{lastNamed, standingAt}
 use Rattle.journal_spec.specs.Log.{space, newline}
 use Rattle.journal_parts.specs.Plain.{plainRecordAt}
-use Rattle.journal_slot.specs.Slot.{column, nameColumn, timesWidth, momentWidth, limitWidth, slotLine, slotOf}
+use Rattle.journal_report.specs.Slot.{column, nameColumn, timesWidth, momentWidth, limitWidth, slotLine, slotOf}
 
 -- ---- the report
 

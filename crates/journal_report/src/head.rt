@@ -2,7 +2,7 @@
 // Where tabs separate the columns there is none.
 ghost use Rattle.text_digits.specs.Text.{Put};
 ghost use Rattle.journal_report.specs.Report.{headLine};
-use journal_slot::put_fill;
+use crate::cells::put_fill;
 use text_digits::put;
 
 // The head at the front of the buffer, with a width for the names' column. Answers how many bytes it takes.

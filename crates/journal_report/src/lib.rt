@@ -9,17 +9,25 @@ use journal_entries::entry_place;
 use journal_entries::size_at;
 use journal_entries::start_at;
 use journal_parts::number_in;
-use journal_slot::Layout;
-use journal_slot::slot_line;
 
+mod beginning;
+mod cells;
 mod figures;
+mod front;
 mod head;
+mod quotes;
+mod scatter;
+mod slot;
 mod width;
 
+pub use beginning::Begun;
+pub use beginning::begin;
 pub use figures::MAX_FIGURE;
 pub use figures::limit_line;
 pub use figures::moment_line;
 pub use head::head_line;
+pub use slot::Layout;
+pub use slot::slot_line;
 pub use width::name_width;
 
 // The longest line of a report at up to eight chances: law `report-fits`.

@@ -1,5 +1,5 @@
--- A place in bytes that hold good records end to end, and the records from it on: what stands there is read by the counts alone, and the next
--- record's place is behind it. Assumes nothing.
+-- A place in bytes that hold good records end to end, and the records from it on: the first one's bytes, and the next record's place behind it.
+-- Assumes nothing.
 use mathlib.Core.Path.{_≡_, refl, sym, ap, _∙_}
 use Prim.Native.Nat.{ℕ, _+_, _≤_, _<_}
 use mathlib.Core.List.{List, [], _∷_, _++_}
@@ -10,7 +10,6 @@ use Rattle.journal_spec.specs.Bytes.{joined}
 use Rattle.journal_spec.specs.Record.{Record, Last, lastOf, recordBytes, recordsBytes}
 use Rattle.journal_spec.specs.Ranges.{RecordRanges, AllRanges}
 use Rattle.journal_spec.proofs.Ranged.{encoding-length}
-use Rattle.journal_spec.proofs.Pieces.{RecordHere, record-here}
 
 -- ---- good records
 
@@ -78,7 +77,3 @@ module _ (b : List ℕ) (at : ℕ) (r : Record) (rs : List Record) (c : Cursor b
         ∙ drop-at (recordBytes r) (recordsBytes rs) (length (recordBytes r)) refl;
     good = c .good .1;
   }
-
-  -- what the counts say
-  pub cursor-read : RecordHere b at r
-  cursor-read = record-here b at last r (recordsBytes rs) (c .inside) good there

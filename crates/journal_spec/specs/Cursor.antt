@@ -1,9 +1,8 @@
--- The records that a journal holds; and what code that goes over them reads of the one at a place, by its counts alone: form, day and size.
+-- The records that a journal holds: of what was read, in a slice up to a length, in all of some bytes.
 -- Assumes nothing.
-use Prim.Native.Nat.{ℕ, _+_, _*_}
+use Prim.Native.Nat.{ℕ}
 use mathlib.Core.List.{List, []}
 use lib.ListN.{length}
-use Rattle.journal_spec.specs.Bytes.{numberAt}
 use Rattle.journal_spec.specs.Record.{Record}
 use Rattle.journal_spec.specs.Profile.{plain}
 use Rattle.journal_spec.specs.Scan.{recordsOf, Contents, standing, faulty, contentsOf}
@@ -20,19 +19,3 @@ recordsUpto slice len = recordsHeld (contentsOf plain slice len)
 -- those of the journal that takes all of some bytes
 unfoldable pub recordsIn : List ℕ → List Record
 recordsIn b = recordsUpto b (length b)
-
--- ---- what stands at a place
-
-unfoldable pub formAt : List ℕ → ℕ → ℕ
-formAt b at = numberAt 2 at b
-
-unfoldable pub dayAt : List ℕ → ℕ → ℕ
-dayAt b at = numberAt 2 (at + 2) b
-
--- there are as many limits as chances
-unfoldable pub sizeAt : List ℕ → ℕ → ℕ
-sizeAt b at =
-    let names : ℕ = numberAt 2 (at + 4) b in
-    let chances : ℕ = numberAt 2 (at + 6 + names) b in
-    let times : ℕ = numberAt 2 (at + 8 + names + 4 * chances) b in
-    12 + names + 12 * chances + 4 * times

@@ -4,8 +4,6 @@ ghost use mathlib.Core.Path.{_≡_};
 ghost use lib.ListN.{length};
 use journal_entries::Start;
 use journal_entries::look_up;
-use journal_index::IndexMade;
-use journal_index::make_index;
 use journal_parts::record_size;
 
 // Where a record stands, and its position; or that there is none.
@@ -35,9 +33,9 @@ pub(crate) fn at_position(v: &[u8], records: usize, wanted: usize) -> Place {
     Place { found: true, at, i }
 }
 
-// The last record of a name, of so many.
-pub(crate) fn last_named(v: &[u8], records: usize, name: &[u8]) -> Place {
-    match last_start(v, name) {
+// The last record of a name, of so many, by the volume's index.
+pub(crate) fn last_named(v: &[u8], index: &[u8], records: usize, name: &[u8]) -> Place {
+    match look_up(index, name) {
         Start::At(at) => Place {
             found: true,
             at,
@@ -52,25 +50,6 @@ pub(crate) fn index_room() -> [u8; 65_537]
     ensures { λ r. ⌜ 65_537 ≡ length r ⌝ }
 {
     [0; 65_537]
-}
-
-// Where it starts, by the volume's index; a damaged volume has none.
-fn last_start(v: &[u8], name: &[u8]) -> Start {
-    let mut index = index_room();
-    if !is_indexed(v, &mut index) {
-        return Start::Absent;
-    }
-    look_up(&index, name)
-}
-
-// Makes the volume's index; whether there is one.
-pub(crate) fn is_indexed(v: &[u8], out: &mut [u8]) -> bool {
-    let made = make_index(v, v.len(), out);
-    match made {
-        IndexMade::Length(_) => true,
-        IndexMade::Declined(_) => false,
-        IndexMade::Damaged(_) => false,
-    }
 }
 
 // The position of the record that starts at a place, of so many.

@@ -2,69 +2,81 @@
 // What fails is said on standard error.
 use crate::find::Place;
 use crate::find::at_position;
+use crate::find::index_room;
 use crate::find::last_named;
 use crate::input;
 use crate::input::Asked;
 use crate::lines;
 use crate::slots;
-use journal::Rule;
 use journal::Status;
 use journal_listing::Cursor;
+use journal_report::Begun;
+use journal_report::begin;
 
 // What is asked for.
 pub(crate) fn print_asked(v: &[u8], asked: Asked) {
-    let records = records_of(v);
+    let mut index = index_room();
+    let begun = begin(v, &mut index);
+    let status = begun.status;
     match asked {
-        Asked::Name(word) => print_named(v, records, word),
-        Asked::At(i) => print_record(v, records, at_position(v, records, i as usize)),
-        Asked::Slots(chances) => print_slots(v, false, chances),
-        Asked::Tabs(chances) => print_slots(v, true, chances),
+        Asked::Name(word) => print_named(v, &index, status, word),
+        Asked::At(i) => print_record(v, status, at_position(v, records_of(status), i as usize)),
+        Asked::Slots(chances) => print_slots(v, &index, begun, false, chances),
+        Asked::Tabs(chances) => print_slots(v, &index, begun, true, chances),
         _ => usage(),
     }
 }
 
 // The slots with the limits at the chances among the arguments from one on, and then the end state. Behind a write that failed there is none.
-fn print_slots(v: &[u8], tabs: bool, first: usize) {
+fn print_slots(v: &[u8], index: &[u8], begun: Begun, tabs: bool, first: usize) {
     let mut asked = [0u32; input::MAX_CHANCES];
     let n = input::chances(first, &mut asked);
-    if slots::print_slots(v, tabs, &asked[..n]) {
-        print_state(v);
+    let status = begun.status;
+    if slots::print_slots(v, index, begun, tabs, &asked[..n]) {
+        print_state(v, status);
     }
 }
 
 // The last record of the name in an argument.
-fn print_named(v: &[u8], records: usize, word: usize) {
+fn print_named(v: &[u8], index: &[u8], status: Status, word: usize) {
     let mut name = [0u8; 33];
     let size = input::name(word, &mut name);
-    let place = last_named(v, records, &name[..size]);
-    print_record(v, records, place);
+    let place = last_named(v, index, records_of(status), &name[..size]);
+    print_record(v, status, place);
 }
 
 // How many records stand; none where the volume is damaged.
-fn records_of(v: &[u8]) -> usize {
-    let cursor = journal_listing::start(v, Rule::Plain);
-    cursor.left
+fn records_of(status: Status) -> usize {
+    match status {
+        Status::Whole {
+            records,
+            committed: _,
+        } => records,
+        Status::Torn {
+            records,
+            committed: _,
+        } => records,
+        Status::Damaged(_) => 0,
+    }
 }
 
 // The record at a place; or the volume's fault, or that there is no such record.
-fn print_record(v: &[u8], records: usize, place: Place) {
+fn print_record(v: &[u8], status: Status, place: Place) {
     if place.found {
         if input::is_ticks() {
             lines::print_times(v, place.at);
         } else {
-            lines::print_fields(v, records, place.i, place.at);
+            lines::print_fields(v, records_of(status), place.i, place.at);
         }
         return;
     }
-    print_fault(v);
+    print_fault(v, status);
 }
 
 // The line of a damaged volume, or the refusal of a position that no record has.
-fn print_fault(v: &[u8]) {
-    let cursor = journal_listing::start(v, Rule::Plain);
-    let status = cursor.status;
+fn print_fault(v: &[u8], status: Status) {
     match status {
-        Status::Damaged(_) => print_state(v),
+        Status::Damaged(_) => print_state(v, status),
         Status::Whole {
             records: _,
             committed: _,
@@ -81,8 +93,7 @@ fn print_absent() {
 }
 
 // The line of the end state.
-fn print_state(v: &[u8]) {
-    let status = journal_listing::start(v, Rule::Plain).status;
+fn print_state(v: &[u8], status: Status) {
     let cursor = Cursor {
         at: 0,
         left: 0,

@@ -1,36 +1,19 @@
 // The planner's report: a head, and for each name of the volume's index the line of its last record, by name; crate journal_report makes them.
 // Columns line up under the head; or tabs separate them, and there is no head.
-use crate::find::index_room;
-use crate::find::is_indexed;
 use crate::lines::print_text;
-use journal_entries::end_of;
+use journal_report::Begun;
+use journal_report::Layout;
 use journal_report::entry_line;
 use journal_report::head_line;
-use journal_report::name_width;
-use journal_slot::Layout;
 
-// The report of a volume, by its index, which is made first; of a damaged one there is none. Whether no write failed.
-pub(crate) fn print_slots(v: &[u8], tabs: bool, asked: &[u32]) -> bool {
-    let mut index = index_room();
-    if !is_indexed(v, &mut index) {
-        return true;
-    }
-    print_report(v, &index, tabs, asked)
-}
-
-// The head, and the line of every entry; whether they were written.
-fn print_report(v: &[u8], index: &[u8], tabs: bool, asked: &[u32]) -> bool {
-    let names = names_in(index);
-    let width = name_width(index);
+// The report of a volume, by its index: the head, and the line of every entry; whether they were written.
+pub(crate) fn print_slots(v: &[u8], index: &[u8], begun: Begun, tabs: bool, asked: &[u32]) -> bool {
+    let names = begun.names;
+    let width = begun.width;
     if !print_head(width, tabs, names) {
         return false;
     }
     print_lines(v, index, names, Layout { name: width, tabs }, asked)
-}
-
-// How many entries an index has.
-fn names_in(index: &[u8]) -> usize {
-    end_of(index).count
 }
 
 // The lines of so many entries; whether they were written.

@@ -10,7 +10,7 @@ use lib.ListN.{length}
 use lib.Pow.{pow-pos, split}
 use Rattle.text_digits.specs.Hex.{glyphOf, digits, placesOf, decimalDigits}
 use Rattle.text_digits.specs.Text.{Put}
-use Rattle.text_digits.proofs.Writing.{digits-front}
+use Rattle.text_decimal.proofs.FirstDigit.{digits-front}
 use Rattle.text_digits.proofs.Counting.{places-one}
 use Rattle.text_digits.proofs.Putting.{put-nothing, put-put}
 

@@ -12,7 +12,8 @@ use lib.Ieee.Bits.{ofBits-fits}
 use lib.Ieee.Positive.{num, den}
 use lib.Ieee.Scale.{finite}
 use Rattle.text_digits.specs.Hex.{glyphOf, digits, decimalDigits}
-use Rattle.text_digits.proofs.Writing.{length-digits, digits-front}
+use Rattle.text_digits.proofs.Writing.{length-digits}
+use Rattle.text_decimal.proofs.FirstDigit.{digits-front}
 use Rattle.text_ticks.specs.Ticks.{minusOf}
 use Rattle.text_ticks.specs.Text.{point}
 use Rattle.text_decimal.specs.Decimal.{placesBehind, fractionText, signedText, isShown, exactText}

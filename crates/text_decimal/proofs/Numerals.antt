@@ -13,7 +13,7 @@ use lib.ListN.{length}
 use Rattle.facts.proofs.Tests.{both-hold}
 use Rattle.facts.proofs.Orders.{by-order}
 use Rattle.text_digits.specs.Hex.{glyphOf, digits}
-use Rattle.text_digits.proofs.Writing.{digits-front}
+use Rattle.text_decimal.proofs.FirstDigit.{digits-front}
 use Rattle.text_decimal.specs.Meaning.{areDigits, numberFrom, isLean, endsInZero}
 use Rattle.text_decimal.proofs.Reading.{glyph-is, number-append}
 

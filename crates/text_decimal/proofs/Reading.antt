@@ -11,7 +11,7 @@ use lib.Dec.{leb, ltb, eqb}
 use Rattle.facts.proofs.Orders.{by-order}
 use Rattle.text_digits.specs.Hex.{glyphOf, digits, orMore, placesIn, placesOf, decimalDigits}
 use Rattle.text_digits.proofs.Counting.{places-one, places-turn, places-hold, places-least}
-use Rattle.text_digits.proofs.Writing.{digits-front}
+use Rattle.text_decimal.proofs.FirstDigit.{digits-front}
 use Rattle.text_decimal.specs.Meaning.{areDigits, numberFrom, isLean, endsInZero}
 
 -- ---- the code of a digit

@@ -1,21 +1,18 @@
--- Laws of reading, over the width: one turn of the loop that reads, how large a number is, and that reading gives back what
--- was written. Assumes nothing.
-use Prim.Native.Nat.{ℕ, zero, suc, _+_, _-_, _*_, _/_, _%_, _^_, _≤_, _<_}
+-- Laws of reading, over the width: one turn of the loop that reads, and how large a number is.
+-- Assumes nothing.
+use Prim.Native.Nat.{ℕ, zero, suc, _+_, _-_, _*_, _^_, _≤_, _<_}
 use mathlib.Core.Path.{_≡_, refl, sym, ap, _∙_}
-use mathlib.Core.List.{List, [], _∷_, _++_}
-use native.Mathlib.Nat.{pow-suc, pow-succ', pow-le-pow-right, one-le-pow, mod-lt, mod-eq-of-lt, add-mul, mul-assoc, mul-le-mul-right}
+use mathlib.Core.List.{List}
+use native.Mathlib.Nat.{pow-suc, pow-succ', pow-le-pow-right, mul-assoc, mul-le-mul-right}
 use native.Mathlib.Omega.{arith}
 use borrow.Author.Tests.{lt-ltb, le-ltb, le-leb, lt-leb}
-use lib.Arith.{mod-mul}
-use lib.ListN.{length, getD, length-append}
-use lib.Seq.{getD-append-seam, append-snoc}
+use lib.ListN.{length, getD}
 use Rattle.facts.proofs.Orders.{by-order}
-use Rattle.text_digits.specs.Hex.{glyphOf, digits, digitOf, afterDigit, readDigits, readHex}
+use Rattle.text_digits.specs.Hex.{digitOf, afterDigit, readDigits, readHex}
 use Rattle.text_digits.specs.declared.digit.Digit.{Digit}
 use Rattle.text_digits.specs.declared.digit.Digit.the-variants as D
 use Rattle.text_digits.specs.declared.read.Number.{Number}
 use Rattle.text_digits.specs.declared.read.Number.the-variants as N
-use Rattle.text_digits.proofs.Writing.{length-digits, digits-front}
 
 -- a byte is a digit below 16, or none
 pub digit-cases {ℓ} : (c : ℕ) (P : Digit → Type ℓ) → ((d : ℕ) → d < 16 → P (D.Value d)) → P D.Other → P (digitOf c)
@@ -36,23 +33,6 @@ pub digit-below : (c d : ℕ) → digitOf c ≡ D.Value d → d < 16
 digit-below c d =
     digit-cases c (λ r. r ≡ D.Value d → d < 16) (λ v h e. let same : v ≡ d = cc in omega arith)
     (λ e. let z : _≡_ {A = ℕ} 0 1 = cc in omega arith)
-
--- a digit that was written is read
-pub digit-written : (d : ℕ) → d < 16 → digitOf (glyphOf d) ≡ D.Value d
-unfolding digitOf glyphOf
-digit-written d h =
-    by-order 10 d
-    (λ a. let back : 87 + d - 87 ≡ d = omega arith in
-    rw (
-      le-ltb d 10 a,
-      le-ltb (87 + d) 48 (omega arith),
-      le-ltb (87 + d) 58 (omega arith),
-      le-ltb (87 + d) 97 (omega arith),
-      lt-ltb (87 + d) 103 (omega arith),
-      back,
-    ))
-    (λ a. let back : 48 + d - 48 ≡ d = omega arith in
-    rw (lt-ltb d 10 a, le-ltb (48 + d) 48 (omega arith), lt-ltb (48 + d) 58 (omega arith), back))
 
 -- a turn that reads
 pub read-turn : (k : ℕ) (s : List ℕ) (place n d : ℕ) → digitOf (getD s place 0) ≡ D.Value d
@@ -130,39 +110,3 @@ grown width left n d l w m h e =
     let most : width - (left - 1) ≤ 16 = omega arith in
     let top : 16 ^ (width - (left - 1)) ≤ 16 ^ 16 = pow-le-pow-right (omega arith) most in
     record { within = omega arith; small = omega arith }
-
--- the first digit and the others, as one number behind n
-joined : (k v n : ℕ) → (n * 16 + v / 16 ^ k % 16) * 16 ^ k + v % 16 ^ k ≡ n * 16 ^ suc k + v % 16 ^ suc k
-joined k v n =
-    let p = 16 ^ k in
-    let d = v / p % 16 in
-    let parts : v % (16 * p) ≡ d * p + v % p = mod-mul v (omega arith) (one-le-pow k 16 (omega arith)) in
-    let spread : (n * 16 + d) * p ≡ n * (16 * p) + d * p = add-mul (n * 16) d p ∙ ap (λ (q : ℕ). q + d * p) (mul-assoc n 16 p) in
-    rw (pow-succ', parts, spread) (omega arith)
-
--- What was written is read back: k digits of v behind any bytes make the last k digits of v, whatever the width.
-pub read-written : (k v n : ℕ) (before rest : List ℕ)
-    → readDigits k (before ++ (digits 16 k v ++ rest)) (length before) n ≡ N.Value (n * 16 ^ k + v % 16 ^ k)
-unfolding readDigits
-read-written zero v n before rest = ap N.Value (omega arith)
-read-written (suc k) v n before rest =
-    let d = v / 16 ^ k % 16 in
-    let g = glyphOf d in
-    let tail = digits 16 k v ++ rest in
-    let front : before ++ (digits 16 (suc k) v ++ rest) ≡ before ++ (g ∷ tail) = rw (digits-front 16 k v) in
-    let read = digit-written d (mod-lt (v / 16 ^ k) (omega arith)) in
-    let turn = read-turn k (before ++ (g ∷ tail)) (length before) n d (ap digitOf (getD-append-seam before g tail 0) ∙ read) in
-    let moved : readDigits k (before ++ (g ∷ tail)) (length before + 1) (n * 16 + d)
-    ≡ readDigits k ((before ++ (g ∷ [])) ++ tail) (length (before ++ (g ∷ []))) (n * 16 + d)
-    = rw (append-snoc, length-append) in
-    ap (λ (s : List ℕ). readDigits (suc k) s (length before) n) front ∙ turn ∙ moved
-    ∙ read-written k v (n * 16 + d) (before ++ (g ∷ [])) rest ∙ ap N.Value (joined k v n)
-
--- A number below 16^width that was written in `width` digits, at most sixteen, is read back from the front of any bytes.
-pub hex-read-back : (width v : ℕ) (rest : List ℕ) → width ≤ 16 → v < 16 ^ width → readHex (digits 16 width v ++ rest) 0 width ≡ N.Value v
-unfolding readHex
-hex-read-back width v rest w h =
-    let size = length-append (digits 16 width v) rest ∙ ap (λ (k : ℕ). k + length rest) (length-digits 16 width v) in
-    let stands : 0 + width ≤ length (digits 16 width v ++ rest) = omega arith in
-    let whole : 0 * 16 ^ width + v % 16 ^ width ≡ v = omega (arith, mod-eq-of-lt h) in
-    rw (le-ltb 16 width w, le-leb (0 + width) (length (digits 16 width v ++ rest)) stands) (read-written width v 0 [] rest ∙ ap N.Value whole)

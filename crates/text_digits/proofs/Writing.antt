@@ -1,9 +1,8 @@
 -- Laws of written digits, over the width: how many there are, and what one turn of the loop that writes adds.
 -- Assumes nothing.
-use Prim.Native.Nat.{ℕ, zero, suc, _+_, _-_, _/_, _%_, _^_, _≤_, _<_}
+use Prim.Native.Nat.{ℕ, zero, suc, _+_, _-_, _/_, _%_, _≤_, _<_}
 use mathlib.Core.Path.{_≡_, refl, sym, ap, _∙_}
 use mathlib.Core.List.{List, [], _∷_, _++_, append-assoc}
-use native.Mathlib.Nat.{pow-zero, pow-succ', div-one, div-div-eq-div-mul}
 use native.Mathlib.Omega.{arith}
 use lib.ListN.{length, drop, set, replicate, length-append, length-drop, length-set}
 use lib.Seq.{drop-cons, drop-set-lt, getD-set-same}
@@ -36,14 +35,6 @@ digits-before b i rest g out l h e =
 pub digits-done : (b i rest : ℕ) (out whole : List ℕ) → i ≡ 0 → whole ≡ digits b i rest ++ drop i out → out ≡ whole
 unfolding digits
 digits-done b i rest out whole z e = sym (e ∙ rw z)
-
--- the first digit, and the others
-pub digits-front : (b k n : ℕ) → digits b (suc k) n ≡ glyphOf (n / b ^ k % b) ∷ digits b k n
-unfolding digits
-digits-front b zero n = ap (λ (q : ℕ). glyphOf (q % b) ∷ []) (sym (div-one n) ∙ ap (λ (p : ℕ). n / p) (sym (pow-zero b)))
-digits-front b (suc k) n =
-    ap (λ (l : List ℕ). l ++ (glyphOf (n % b) ∷ [])) (digits-front b k (n / b))
-    ∙ ap (λ (q : ℕ). glyphOf (q % b) ∷ digits b (suc k) n) (div-div-eq-div-mul n b (b ^ k) ∙ ap (λ (p : ℕ). n / p) (sym (pow-succ' b k)))
 
 -- twenty bytes whose front was filled are still twenty
 pub decimal-whole : (count : ℕ) (front : List ℕ) → count ≤ 20 → length front ≡ count

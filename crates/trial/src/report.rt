@@ -12,7 +12,9 @@ use crate::table::table_room;
 use crate::text::put_chance;
 use crate::text::put_head;
 use command_io::Gathered;
+use journal_parts::Span;
 use journal_parts::number_in;
+use journal_parts::spans_at;
 use journal_trial::Unknown;
 use text_digits::put;
 
@@ -99,25 +101,22 @@ fn put_name(out: &mut [u8], v: &[u8], index: &[u8], table: &[u64], k: usize) -> 
     let from = at + 2;
     let to = from + names;
     let head = put_head(out, &index[from..to], count_at(table, k, 0));
-    let end = put_chances(out, head, v, chances_place(start, names), table, k);
+    let chances = spans_at(v, start).chances;
+    let end = put_chances(out, head, v, chances, table, k);
     put(out, end, b"\n")
 }
 
-// Where the count of a record's chances stands, behind so many bytes of a name.
-fn chances_place(start: usize, names: usize) -> usize {
-    std::num::wrapping_add_usize(start, std::num::wrapping_add_usize(names, 6))
-}
-
-// Puts the overs at each chance of the record whose chances' count stands at a place; the lowest chance that was exceeded is marked.
+// Puts the overs at each chance of a record's chances; the lowest chance that was exceeded is marked.
 fn put_chances(
     out: &mut [u8],
     from: usize,
     v: &[u8],
-    place: usize,
+    chances: Span,
     table: &[u64],
     k: usize,
 ) -> usize {
-    let count = eight_at_most(number_in(v, place, 2));
+    let place = chances.first;
+    let count = eight_at_most(chances.count);
     let first = first_exceeded(v, place, count, table, k);
     let mut end = from;
     let mut j: usize = 0;
@@ -147,19 +146,19 @@ fn first_exceeded(v: &[u8], place: usize, count: usize, table: &[u64], k: usize)
     count
 }
 
-// A chance of the record whose chances' count stands at a place.
+// A chance of the record whose chances stand from a place on.
 fn chance_at(v: &[u8], place: usize, j: usize) -> u64
     requires { ⌜ j ≤ 8 ⌝ }
 {
-    number_in(v, std::num::wrapping_add_usize(place, 2 + 4 * j), 4)
+    number_in(v, std::num::wrapping_add_usize(place, 4 * j), 4)
 }
 
 // A count of chances: a record has no more than eight.
-fn eight_at_most(n: u64) -> usize
+fn eight_at_most(n: usize) -> usize
     ensures { λ r. ⌜ r ≤ 8 ⌝ }
 {
     if n < 8 {
-        return n as usize;
+        return n;
     }
     8
 }

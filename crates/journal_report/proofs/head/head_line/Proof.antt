@@ -6,7 +6,7 @@ use mathlib.Core.Bool.{false}
 use mathlib.Core.List.{_++_}
 use borrow.Author.Needs.{needs}
 use Rattle.text_digits.proofs.Putting.{put-put, put-as}
-use Rattle.journal_slot.specs.Slot.{gap, fill, column, nameColumn}
+use Rattle.journal_report.specs.Slot.{gap, fill, column, nameColumn}
 use Rattle.journal_report.specs.Report.{headName, headColumns, headLine}
 use Rattle.journal_report.proofs.head.head_line.Statement.{statement}
 use Rattle.journal_report.proofs.head.head_line.Tie as tie
