@@ -158,7 +158,8 @@ void awaqlla_merge(const uint8_t *a, size_t a_size, size_t a_len, const uint8_t 
 void awaqlla_trial(const uint8_t *log, size_t log_len, const uint8_t *v, size_t size, size_t len,
     const uint8_t *index, size_t index_size, size_t position, uint64_t out[12]);
 
-/* The lines of the log whose names are not in the index: {AWAQLLA_DONE, lines, 0}, or as above but for ABSENT. out points to three places. */
+/* The lines of the log whose names are not in the index: {AWAQLLA_DONE, lines, 0}, or as above but for ABSENT. out points to three places. It takes
+   some 300 kB of the stack. */
 void awaqlla_trial_unknown(const uint8_t *log, size_t log_len, const uint8_t *v, size_t size, size_t len,
     const uint8_t *index, size_t index_size, uint64_t out[3]);
 
