@@ -10,5 +10,5 @@ mod Answered
 mod Appending
 mod Room
 mod Standing
-mod Through
+mod Beside
 pub mod Meaning

@@ -5,9 +5,11 @@ mod log;
 mod make;
 mod own;
 
-pub use append::append_indexed;
-pub use log::append_log_indexed;
+pub use append::append_beside;
+pub use log::append_log_beside;
+pub use make::INDEX_ROOM_REFUSAL;
 pub use make::IndexMade;
 pub use make::make_index;
 pub use own::Checked;
+pub use own::INDEX_REFUSAL;
 pub use own::check_index;
