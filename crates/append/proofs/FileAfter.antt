@@ -15,7 +15,8 @@ use Rattle.journal_spec.specs.Append.{offered}
 use Rattle.journal_spec.proofs.Writing.{written-nil}
 use Rattle.journal_spec.proofs.Placing.{written-take}
 use Rattle.append.specs.declared.extend.Extension.{Extension}
-use Rattle.append.specs.Extension.{committedIn, startIn, endIn, partIn, appendAll, outcomeWith, Extends}
+use Rattle.journal.specs.Answers.{outcomeWith}
+use Rattle.append.specs.Extension.{committedIn, startIn, endIn, partIn, appendAll, Extends}
 use Rattle.append.proofs.WrittenPart.{Extended, append-extended, offered-length, Unwritten, empty}
 
 module _ (slice : List ℕ) (len : ℕ) (rule : Rule) (o : Offer) (i : Option (List ℕ)) (r : Extension) (after : List ℕ) (k : Option (List ℕ))

@@ -4,7 +4,7 @@ use mathlib.Core.Path.{_≡_, refl, sym, ap, _∙_}
 use Prim.Native.Nat.{ℕ, zero, suc, _+_, _-_, _*_, _≤_, min}
 use mathlib.Core.List.{List, []}
 use mathlib.Core.Bool.{Bool, true, false}
-use mathlib.Core.Option.{Option, none, some}
+use mathlib.Core.Option.{Option}
 use native.Mathlib.Omega.{arith}
 use borrow.Author.Tests.{leb-true}
 use lib.Dec.{leb}
@@ -21,12 +21,11 @@ use Rattle.journal_spec.proofs.Judging.{none-at, unless-none}
 use Rattle.journal_spec.proofs.Records.{length-record}
 use Rattle.journal_spec.proofs.Writing.{written-nil}
 use Rattle.journal_spec.proofs.Placing.{written-part}
-use Rattle.journal.specs.Answers.{appendMeaning, outcomeOf}
+use Rattle.journal.specs.Answers.{appendMeaning, outcomeWith}
 use Rattle.journal.specs.declared.Fault.{Fault}
 use Rattle.journal.specs.declared.Appended.{Appended}
 use Rattle.journal.specs.declared.Appended.the-variants as A
-use Rattle.journal_index.specs.Outcome.{indexedOutcome}
-use Rattle.append.specs.Extension.{committedIn, startIn, endIn, partIn, handed, allOf, appendAll, outcomeWith, Extends}
+use Rattle.append.specs.Extension.{committedIn, startIn, endIn, partIn, allOf, appendAll, Extends}
 use Rattle.append.proofs.Committed.{committed-inside, committed-found}
 
 -- ---- an append that extends the journal
@@ -133,19 +132,6 @@ empty s o (extended n) u = absurd (u n refl)
 empty s o (declined n) u = record { starts = refl; ends = refl; part = refl }
 empty s o (declinedAt n p) u = record { starts = refl; ends = refl; part = refl }
 empty s o (damaged n p) u = record { starts = refl; ends = refl; part = refl }
-
--- ---- with an index or without one
-
-module _ (indexed : Bool) (len : ℕ) (r : Appended) (after left slice : List ℕ) (rule : Rule) (o : Offer) (index : List ℕ) where
-  pub with-index : indexed ≡ true → indexedOutcome len r after left ≡ appendAll slice len rule o (some index)
-      → outcomeWith len r after (handed indexed left) ≡ appendAll slice len rule o (handed indexed index)
-  unfolding indexedOutcome outcomeWith handed
-  with-index t e = rw t e
-
-  pub without-index : indexed ≡ false → outcomeOf len r after ≡ appendAll slice len rule o none
-      → outcomeWith len r after (handed indexed left) ≡ appendAll slice len rule o (handed indexed index)
-  unfolding outcomeOf outcomeWith handed
-  without-index t e = rw t e
 
 -- ---- what the code answers
 

@@ -3,17 +3,15 @@
 use mathlib.Core.Path.{_≡_}
 use Prim.Native.Nat.{ℕ, _-_}
 use mathlib.Core.List.{List, []}
-use mathlib.Core.Bool.{Bool, true, false}
-use mathlib.Core.Option.{Option, none, some}
+use mathlib.Core.Option.{Option}
 use lib.ListN.{take, drop}
 use Rattle.journal_spec.specs.Record.{recordBytes}
 use Rattle.journal_spec.specs.Profile.{Rule}
 use Rattle.journal_spec.specs.Scan.{ScanResult, whole, torn, damaged, scanOf}
-use Rattle.journal_spec.specs.Request.{all, Request, Offer, AppendResult, extended, declined, Outcome}
+use Rattle.journal_spec.specs.Request.{all, Request, requestOf, Offer, AppendResult, extended, declined, Outcome}
 use Rattle.journal_spec.specs.Request as Request
 use Rattle.journal_spec.specs.Append.{offered, written, appendOf}
-use Rattle.journal.specs.Answers.{appendMeaning, lengthAfter}
-use Rattle.journal.specs.declared.Appended.{Appended}
+use Rattle.journal.specs.Answers.{outcomeWith}
 use Rattle.append.specs.declared.extend.Extension.{Extension}
 
 -- the committed length that a scan answers; 0 where the journal is damaged
@@ -43,29 +41,12 @@ partIn o (declined n) = []
 partIn o (Request.declinedAt n p) = []
 partIn o (Request.damaged n p) = []
 
--- an index's buffer, where one is kept
-unfoldable pub handed : Bool → List ℕ → Option (List ℕ)
-handed true b = some b
-handed false b = none
-
 -- the request of all of an offered record by a rule, with an index or none, and what an append of it comes to
 abbrev pub allOf : Rule → Offer → Option (List ℕ) → Request
-allOf rule o index = record {
-  day = o .day;
-  name = o .name;
-  chances = o .chances;
-  source = Request.times (o .times);
-  budget = all;
-  rule = rule;
-  index = index;
-}
+allOf rule o index = requestOf (o .day) (o .name) (o .chances) (Request.times (o .times)) all rule index
 
 abbrev pub appendAll : List ℕ → ℕ → Rule → Offer → Option (List ℕ) → Outcome
 appendAll slice len rule o index = appendOf (record { slice = slice; len = len }) (allOf rule o index)
-
--- from the length before it, its answer, the slice and the index after it
-unfoldable pub outcomeWith : ℕ → Appended → List ℕ → Option (List ℕ) → Outcome
-outcomeWith len r slice index = record { answer = appendMeaning r; journal = record { slice = slice; len = lengthAfter len r }; index = index }
 
 -- The answer, the slice and the index after it are append's; start and end are those of the written part; the part of the slice after from
 -- start to end is the record's bytes, or none; and the slice after is the slice before with these bytes there and no other byte changed.

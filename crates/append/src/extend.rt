@@ -6,12 +6,14 @@ ghost use Prim.Native.Nat.{_≤_};
 ghost use lib.ListN.{length};
 ghost use Rattle.journal_spec.specs.Scan.{maxLength};
 ghost use Rattle.journal.specs.Handed.{asRule, offerFrom};
-ghost use Rattle.append.specs.Extension.{handed, appendAll, outcomeWith, Extends};
+ghost use Rattle.journal.specs.Answers.{outcomeWith};
+ghost use Rattle.journal_index.specs.Outcome.{handed};
+ghost use Rattle.append.specs.Extension.{appendAll, Extends};
 use journal::Appended;
+use journal::Asked;
 use journal::Budget;
 use journal::Rule;
-use journal::append_with;
-use journal_index::append_indexed;
+use journal_index::append_beside;
 
 // Where the written part starts and ends, both 0 where nothing is written, and the answer.
 pub struct Extension {
@@ -86,9 +88,10 @@ fn append(
         (handed indexed (now (index .entry))) ⌝ }
     ensures { λ r. ⌜ (indexed ≡ false → now (index .exit) ≡ now (index .entry)) ⌝ }
 {
-    let all = Budget::All;
-    if indexed {
-        return append_indexed(v, len, day, name, chances, times, all, rule, index);
-    }
-    append_with(v, len, day, name, chances, times, all, rule)
+    let all = Asked {
+        day,
+        budget: Budget::All,
+        rule,
+    };
+    append_beside(v, len, name, chances, times, index, indexed, all)
 }

@@ -1,15 +1,13 @@
 -- Append's answer as the C interface gives it, three words; what its options mean; and what a call with them leaves.
 -- The first word says which case it is, the others hold its values, 0 where there is none.
-use mathlib.Core.Path.{_≡_}
 use Prim.Native.Nat.{ℕ, _/_, _%_}
 use mathlib.Core.List.{List, [], _∷_}
 use mathlib.Core.Bool.{cond}
 use mathlib.Core.Option.{Option, none, some}
 use lib.Dec.{eqb}
 use Rattle.journal_spec.specs.Profile.{Rule, plain, profile}
-use Rattle.journal_spec.specs.Request.{upTo, Source, Request, AppendResult, extended, declined, declinedAt, damaged, Outcome}
-use Rattle.journal.specs.declared.Appended.{Appended}
-use Rattle.journal.specs.Answers.{appendMeaning}
+use Rattle.journal_spec.specs.Request.{AppendResult, extended, declined, declinedAt, damaged}
+use Rattle.journal_index.specs.Outcome.{handed}
 
 -- 0 and the journal's length after the call; 1 and the number by which it is declined; 2, the fault's number and place; or 3, the number by
 -- which a line of the log is refused and its place in the log
@@ -24,28 +22,10 @@ unfoldable pub ruleOf : ℕ → Rule
 ruleOf options = cond (eqb (options / 2 % 2) 1) profile plain
 
 -- and the 1 says that an index is handed
-unfoldable pub handedBy : ℕ → List ℕ → Option (List ℕ)
-handedBy options b = cond (eqb (options % 2) 1) (some b) none
-
--- what a call asks for, from its arguments
-abbrev pub requestBy : ℕ → List ℕ → List ℕ → Source → ℕ → List ℕ → ℕ → Request
-requestBy day name chances source budget index options = record {
-  day = day;
-  name = name;
-  chances = chances;
-  source = source;
-  budget = upTo budget;
-  rule = ruleOf options;
-  index = handedBy options index;
-}
+abbrev pub handedBy : ℕ → List ℕ → Option (List ℕ)
+handedBy options b = handed (eqb (options % 2) 1) b
 
 -- the index's buffer after a call: as it was where none is handed
 unfoldable pub leftIn : List ℕ → Option (List ℕ) → List ℕ
 leftIn b none = b
 leftIn b (some left) = left
-
--- for private contracts: a call came to an outcome, with this answer, and left the slice and the index's buffer so
-pub record Leaves (o : Outcome) (r : Appended) (slice before after : List ℕ) : Type 0 where
-  pub answer : appendMeaning r ≡ o .answer
-  pub journal : slice ≡ o .journal .slice
-  pub index : after ≡ leftIn before (o .index)

@@ -1,8 +1,6 @@
 // What C and Rust programs call. Doubles go as bit patterns, and a NaN leaves as 7ff8000000000000;
 // a slice is a pointer and a length, and an answer of several words goes into an array that the caller lends.
 pub mod append;
-pub mod append_log;
-pub mod append_with;
 pub mod bands;
 pub mod index;
 pub mod journals;

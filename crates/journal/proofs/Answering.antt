@@ -27,7 +27,7 @@ use Rattle.journal.specs.declared.contents.Contents.the-variants as C
 use Rattle.journal.specs.declared.Appended.the-variants as A
 use Rattle.journal.specs.Records.{asLast}
 use Rattle.journal.specs.Contents.{headOf, shownOf, noneShown, shownAt, contentsRead, recordsRead, statusRead}
-use Rattle.journal.specs.Answers.{appendMeaning, lengthAfter, outcomeOf}
+use Rattle.journal.specs.Answers.{appendMeaning, lengthAfter, outcomeWith, outcomeOf}
 
 -- ---- the length
 
@@ -156,5 +156,5 @@ module _ (rule : Rule) (v : List ℕ) (len i : ℕ) (x : Contents) (read : x ≡
 
     pub append-damaged : (q : Request) (ts : List ℕ) → q .rule ≡ rule → q .index ≡ none → timesOf q ≡ gathered ts
         → outcomeOf len (A.Damaged f) v ≡ appendOf (record { slice = v; len = len }) q
-    unfolding appendTo outcomeOf appendMeaning lengthAfter unchanged
+    unfolding appendTo outcomeWith appendMeaning lengthAfter unchanged
     append-damaged q ts by without e = rw (← append-read (record { slice = v; len = len }) q ts e, by, faulted, without)

@@ -24,14 +24,14 @@ use Rattle.journal_spec.proofs.Writing.{written-lent}
 use Rattle.journal.specs.declared.Appended.the-variants as A
 use Rattle.journal.specs.Stepped.{Filled}
 use Rattle.journal.specs.Handed.{offerFrom, recordFrom, offerRefusals}
-use Rattle.journal.specs.Answers.{appendMeaning, lengthAfter, outcomeOf}
+use Rattle.journal.specs.Answers.{appendMeaning, lengthAfter, outcomeWith, outcomeOf}
 use Rattle.journal.proofs.Checking.{first-alone, first-front, first-back}
 
 -- ---- declined
 
 settled-refused : (n r : ℕ) (j : Journal) (committed : ℕ) (new : List ℕ) → 0 < r → r ≡ n
     → outcomeOf (j .len) (A.Declined r) (j .slice) ≡ settle n j none committed new none
-unfolding outcomeOf appendMeaning lengthAfter settle unchanged
+unfolding outcomeWith appendMeaning lengthAfter settle unchanged
 settled-refused n zero j committed new h e = absurd (omega arith)
 settled-refused n (suc r) j committed new h e = rw (← e) refl
 
@@ -60,7 +60,7 @@ take-least k new =
 settled-none : (n : ℕ) (j : Journal) (after : List ℕ) (committed end : ℕ) (new : List ℕ) → n ≡ 0
     → after ≡ written (j .slice) committed new → end ≡ committed + length new
     → outcomeOf (j .len) (A.Extended end) after ≡ settle n j none committed new none
-unfolding outcomeOf appendMeaning lengthAfter settle extend
+unfolding outcomeWith appendMeaning lengthAfter settle extend
 settled-none n j after committed end new z a e = rw (z, a, e) refl
 
 -- the writer was lent the slice from the committed length on

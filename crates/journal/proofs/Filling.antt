@@ -1,7 +1,7 @@
--- A run of steps: none, one more, one run after another; and a record's sections, one run each, as far as the budget's end.
+-- A run of steps: none, one more, one run after another.
 -- Assumes nothing.
 use mathlib.Core.Path.{_≡_, refl, sym, ap, ap₂, _∙_}
-use Prim.Native.Nat.{ℕ, _+_, _-_, _≤_, _<_, min}
+use Prim.Native.Nat.{ℕ, _+_, _-_, _≤_, _<_}
 use mathlib.Core.List.{List, [], _∷_, _++_}
 use native.Mathlib.Omega.{arith}
 use native.Mathlib.Numerals.{add-one}
@@ -72,37 +72,3 @@ pub filled-more : (new d : List ℕ) (p q : ℕ) (d₁ : List ℕ) (r : ℕ) (d�
 filled-more new d p q d₁ r d₂ f h k s =
     filled-two new d p q r d₁ d₂ f
     (rw (s .place, s .bytes) (filled-one new d₁ q (omega (arith, filled-length new d p q d₁ f)) k (rw (s .place, s .bytes) at (s .front))))
-
--- ---- section after section
-
--- the record is written as far as the place `start` of the next section, or as the budget's end
-pub record Reached (new d : List ℕ) (end start p : ℕ) (d′ : List ℕ) : Type 0 where
-  pub filled : Filled new d 0 p d′
-  pub place : p ≡ min end start
-  pub room : end ≤ length d
-  pub known : end ≤ length new
-
-pub reached-none : (new d : List ℕ) (end : ℕ) → end ≤ length d → end ≤ length new → Reached new d end 0 0 d
-reached-none new d end h k = record {
-  filled = filled-none new d 0 (omega arith) (omega arith) refl;
-  place = omega arith;
-  room = h;
-  known = k;
-}
-
-module _ {new d : List ℕ} {end start p : ℕ} {d₁ : List ℕ} (c : Reached new d end start p d₁) where
-  -- what the next section's writer asks
-  pub reached-asks : (end ≤ length d₁) × (end ≤ length new) × (p ≡ min end start) × Front new p d₁
-  reached-asks = (omega (arith, c .room, filled-length _ _ _ _ _ (c .filled)), c .known, c .place, c .filled .front)
-
-  pub reached-next : {next stop r : ℕ} {d₂ : List ℕ} → stop ≡ next → Filled new d₁ p r d₂ × (r ≡ min end stop) → Reached new d end next r d₂
-  reached-next e w = record {
-    filled = filled-two _ _ _ _ _ _ _ (c .filled) (w .0);
-    place = rw e at (w .1);
-    room = c .room;
-    known = c .known;
-  }
-
--- the last section ends with the record
-pub reached-all : {new d : List ℕ} {end r : ℕ} {d′ : List ℕ} → Reached new d end (length new) r d′ → Filled new d 0 r d′ × (r ≡ end)
-reached-all c = (c .filled, omega (arith, c .place, c .known))

@@ -22,7 +22,7 @@ pub mod InProfile
 pub mod Inside
 pub mod Answering
 -- writing
-pub mod RecordByte
+pub mod Laying
 pub mod Filling
 pub mod Turns
 -- the check of an offer

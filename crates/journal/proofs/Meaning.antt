@@ -18,7 +18,7 @@ use Rattle.journal.specs.declared.marks.Mark.{Mark}
 use Rattle.journal.specs.declared.marks.Mark.the-variants as K
 use Rattle.journal.specs.declared.Appended.{Appended}
 use Rattle.journal.specs.declared.Appended.the-variants as A
-use Rattle.journal.specs.Answers.{meaning, partMeaning, asMark, markMeaning, appendMeaning, outcomeOf}
+use Rattle.journal.specs.Answers.{meaning, partMeaning, asMark, markMeaning, appendMeaning, outcomeWith, outcomeOf}
 
 ofScan : ScanResult → Status
 ofScan (whole n c) = S.Whole n c
@@ -85,6 +85,6 @@ append-meaning-injective = injective-by appendMeaning ofAppend back
     back (A.Damaged f) = refl
 
 pub outcome-injective : (len : ℕ) (a b : Appended) (v w : List ℕ) → outcomeOf len a v ≡ outcomeOf len b w → (a ≡ b) × (v ≡ w)
-unfolding outcomeOf
+unfolding outcomeWith
 outcome-injective len a b v w e =
     (append-meaning-injective a b (ap (λ (o : Outcome). o .answer) e), ap (λ (o : Outcome). o .journal .slice) e)

@@ -2,7 +2,7 @@
 -- The contracts of the public functions cite these.
 use Prim.Native.Nat.{ℕ}
 use mathlib.Core.List.{List}
-use mathlib.Core.Option.{none}
+use mathlib.Core.Option.{Option, none}
 use Rattle.journal_spec.specs.Scan.{ScanResult, whole, torn, damaged}
 use Rattle.journal_spec.specs.Read.{flat, few, normal, MarkResult, marked, unmarked}
 use Rattle.journal_spec.specs.Read as Read
@@ -53,6 +53,10 @@ lengthAfter len (A.Declined n) = len
 lengthAfter len (A.DeclinedAt f) = len
 lengthAfter len (A.Damaged f) = len
 
--- all that an append without an index comes to, from the length before it, its answer and the slice's bytes after it
-unfoldable pub outcomeOf : ℕ → Appended → List ℕ → Outcome
-outcomeOf len r slice = record { answer = appendMeaning r; journal = record { slice = slice; len = lengthAfter len r }; index = none }
+-- all that an append comes to, from the length before it, its answer, the slice's bytes after it, and the index's buffer where one is handed
+unfoldable pub outcomeWith : ℕ → Appended → List ℕ → Option (List ℕ) → Outcome
+outcomeWith len r slice index = record { answer = appendMeaning r; journal = record { slice = slice; len = lengthAfter len r }; index = index }
+
+-- without an index
+abbrev pub outcomeOf : ℕ → Appended → List ℕ → Outcome
+outcomeOf len r slice = outcomeWith len r slice none

@@ -4,7 +4,7 @@ use mathlib.Core.Path.{_≡_}
 use Prim.Native.Nat.{ℕ}
 use mathlib.Core.List.{List, [], _∷_, map}
 use mathlib.Core.Bool.{Bool, true, _&&_}
-use mathlib.Core.Option.{none}
+use mathlib.Core.Option.{Option}
 use lib.ListN.{length, take}
 use lib.Dec.{leb}
 use Rattle.limit.specs.declared.sums.Sums.{Sums}
@@ -17,9 +17,10 @@ use Rattle.journal_spec.specs.Section.{sectionRefusal}
 use Rattle.journal_spec.specs.Tests.{same}
 use Rattle.journal_spec.specs.Profile.{profileChances, profileTimes, keeps}
 use Rattle.journal_spec.specs.Profile as Profile
-use Rattle.journal_spec.specs.Request.{Request, Offer}
+use Rattle.journal_spec.specs.Request.{Request, Source, Offer, requestOf}
 use Rattle.journal_spec.specs.Request as Request
 use Rattle.journal_spec.specs.Append.{limitBits, limitsOf, offered, judgeEven}
+use Rattle.journal.specs.declared.extend.Asked.{Asked}
 use Rattle.journal.specs.declared.extend.Budget.{Budget}
 use Rattle.journal.specs.declared.extend.Budget.the-variants as B
 use Rattle.journal.specs.declared.profile.Rule.{Rule}
@@ -44,17 +45,9 @@ unfoldable pub keptBy : Profile.Rule → Bool → Bool
 keptBy Profile.plain inProfile = true
 keptBy Profile.profile inProfile = inProfile
 
--- a request of times, from a call's arguments
-unfoldable pub requestFrom : ℕ → List ℕ → List ℕ → List ℕ → Request.Budget → Profile.Rule → Request
-requestFrom day name chances times budget rule = record {
-  day = day;
-  name = name;
-  chances = chances;
-  source = Request.times times;
-  budget = budget;
-  rule = rule;
-  index = none;
-}
+-- the request of what a call asks, with name, chances, source and index
+abbrev pub requestBy : Asked → List ℕ → List ℕ → Source → Option (List ℕ) → Request
+requestBy a name chances source index = requestOf (a .day) name chances source (asBudget (a .budget)) (asRule (a .rule)) index
 
 -- the record of the arguments with these limits, of form 2
 unfoldable pub recordFrom : ℕ → List ℕ → List ℕ → List ℕ → List ℕ → Record

@@ -14,5 +14,3 @@ pub mod Found
 pub mod Remembered
 pub mod Records
 pub mod Contents
--- where each number of a record is written
-pub mod Layout

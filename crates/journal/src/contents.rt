@@ -8,9 +8,9 @@ ghost use Rattle.journal.specs.Contents.{contentsRead, recordsRead, show
 use crate::Fault;
 use crate::profile::Rule;
 use crate::quantiles::NO_CHANCE;
-use crate::quantiles::PLACES;
 use crate::record::Entry;
 use crate::record::Head;
+use crate::record::MAX_CHANCES;
 use crate::record::RecordRead;
 use crate::record::record_by;
 
@@ -62,8 +62,8 @@ fn records_of(b: &[u8], i: usize, rule: Rule) -> Contents
     ensures { λ r. ⌜ r ≡ recordsRead i (asRule rule) (now (b .entry)) ⌝ }
 {
     let none = limit::quantile_of(NO_CHANCE);
-    let mut kept: [u32; PLACES] = [NO_CHANCE; PLACES];
-    let mut quantiles: [f64; PLACES] = [none; PLACES];
+    let mut kept: [u32; MAX_CHANCES] = [NO_CHANCE; MAX_CHANCES];
+    let mut quantiles: [f64; MAX_CHANCES] = [none; MAX_CHANCES];
     let mut records: usize = 0;
     let mut at: usize = 0;
     let mut last = Head { form: 0, day: 0 };

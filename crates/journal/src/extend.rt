@@ -3,32 +3,31 @@
 ghost use mathlib.Core.Path.{_≡_};
 ghost use mathlib.Core.Option.{none};
 ghost use mathlib.Core.List.{List};
-ghost use Prim.Native.Nat.{ℕ, _+_, _*_, _≤_, min};
+ghost use Prim.Native.Nat.{ℕ, _+_, min};
 ghost use lib.Dec.{leb};
 ghost use lib.ListN.{length, take};
-ghost use Rattle.limit.specs.Times.{maxCount};
-ghost use Rattle.journal_spec.specs.Record.{lastOf, maxName, maxChances};
+ghost use Rattle.journal_spec.specs.Record.{lastOf};
 ghost use Rattle.journal_spec.specs.Scan.{maxLength, Placed, recordsOf, standing};
 ghost use Rattle.journal_spec.specs.Request.{allowed};
 ghost use Rattle.journal_spec.specs.Request as Request;
 ghost use Rattle.journal_spec.specs.Append.{judgeRoom, settle, appendTo, appendOf};
 ghost use Rattle.journal.specs.Records.{asLast};
-ghost use Rattle.journal.specs.Handed.{requestFrom, asBudget, asRule, bytesFrom};
+ghost use Rattle.journal.specs.Handed.{requestBy, asBudget};
 ghost use Rattle.journal.specs.Answers.{outcomeOf};
 use crate::Appended;
 use crate::contents::Contents;
 use crate::contents::MAX_LENGTH;
 use crate::contents::contents_of;
+use crate::layout::MAX_RECORD;
+use crate::layout::lay_record;
 use crate::offer::offer_refusal;
 use crate::profile::Rule;
 use crate::record::Head;
+use crate::record::MAX_CHANCES;
 use crate::write::put_record;
 
 // Document 01's number for a record that ends beyond the slice or the longest journal.
-const ROOM_REFUSAL: u32 = 9;
-
-// The most chances of a record, which has as many limits.
-const MAX_CHANCES: usize = 8;
+pub const ROOM_REFUSAL: u32 = 9;
 
 // The bytes that every record has, whatever its sections hold: form, day and the four sections' counts, two bytes each.
 pub const FIXED_SIZE: usize = 12;
@@ -39,29 +38,26 @@ pub enum Budget {
     UpTo(usize),
 }
 
-// Every append of times, by a budget and a rule: the journal's faults, then the offer after what stands.
+// What a call asks besides what it is lent: the record's day, how much of the record may be written, and the rule.
+pub struct Asked {
+    pub day: u16,
+    pub budget: Budget,
+    pub rule: Rule,
+}
+
+// Every append of times: the journal's faults, then the offer after what stands.
 pub fn append_with(
     v: &mut [u8],
     len: usize,
-    day: u16,
     name: &[u8],
     chances: &[u32],
     times: &[u32],
-    budget: Budget,
-    rule: Rule,
+    asked: Asked,
 ) -> Appended
-    ensures { λ r. ⌜ outcomeOf len r (now (v .exit))
-        ≡ appendOf (record { slice = now (v .entry); len = len })
-        (record {
-          day = day;
-          name = now (name .entry);
-          chances = now (chances .entry);
-          source = Request.times (now (times .entry));
-          budget = asBudget budget;
-          rule = asRule rule;
-          index = none;
-        }) ⌝ }
+    ensures { λ r. ⌜ outcomeOf len r (now (v .exit)) ≡ appendOf (record { slice = now (v .entry); len = len })
+        (requestBy asked (now (name .entry)) (now (chances .entry)) (Request.times (now (times .entry))) none) ⌝ }
 {
+    let rule = asked.rule;
     let x = contents_of(v, len, 0, rule);
     match x {
         Contents::Stands {
@@ -69,7 +65,7 @@ pub fn append_with(
             committed,
             last,
             shown: _,
-        } => extend_by(v, committed, last, day, name, chances, times, budget, rule),
+        } => extend_by(v, committed, last, name, chances, times, asked),
         Contents::Damaged(f) => Appended::Damaged(f),
     }
 }
@@ -79,64 +75,43 @@ pub fn extend_by(
     v: &mut [u8],
     committed: usize,
     last: Head,
-    day: u16,
     name: &[u8],
     chances: &[u32],
     times: &[u32],
-    budget: Budget,
-    rule: Rule,
+    asked: Asked,
 ) -> Appended
     ensures { λ r. ⌜ ((len : ℕ) (ps : List Placed) → asLast last ≡ lastOf (recordsOf ps)
         → outcomeOf len r (now (v .exit)) ≡ appendTo (standing ps committed) (record { slice = now (v .entry); len = len })
-        (requestFrom day (now (name .entry)) (now (chances .entry)) (now (times .entry)) (asBudget budget) (asRule rule))) ⌝ }
+        (requestBy asked (now (name .entry)) (now (chances .entry)) (Request.times (now (times .entry))) none)) ⌝ }
 {
+    let day = asked.day;
+    let budget = asked.budget;
+    let rule = asked.rule;
     let mut bits: [u64; MAX_CHANCES] = [0; MAX_CHANCES];
     let refusal = offer_refusal(last, day, name, chances, times, rule, &mut bits);
     if 0 < refusal {
         return Appended::Declined(refusal);
     }
     let n = chances.len();
-    extend_within(v, committed, day, name, chances, times, &bits[..n], budget)
+    let mut bytes: [u8; MAX_RECORD] = [0; MAX_RECORD];
+    let size = lay_record(&mut bytes, day, name, chances, times, &bits[..n]);
+    extend_within(v, committed, &bytes[..size], budget)
 }
 
-// The record of an offer that nothing else refuses: no room, or its first bytes are written, as many as the budget lets through.
-fn extend_within(
-    v: &mut [u8],
-    committed: usize,
-    day: u16,
-    name: &[u8],
-    chances: &[u32],
-    times: &[u32],
-    limits: &[u64],
-    budget: Budget,
-) -> Appended
-    requires { ⌜ (length (now name) ≤ maxName) × (length (now chances) ≤ maxChances) × (length (now times) ≤ maxCount)
-        × (length (now limits) ≤ maxChances) ⌝ }
+// A record that nothing else refuses: no room, or its first bytes are written, as many as the budget lets through.
+fn extend_within(v: &mut [u8], committed: usize, bytes: &[u8], budget: Budget) -> Appended
     ensures { λ r. ⌜ ((len : ℕ) → outcomeOf len r (now (v .exit))
-        ≡ settle (judgeRoom (length (now (v .entry))) committed
-        (length (bytesFrom day (now (name .entry)) (now (chances .entry)) (now (times .entry)) (now (limits .entry)))))
-        (record { slice = now (v .entry); len = len }) none committed
-        (take (allowed (asBudget budget)
-        (length (bytesFrom day (now (name .entry)) (now (chances .entry)) (now (times .entry)) (now (limits .entry)))))
-        (bytesFrom day (now (name .entry)) (now (chances .entry)) (now (times .entry)) (now (limits .entry)))) none) ⌝ }
+        ≡ settle (judgeRoom (length (now (v .entry))) committed (length (now (bytes .entry)))) (record { slice = now (v .entry); len = len }) none
+        committed (take (allowed (asBudget budget) (length (now (bytes .entry)))) (now (bytes .entry))) none) ⌝ }
 {
-    let size = size_of(name, chances, times, limits);
+    let size = bytes.len();
     if !has_room(v.len(), committed, size) {
         return Appended::Declined(ROOM_REFUSAL);
     }
     let end = end_of(budget, size);
-    let n = put_record(&mut v[committed..], end, day, name, chances, times, limits);
+    let n = put_record(&mut v[committed..], end, bytes);
     let after = committed + n;
     Appended::Extended(after)
-}
-
-// The bytes of a record that holds these, on any day.
-fn size_of(name: &[u8], chances: &[u32], times: &[u32], limits: &[u64]) -> usize
-    requires { ⌜ (length (now name) ≤ maxName) × (length (now chances) ≤ maxChances) × (length (now times) ≤ maxCount)
-        × (length (now limits) ≤ maxChances) ⌝ }
-    ensures { λ r. ⌜ ((day : ℕ) → r ≡ length (bytesFrom day (now (name .entry)) (now (chances .entry)) (now (times .entry)) (now (limits .entry)))) ⌝ }
-{
-    FIXED_SIZE + name.len() + 4 * chances.len() + 4 * times.len() + 8 * limits.len()
 }
 
 // Whether so many bytes after the committed length end inside the slice and the longest journal.

@@ -6,16 +6,16 @@ ghost use mathlib.Core.Option.{none};
 ghost use Rattle.journal_spec.specs.Profile.{plain};
 ghost use Rattle.journal_spec.specs.Scan.{scanOf};
 ghost use Rattle.journal_spec.specs.Read.{partPlace, readPart, readMark};
-ghost use Rattle.journal_spec.specs.Request.{all, upTo};
+ghost use Rattle.journal_spec.specs.Request.{all, upTo, requestOf};
 ghost use Rattle.journal_spec.specs.Request as Request;
 ghost use Rattle.journal_spec.specs.Append.{appendOf};
 ghost use Rattle.journal.specs.Answers.{meaning, partMeaning, markMeaning, outcomeOf};
 use crate::marks::Mark;
 
-mod byte;
 mod contents;
 mod extend;
 mod field;
+mod layout;
 mod limits;
 mod log;
 pub mod marks;
@@ -28,20 +28,30 @@ mod section;
 mod write;
 
 pub use contents::Contents;
+pub use contents::MAX_LENGTH;
 pub use contents::Shown;
 pub use contents::contents_of;
+pub use extend::Asked;
 pub use extend::Budget;
 pub use extend::FIXED_SIZE;
+pub use extend::ROOM_REFUSAL;
 pub use extend::append_with;
 pub use extend::extend_by;
+pub use layout::MAX_RECORD;
+pub use log::append_log;
+pub use log::append_log_upto;
 pub use log::append_log_with;
 pub use profile::Rule;
+pub use reading::ABSENT_REFUSAL;
 pub use reading::mark_by;
 pub use reading::part_place_by;
 pub use reading::read_by;
 pub use reading::scan_by;
 pub use reading::status_of;
 pub use record::Head;
+pub use record::MAX_CHANCES;
+pub use record::MAX_DAY;
+pub use record::OLD_FORM_REFUSAL;
 
 // A refusal's number, and the place of what is refused: a field's first byte in the journal, or a line's in the log.
 pub struct Fault {
@@ -118,17 +128,14 @@ pub fn append(
 ) -> Appended
     ensures { λ r. ⌜ outcomeOf len r (now (v .exit))
         ≡ appendOf (record { slice = now (v .entry); len = len })
-        (record {
-          day = day;
-          name = now (name .entry);
-          chances = now (chances .entry);
-          source = Request.times (now (times .entry));
-          budget = all;
-          rule = plain;
-          index = none;
-        }) ⌝ }
+        (requestOf day (now (name .entry)) (now (chances .entry)) (Request.times (now (times .entry))) all plain none) ⌝ }
 {
-    append_with(v, len, day, name, chances, times, Budget::All, Rule::Plain)
+    let all = Asked {
+        day,
+        budget: Budget::All,
+        rule: Rule::Plain,
+    };
+    append_with(v, len, name, chances, times, all)
 }
 
 // Document 01's call with k: after append's checks it stops when `budget` bytes of the record are written. A budget beyond the record is
@@ -144,67 +151,12 @@ pub fn append_upto(
 ) -> Appended
     ensures { λ r. ⌜ outcomeOf len r (now (v .exit))
         ≡ appendOf (record { slice = now (v .entry); len = len })
-        (record {
-          day = day;
-          name = now (name .entry);
-          chances = now (chances .entry);
-          source = Request.times (now (times .entry));
-          budget = upTo budget;
-          rule = plain;
-          index = none;
-        }) ⌝ }
+        (requestOf day (now (name .entry)) (now (chances .entry)) (Request.times (now (times .entry))) (upTo budget) plain none) ⌝ }
 {
-    let cut = Budget::UpTo(budget);
-    append_with(v, len, day, name, chances, times, cut, Rule::Plain)
-}
-
-// Request 2026-01: append with the times of the name in a build server's log, in file order. A line of the log that is refused is judged
-// before the journal; else it ends as `append` of those times does.
-pub fn append_log(
-    v: &mut [u8],
-    len: usize,
-    day: u16,
-    name: &[u8],
-    chances: &[u32],
-    log: &[u8],
-) -> Appended
-    ensures { λ r. ⌜ outcomeOf len r (now (v .exit))
-        ≡ appendOf (record { slice = now (v .entry); len = len })
-        (record {
-          day = day;
-          name = now (name .entry);
-          chances = now (chances .entry);
-          source = Request.log (now (log .entry));
-          budget = all;
-          rule = plain;
-          index = none;
-        }) ⌝ }
-{
-    append_log_with(v, len, day, name, chances, log, Budget::All, Rule::Plain)
-}
-
-// The same with document 01's k.
-pub fn append_log_upto(
-    v: &mut [u8],
-    len: usize,
-    day: u16,
-    name: &[u8],
-    chances: &[u32],
-    log: &[u8],
-    budget: usize,
-) -> Appended
-    ensures { λ r. ⌜ outcomeOf len r (now (v .exit))
-        ≡ appendOf (record { slice = now (v .entry); len = len })
-        (record {
-          day = day;
-          name = now (name .entry);
-          chances = now (chances .entry);
-          source = Request.log (now (log .entry));
-          budget = upTo budget;
-          rule = plain;
-          index = none;
-        }) ⌝ }
-{
-    let cut = Budget::UpTo(budget);
-    append_log_with(v, len, day, name, chances, log, cut, Rule::Plain)
+    let cut = Asked {
+        day,
+        budget: Budget::UpTo(budget),
+        rule: Rule::Plain,
+    };
+    append_with(v, len, name, chances, times, cut)
 }

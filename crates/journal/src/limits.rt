@@ -9,8 +9,8 @@ ghost use Rattle.journal.specs.Found.{fieldBy, limitRefusalAt, limitsAt,
 use crate::Fault;
 use crate::field::FieldRead;
 use crate::field::field_at;
-use crate::quantiles::PLACES;
 use crate::quantiles::quantile_at;
+use crate::record::MAX_CHANCES;
 use journal_parts::number_at;
 use limit::Answer;
 use limit::Worked;
@@ -32,8 +32,8 @@ pub(crate) fn limit_section_at(
     n: u64,
     chances: usize,
     worked: Worked,
-    kept: &mut [u32; PLACES],
-    quantiles: &mut [f64; PLACES],
+    kept: &mut [u32; MAX_CHANCES],
+    quantiles: &mut [f64; MAX_CHANCES],
 ) -> LimitsRead
     requires { ⌜ (at ≤ length (now b)) × (chances + n * 4 ≤ length (now b)) × Remembered (now kept) (now quantiles) ⌝ }
     ensures { λ r. ⌜ r ≡ limitSectionAt n chances (momentsMeaning worked) at (now (b .entry)) ⌝ }
@@ -54,8 +54,8 @@ fn limits_at(
     n: u64,
     chances: usize,
     worked: Worked,
-    kept: &mut [u32; PLACES],
-    quantiles: &mut [f64; PLACES],
+    kept: &mut [u32; MAX_CHANCES],
+    quantiles: &mut [f64; MAX_CHANCES],
 ) -> LimitsRead
     requires { ⌜ (at ≤ length (now b)) × (chances + n * 4 ≤ length (now b)) × Remembered (now kept) (now quantiles) ⌝ }
     ensures { λ r. ⌜ r ≡ limitsAt n chances (momentsMeaning worked) at (now (b .entry)) ⌝ }
@@ -87,8 +87,8 @@ fn limit_at(
     chance: usize,
     worked: Worked,
     left: u64,
-    kept: &mut [u32; PLACES],
-    quantiles: &mut [f64; PLACES],
+    kept: &mut [u32; MAX_CHANCES],
+    quantiles: &mut [f64; MAX_CHANCES],
 ) -> FieldRead
     requires { ⌜ (at ≤ length (now b)) × (chance + 4 ≤ length (now b)) × Remembered (now kept) (now quantiles) ⌝ }
     ensures { λ r. ⌜ r ≡ fieldBy 8 (limitRefusalAt (now (b .entry)) (momentsMeaning worked) chance) at (now (b .entry)) ⌝ }

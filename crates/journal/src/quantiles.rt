@@ -3,9 +3,7 @@
 ghost use mathlib.Core.Path.{_≡_};
 ghost use Rattle.limit.specs.Formula.{quantileOf};
 ghost use Rattle.journal.specs.Remembered.{Remembered};
-
-// How many places there are.
-pub(crate) const PLACES: usize = 8;
+use crate::record::MAX_CHANCES;
 
 // The chance of each place before the first record, which no record has.
 pub(crate) const NO_CHANCE: u32 = 0;
@@ -15,14 +13,14 @@ pub(crate) const NO_CHANCE: u32 = 0;
 pub(crate) fn quantile_at(
     n: u64,
     chance: u32,
-    kept: &mut [u32; PLACES],
-    quantiles: &mut [f64; PLACES],
+    kept: &mut [u32; MAX_CHANCES],
+    quantiles: &mut [f64; MAX_CHANCES],
 ) -> f64
     requires { ⌜ Remembered (now kept) (now quantiles) ⌝ }
     ensures { λ r. ⌜ r ≡ quantileOf chance ⌝ }
     ensures { λ _. ⌜ Remembered (now (kept .exit)) (now (quantiles .exit)) ⌝ }
 {
-    let place = (n % PLACES as u64) as usize;
+    let place = (n % MAX_CHANCES as u64) as usize;
     if kept[place] == chance {
         return quantiles[place];
     }

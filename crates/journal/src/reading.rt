@@ -15,7 +15,7 @@ use crate::marks::mark_from;
 use crate::profile::Rule;
 
 // Document 01's number for an i that is not below the number of records.
-const ABSENT_REFUSAL: u32 = 10;
+pub const ABSENT_REFUSAL: u32 = 10;
 
 // Document 01's survey by a rule.
 pub fn scan_by(v: &[u8], len: usize, rule: Rule) -> Status

@@ -21,7 +21,6 @@ use crate::profile::PROFILE_REFUSAL;
 use crate::profile::Rule;
 use crate::profile::kept_by;
 use crate::profile::record_in_profile;
-use crate::quantiles::PLACES;
 use crate::section::SectionRead;
 use crate::section::SectionRule;
 use crate::section::section_at;
@@ -38,11 +37,14 @@ use limit::sums::MIN_COUNT;
 use limit::sums::MIN_TICKS;
 use limit::sums::Sums;
 
+// The most chances of a record, which has as many limits.
+pub const MAX_CHANCES: usize = 8;
+
 // The greatest day.
-const MAX_DAY: u64 = 65_535;
+pub const MAX_DAY: u64 = 65_535;
 
 // The papers' numbers for form 1 after a record of form 2, and for a day below that of the record before.
-const OLD_FORM_REFUSAL: u32 = 13;
+pub const OLD_FORM_REFUSAL: u32 = 13;
 
 pub(crate) const DAY_REFUSAL: u32 = 3;
 
@@ -106,8 +108,8 @@ pub(crate) fn record_by(
     at: usize,
     last: Head,
     rule: Rule,
-    kept: &mut [u32; PLACES],
-    quantiles: &mut [f64; PLACES],
+    kept: &mut [u32; MAX_CHANCES],
+    quantiles: &mut [f64; MAX_CHANCES],
 ) -> RecordRead
     requires { ⌜ (at ≤ length (now b)) × Remembered (now kept) (now quantiles) ⌝ }
     ensures { λ r. ⌜ r ≡ recordBy rule last at (now (b .entry)) ⌝ }
@@ -135,8 +137,8 @@ fn record_at(
     b: &[u8],
     at: usize,
     last: Head,
-    kept: &mut [u32; PLACES],
-    quantiles: &mut [f64; PLACES],
+    kept: &mut [u32; MAX_CHANCES],
+    quantiles: &mut [f64; MAX_CHANCES],
 ) -> RecordRead
     requires { ⌜ (at ≤ length (now b)) × Remembered (now kept) (now quantiles) ⌝ }
     ensures { λ r. ⌜ r ≡ recordAt last at (now (b .entry)) ⌝ }
@@ -164,8 +166,8 @@ fn day_part(
     at: usize,
     last: Head,
     form: u64,
-    kept: &mut [u32; PLACES],
-    quantiles: &mut [f64; PLACES],
+    kept: &mut [u32; MAX_CHANCES],
+    quantiles: &mut [f64; MAX_CHANCES],
 ) -> RecordRead
     requires { ⌜ (at ≤ length (now b)) × Remembered (now kept) (now quantiles) ⌝ }
     ensures { λ r. ⌜ r ≡ recordRead (run (dayStage (asLast last) form) at (drop at (now (b .entry)))) ⌝ }
@@ -184,8 +186,8 @@ fn name_part(
     b: &[u8],
     at: usize,
     head: Head,
-    kept: &mut [u32; PLACES],
-    quantiles: &mut [f64; PLACES],
+    kept: &mut [u32; MAX_CHANCES],
+    quantiles: &mut [f64; MAX_CHANCES],
 ) -> RecordRead
     requires { ⌜ (at ≤ length (now b)) × Remembered (now kept) (now quantiles) ⌝ }
     ensures { λ r. ⌜ r ≡ recordRead (run (nameStage (head .form) (head .day)) at (drop at (now (b .entry)))) ⌝ }
@@ -204,8 +206,8 @@ fn chances_part(
     b: &[u8],
     at: usize,
     head: Head,
-    kept: &mut [u32; PLACES],
-    quantiles: &mut [f64; PLACES],
+    kept: &mut [u32; MAX_CHANCES],
+    quantiles: &mut [f64; MAX_CHANCES],
 ) -> RecordRead
     requires { ⌜ (at ≤ length (now b)) × Remembered (now kept) (now quantiles) ⌝ }
     ensures { λ r. ⌜ ((name : List ℕ) → r ≡ recordRead (run (chanceStage (head .form) (head .day) name) at (drop at (now (b .entry))))) ⌝ }
@@ -234,8 +236,8 @@ fn times_part(
     head: Head,
     chances: usize,
     n: u64,
-    kept: &mut [u32; PLACES],
-    quantiles: &mut [f64; PLACES],
+    kept: &mut [u32; MAX_CHANCES],
+    quantiles: &mut [f64; MAX_CHANCES],
 ) -> RecordRead
     requires { ⌜ (at ≤ length (now b)) × (chances + n * 4 ≤ length (now b)) × Remembered (now kept) (now quantiles) ⌝ }
     ensures { λ r. ⌜ ((name list : List ℕ) → Stands (now (b .entry)) chances n list
@@ -267,8 +269,8 @@ fn limits_part(
     chances: usize,
     n: u64,
     sums: Sums,
-    kept: &mut [u32; PLACES],
-    quantiles: &mut [f64; PLACES],
+    kept: &mut [u32; MAX_CHANCES],
+    quantiles: &mut [f64; MAX_CHANCES],
 ) -> RecordRead
     requires { ⌜ (at ≤ length (now b)) × (chances + n * 4 ≤ length (now b)) × (isPlausible sums ≡ true)
         × Remembered (now kept) (now quantiles) ⌝ }

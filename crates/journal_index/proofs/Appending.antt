@@ -12,14 +12,14 @@ use Rattle.journal_spec.specs.Refusals.{firstOf}
 use Rattle.journal_spec.specs.Record.{lastOf, recordBytes}
 use Rattle.journal_spec.specs.Scan.{Placed, recordsOf, standing}
 use Rattle.journal_spec.specs.Index.{indexBytes, indexOf}
-use Rattle.journal_spec.specs.Request.{Journal, Budget, upTo, Request, timesOf, offerOf, allowed, Outcome}
+use Rattle.journal_spec.specs.Request.{Journal, Budget, upTo, Request, requestOf, timesOf, offerOf, allowed, Outcome}
 use Rattle.journal_spec.specs.Append.{offered, judgeRoom, ofHanded, judgeIndex, judgeIndexRoom, nextIndex, appendRefusals, written}
 use Rattle.journal_spec.specs.Append.{unchanged, extend, putIndex, settle, appendTo}
 use Rattle.journal_spec.proofs.Writing.{written-nil}
 use Rattle.journal.specs.declared.Appended.{Appended}
 use Rattle.journal.specs.declared.Appended.the-variants as A
 use Rattle.journal.specs.Handed.{offerRefusals}
-use Rattle.journal.specs.Answers.{appendMeaning, lengthAfter, outcomeOf}
+use Rattle.journal.specs.Answers.{appendMeaning, lengthAfter, outcomeWith, outcomeOf}
 use Rattle.journal.proofs.Checking.{first-front, first-back}
 use Rattle.journal.proofs.Extending.{first-trailing, either-none}
 use Rattle.journal_index.specs.Outcome.{indexedOutcome}
@@ -27,15 +27,7 @@ use Rattle.journal_index.specs.Standing.{refusalIn}
 
 -- the request without its index, and with another budget
 unfoldable pub without : Budget → Request → Request
-without budget q = record {
-  day = q .day;
-  name = q .name;
-  chances = q .chances;
-  source = q .source;
-  budget = budget;
-  rule = q .rule;
-  index = none;
-}
+without budget q = requestOf (q .day) (q .name) (q .chances) (q .source) budget (q .rule) none
 
 first-of-front : (ns ms : List ℕ) → firstOf (ns ++ ms) ≡ 0 → firstOf ns ≡ 0
 unfolding firstOf
@@ -85,7 +77,7 @@ module _ (j : Journal) (ps : List Placed) (committed : ℕ) (q : Request) (b : L
 
   settled-judged : (r : Appended) (after : List ℕ) (n : ℕ) → outcomeOf (j .len) r after ≡ settle n j none committed [] none
       → (refusalIn (appendMeaning r) ≡ n) × (after ≡ j .slice)
-  unfolding settle extend unchanged outcomeOf refusalIn
+  unfolding settle extend unchanged outcomeWith refusalIn
   settled-judged r after zero e =
       (ap (λ (o : Outcome). refusalIn (o .answer)) e, ap (λ (o : Outcome). o .journal .slice) e ∙ written-nil (j .slice) committed)
   settled-judged r after (suc n) e = (ap (λ (o : Outcome). refusalIn (o .answer)) e, ap (λ (o : Outcome). o .journal .slice) e)
@@ -101,7 +93,7 @@ module _ (j : Journal) (ps : List Placed) (committed : ℕ) (q : Request) (b : L
   -- declined
   pub declined-by : (r : ℕ) → 0 < r → r ≡ firstOf (journalRows ++ indexRows)
       → indexedOutcome (j .len) (A.Declined r) (j .slice) b ≡ appendTo (standing ps committed) j q
-  unfolding appendTo settle unchanged indexedOutcome appendMeaning lengthAfter
+  unfolding appendTo settle unchanged outcomeWith appendMeaning lengthAfter
   declined-by zero h e = absurd (omega arith)
   declined-by (suc r) h e = rw (ap firstOf all-rows ∙ sym e, handed) refl
 
@@ -133,7 +125,7 @@ module _ (j : Journal) (ps : List Placed) (committed : ℕ) (q : Request) (b : L
     pub written-with : (r : Appended) (after index : List ℕ) → outcomeOf (j .len) r after ≡ appendTo (standing ps committed) j (without (q .budget) q)
         → index ≡ cond (leb (length bytes) (allowed (q .budget) (length bytes))) (written b 0 (indexBytes (nextIndex ps committed (offerOf q)))) b
         → indexedOutcome (j .len) r after index ≡ appendTo (standing ps committed) j q
-    unfolding appendTo settle extend putIndex indexedOutcome outcomeOf offerOf timesOf
+    unfolding appendTo settle extend putIndex outcomeWith offerOf timesOf
     written-with r after index e i =
         let s : outcomeOf (j .len) r after ≡ extend (j .slice) committed (take (allowed (q .budget) (length bytes)) bytes) none =
         e ∙ settles-without (q .budget) ∙ rw journal-none refl in

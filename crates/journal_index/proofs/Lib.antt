@@ -12,5 +12,5 @@ mod Answered
 mod Appending
 mod Room
 mod Standing
-mod Through
+mod Beside
 pub mod Meaning

@@ -13,6 +13,7 @@ use Rattle.journal.specs.declared.Appended.{Appended}
 use Rattle.journal.proofs.Meaning.{append-meaning-injective}
 use Rattle.journal_index.specs.Made.{madeMeaning, madeOutcome}
 use Rattle.journal_index.specs.Checked.{checkMeaning}
+use Rattle.journal.specs.Answers.{outcomeWith}
 use Rattle.journal_index.specs.Outcome.{indexedOutcome}
 use Rattle.journal_index.specs.declared.make.IndexMade.{IndexMade}
 use Rattle.journal_index.specs.declared.make.IndexMade.the-variants as I
@@ -52,7 +53,7 @@ check-injective = injective-by checkMeaning ofCheck back
     back (C.Damaged f) = refl
 
 pub indexed-injective : (len : ℕ) (a b : Appended) (v w i j : List ℕ) → indexedOutcome len a v i ≡ indexedOutcome len b w j → (a ≡ b) × (v ≡ w) × (i ≡ j)
-unfolding indexedOutcome
+unfolding outcomeWith
 indexed-injective len a b v w i j e = (
   append-meaning-injective a b (ap (λ (o : Outcome). o .answer) e),
   ap (λ (o : Outcome). o .journal .slice) e,

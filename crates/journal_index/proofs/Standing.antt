@@ -17,7 +17,7 @@ use Rattle.journal_spec.specs.Profile.{Rule}
 use Rattle.journal_spec.specs.Scan.{recordsOf, standing, contentsOf}
 use Rattle.journal_spec.specs.Index.{indexBytes}
 use Rattle.journal_spec.specs.Log.{gathered}
-use Rattle.journal_spec.specs.Request.{Budget, Request, gatherBy, timesOf, gatheredTimes, offerOf, allowed, Outcome}
+use Rattle.journal_spec.specs.Request.{Budget, times, Request, requestOf, gatherBy, timesOf, gatheredTimes, offerOf, allowed, Outcome}
 use Rattle.journal_spec.specs.Append.{limitsOf, offered, nextIndex, appendRefusals, written, unchanged, appendTo, appendOf}
 use Rattle.journal_spec.proofs.Numbers.{are-bytes}
 use Rattle.journal_spec.proofs.Records.{length-record}
@@ -33,12 +33,12 @@ use Rattle.journal.specs.declared.Appended.{Appended}
 use Rattle.journal.specs.declared.Appended.the-variants as A
 use Rattle.journal.specs.Records.{asLast}
 use Rattle.journal.specs.Contents.{contentsRead}
-use Rattle.journal.specs.Answers.{appendMeaning, lengthAfter}
+use Rattle.journal.specs.Answers.{appendMeaning, lengthAfter, outcomeWith}
 use Rattle.journal.proofs.Answering.{Stood, stood, faulted, last-kept}
 use Rattle.journal.proofs.RefusalOrder.{Few, offer-few}
 use Rattle.journal_entries.specs.Amending.{amendedIn}
 use Rattle.journal_index.specs.Outcome.{indexedOutcome}
-use Rattle.journal_index.specs.Standing.{placedIn, indexIn, Stands, requestWith, refusalIn}
+use Rattle.journal_index.specs.Standing.{placedIn, indexIn, Stands, refusalIn}
 use Rattle.journal_index.proofs.Appending.{indexRows, Judged, declined-first, declined-then, none-declines, index-none, offer-none}
 use Rattle.journal_index.proofs.Room.{rowsOf, amended-in}
 
@@ -70,7 +70,7 @@ module _ (rule : Rule) (v : List ℕ) (len i : ℕ) (x : Contents) (read : x ≡
 
   pub appends-damaged : (f : Fault) → x ≡ C.Damaged f → (q : Request) (ts b : List ℕ) → q .rule ≡ rule → timesOf q ≡ gathered ts → q .index ≡ some b
       → indexedOutcome len (A.Damaged f) v b ≡ appendOf (record { slice = v; len = len }) q
-  unfolding appendTo indexedOutcome appendMeaning lengthAfter unchanged
+  unfolding appendTo outcomeWith appendMeaning lengthAfter unchanged
   appends-damaged f told q ts b by is handed =
       rw (← append-read (record { slice = v; len = len }) q ts is, by, faulted rule v len i x read f told, handed) refl
 
@@ -82,9 +82,9 @@ ends-placed v committed last s = s .ends ∙ ap lastOf (sym (recordsOf-placed 0 
 -- ---- after the call with a budget of nothing
 
 module _ {v : List ℕ} {committed len day : ℕ} {name chances ts : List ℕ} {budget : Budget} {rule : Rule} {b : List ℕ} {r : Appended} {after : List ℕ}
-    (t : Judged (record { slice = v; len = len }) (placedIn (take committed v)) committed (requestWith day name chances ts budget rule b) b refl r after) where
+    (t : Judged (record { slice = v; len = len }) (placedIn (take committed v)) committed (requestOf day name chances (times ts) budget rule (some b)) b refl r after) where
   abbrev asked : Request
-  asked = requestWith day name chances ts budget rule b
+  asked = requestOf day name chances (times ts) budget rule (some b)
 
   -- what the call with the index comes to
   abbrev outcome : Outcome
@@ -132,7 +132,7 @@ module _ {v : List ℕ} {committed len day : ℕ} {name chances ts : List ℕ} {
 
 module _ (v : List ℕ) (committed len : ℕ) (day : ℕ) (name chances ts : List ℕ) (budget : Budget) (rule : Rule) (b : List ℕ) where
   abbrev q : Request
-  q = requestWith day name chances ts budget rule b
+  q = requestOf day name chances (times ts) budget rule (some b)
 
   module _ (last : Last) (s : Stands v committed last) (z : firstOf (appendRefusals (length v) (placedIn (take committed v)) committed q) ≡ 0) where
     abbrev leaf : List ℕ

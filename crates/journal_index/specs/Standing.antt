@@ -1,16 +1,14 @@
--- Records that stand at a slice's front, their index, and a request with an index, as the private functions have them.
+-- Records that stand at a slice's front, and their index, as the private functions have them.
 -- Assumes nothing.
 use mathlib.Core.Path.{_≡_}
 use Prim.Native.Nat.{ℕ, _≤_}
 use mathlib.Core.List.{List}
-use mathlib.Core.Option.{some}
 use lib.ListN.{length, take}
 use Rattle.journal_spec.specs.Record.{Last, lastOf}
-use Rattle.journal_spec.specs.Profile.{Rule}
 use Rattle.journal_spec.specs.Scan.{Placed}
 use Rattle.journal_spec.specs.Cursor.{recordsIn}
 use Rattle.journal_spec.specs.Index.{IndexEntry, indexOf}
-use Rattle.journal_spec.specs.Request.{Budget, Request, times, AppendResult, extended, declined, declinedAt, damaged}
+use Rattle.journal_spec.specs.Request.{AppendResult, extended, declined, declinedAt, damaged}
 use Rattle.journal_spec.proofs.Places.{placedFrom}
 use Rattle.journal_spec.proofs.Whole.{WholeBytes}
 
@@ -26,18 +24,6 @@ pub record Stands (slice : List ℕ) (committed : ℕ) (last : Last) : Type 0 wh
   pub fits : committed ≤ length slice
   pub whole : WholeBytes (take committed slice)
   pub ends : last ≡ lastOf (recordsIn (take committed slice))
-
--- a request of times, from a call's arguments
-abbrev pub requestWith : ℕ → List ℕ → List ℕ → List ℕ → Budget → Rule → List ℕ → Request
-requestWith day name chances ts budget rule index = record {
-  day = day;
-  name = name;
-  chances = chances;
-  source = times ts;
-  budget = budget;
-  rule = rule;
-  index = some index;
-}
 
 -- the number by which an answer declines, 0 where it does not
 unfoldable pub refusalIn : AppendResult → ℕ

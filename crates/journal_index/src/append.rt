@@ -1,6 +1,7 @@
-// Append that is handed the index (request 2026-08): the journal's rows first, then 14 and 15, then the record is written, and where it is
+// Append that may be handed the index (request 2026-08): the journal's rows first, then 14 and 15, then the record is written, and where it is
 // finished the index is amended in its place. Every check is over before the first byte of either buffer is written.
 ghost use mathlib.Core.Path.{_≡_};
+ghost use mathlib.Core.Bool.{false};
 ghost use mathlib.Core.Option.{some};
 ghost use mathlib.Core.List.{[], _∷_};
 ghost use Prim.Native.Nat.{ℕ, _+_, _*_, _≤_};
@@ -16,48 +17,61 @@ ghost use Rattle.journal_spec.specs.Request as Request;
 ghost use Rattle.journal_spec.specs.Append.{judgeIndex, judgeIndexRoom, appendRefusals, appendTo, appendOf};
 ghost use Rattle.journal_spec.proofs.Whole.{WholeBytes};
 ghost use Rattle.journal.specs.Records.{asLast};
-ghost use Rattle.journal.specs.Handed.{asBudget, asRule};
-ghost use Rattle.journal.specs.Answers.{appendMeaning};
-ghost use Rattle.journal_index.specs.Outcome.{indexedOutcome};
-ghost use Rattle.journal_index.specs.Standing.{placedIn, indexIn, Stands, requestWith, refusalIn};
+ghost use Rattle.journal.specs.Handed.{requestBy, asBudget};
+ghost use Rattle.journal.specs.Answers.{appendMeaning, outcomeWith};
+ghost use Rattle.journal_index.specs.Outcome.{handed, indexedOutcome};
+ghost use Rattle.journal_index.specs.Standing.{placedIn, indexIn, Stands, refusalIn};
 use crate::make::INDEX_ROOM_REFUSAL;
 use crate::own::INDEX_REFUSAL;
 use crate::own::is_own;
 use journal::Appended;
+use journal::Asked;
 use journal::Budget;
 use journal::Contents;
 use journal::FIXED_SIZE;
 use journal::Head;
-use journal::Rule;
+use journal::append_with;
 use journal::contents_of;
 use journal::extend_by;
 use journal_entries::amend;
 use journal_entries::has_room;
 
-// Append by a budget and a rule, with an index in a buffer of its own.
-pub fn append_indexed(
+// Append of times with an index in a buffer of its own; or, where none is handed, without one, and the buffer stays.
+pub fn append_beside(
     v: &mut [u8],
     len: usize,
-    day: u16,
     name: &[u8],
     chances: &[u32],
     times: &[u32],
-    budget: Budget,
-    rule: Rule,
     index: &mut [u8],
+    indexed: bool,
+    asked: Asked,
 ) -> Appended
-    ensures { λ r. ⌜ indexedOutcome len r (now (v .exit)) (now (index .exit))
+    ensures { λ r. ⌜ outcomeWith len r (now (v .exit)) (handed indexed (now (index .exit)))
         ≡ appendOf (record { slice = now (v .entry); len = len })
-        (record {
-          day = day;
-          name = now (name .entry);
-          chances = now (chances .entry);
-          source = Request.times (now (times .entry));
-          budget = asBudget budget;
-          rule = asRule rule;
-          index = some (now (index .entry));
-        }) ⌝ }
+        (requestBy asked (now (name .entry)) (now (chances .entry)) (Request.times (now (times .entry))) (handed indexed (now (index .entry)))) ⌝ }
+    ensures { λ r. ⌜ (indexed ≡ false → now (index .exit) ≡ now (index .entry)) ⌝ }
 {
+    if indexed {
+        return append_indexed(v, len, name, chances, times, index, asked);
+    }
+    append_with(v, len, name, chances, times, asked)
+}
+
+// Append of times with an index in a buffer of its own.
+fn append_indexed(
+    v: &mut [u8],
+    len: usize,
+    name: &[u8],
+    chances: &[u32],
+    times: &[u32],
+    index: &mut [u8],
+    asked: Asked,
+) -> Appended
+    ensures { λ r. ⌜ indexedOutcome len r (now (v .exit)) (now (index .exit)) ≡ appendOf (record { slice = now (v .entry); len = len })
+        (requestBy asked (now (name .entry)) (now (chances .entry)) (Request.times (now (times .entry))) (some (now (index .entry)))) ⌝ }
+{
+    let rule = asked.rule;
     let x = contents_of(v, len, 0, rule);
     match x {
         Contents::Stands {
@@ -65,18 +79,7 @@ pub fn append_indexed(
             committed,
             last,
             shown: _,
-        } => extend_indexed(
-            v,
-            committed,
-            last,
-            day,
-            name,
-            chances,
-            times,
-            budget,
-            rule,
-            index,
-        ),
+        } => extend_indexed(v, committed, last, name, chances, times, index, asked),
         Contents::Damaged(f) => Appended::Damaged(f),
     }
 }
@@ -87,21 +90,25 @@ fn extend_indexed(
     v: &mut [u8],
     committed: usize,
     last: Head,
-    day: u16,
     name: &[u8],
     chances: &[u32],
     times: &[u32],
-    budget: Budget,
-    rule: Rule,
     index: &mut [u8],
+    asked: Asked,
 ) -> Appended
     requires { ⌜ Stands (now v) committed (asLast last) ⌝ }
     ensures { λ r. ⌜ ((len : ℕ) → indexedOutcome len r (now (v .exit)) (now (index .exit))
         ≡ appendTo (standing (placedIn (take committed (now (v .entry)))) committed) (record { slice = now (v .entry); len = len })
-        (requestWith day (now (name .entry)) (now (chances .entry)) (now (times .entry)) (asBudget budget) (asRule rule) (now (index .entry)))) ⌝ }
+        (requestBy asked (now (name .entry)) (now (chances .entry)) (Request.times (now (times .entry))) (some (now (index .entry))))) ⌝ }
 {
-    let nothing = Budget::UpTo(0);
-    let judged = extend_by(v, committed, last, day, name, chances, times, nothing, rule);
+    let day = asked.day;
+    let rule = asked.rule;
+    let nothing = Asked {
+        day,
+        budget: Budget::UpTo(0),
+        rule,
+    };
+    let judged = extend_by(v, committed, last, name, chances, times, nothing);
     let refusal = refusal_of(judged);
     if 0 < refusal {
         return Appended::Declined(refusal);
@@ -110,18 +117,7 @@ fn extend_indexed(
     if 0 < unfit {
         return Appended::Declined(unfit);
     }
-    extend_and_amend(
-        v,
-        committed,
-        last,
-        day,
-        name,
-        chances,
-        times,
-        budget,
-        rule,
-        index,
-    )
+    extend_and_amend(v, committed, last, name, chances, times, index, asked)
 }
 
 // An offer that nothing declines: its first bytes are written, as many as the budget lets through, and the index is amended if these are all.
@@ -129,24 +125,23 @@ fn extend_and_amend(
     v: &mut [u8],
     committed: usize,
     last: Head,
-    day: u16,
     name: &[u8],
     chances: &[u32],
     times: &[u32],
-    budget: Budget,
-    rule: Rule,
     index: &mut [u8],
+    asked: Asked,
 ) -> Appended
     requires { ⌜ Stands (now v) committed (asLast last) ⌝ }
     requires { ⌜ firstOf (appendRefusals (length (now v)) (placedIn (take committed (now v))) committed
-        (requestWith day (now name) (now chances) (now times) (asBudget budget) (asRule rule) (now index))) ≡ 0 ⌝ }
+        (requestBy asked (now name) (now chances) (Request.times (now times)) (some (now index)))) ≡ 0 ⌝ }
     ensures { λ r. ⌜ ((len : ℕ) → indexedOutcome len r (now (v .exit)) (now (index .exit))
         ≡ appendTo (standing (placedIn (take committed (now (v .entry)))) committed) (record { slice = now (v .entry); len = len })
-        (requestWith day (now (name .entry)) (now (chances .entry)) (now (times .entry)) (asBudget budget) (asRule rule) (now (index .entry)))) ⌝ }
+        (requestBy asked (now (name .entry)) (now (chances .entry)) (Request.times (now (times .entry))) (some (now (index .entry))))) ⌝ }
 {
     let size = size_of(name, chances, times);
+    let budget = asked.budget;
     let finished = is_finished(budget, size);
-    let r = extend_by(v, committed, last, day, name, chances, times, budget, rule);
+    let r = extend_by(v, committed, last, name, chances, times, asked);
     if !finished {
         return r;
     }

@@ -7,14 +7,16 @@ mod longest;
 mod make;
 mod own;
 
-pub use append::append_indexed;
+pub use append::append_beside;
 pub use begun::is_begun;
-pub use log::append_log_indexed;
+pub use log::append_log_beside;
 pub use longest::MAX_INDEX;
 pub use longest::index_room;
+pub use make::INDEX_ROOM_REFUSAL;
 pub use make::IndexMade;
 pub use make::Scanned;
 pub use make::make_index;
 pub use make::scan_and_index;
 pub use own::Checked;
+pub use own::INDEX_REFUSAL;
 pub use own::check_index;

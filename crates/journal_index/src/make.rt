@@ -29,7 +29,7 @@ use journal_order::latest_of;
 use journal_order::wide;
 
 // Document 02's number for a buffer that cannot hold the index.
-pub(crate) const INDEX_ROOM_REFUSAL: u32 = 15;
+pub const INDEX_ROOM_REFUSAL: u32 = 15;
 
 // The index's length; or declined, with the refusal's number; or damaged, with the journal's first fault.
 pub enum IndexMade {

@@ -23,7 +23,7 @@ use journal_order::wide;
 use journal_parts::number_in;
 
 // Document 02's number for an index that is not the journal's.
-pub(crate) const INDEX_REFUSAL: u32 = 14;
+pub const INDEX_REFUSAL: u32 = 14;
 
 // The buffer begins with the journal's index; or declined, with the refusal's number; or damaged, with the journal's first fault.
 pub enum Checked {

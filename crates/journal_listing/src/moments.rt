@@ -15,12 +15,11 @@ ghost use Rattle.journal_parts.specs.Spans.{Inside, numbersOf};
 use journal_parts::Span;
 use journal_parts::number_in;
 use journal_parts::spans_at;
+use limit::TIMES_REFUSAL;
 use limit::Worked;
 
-// The most times of a record, and document 01's refusal of times.
+// The most times of a record.
 const MAX_TIMES: usize = 128;
-
-const TIMES_REFUSAL: u32 = 6;
 
 // Mean and spread of the record that stands at a place, whatever the bytes are; 6 where none does.
 pub fn moments_in(b: &[u8], at: usize) -> Worked

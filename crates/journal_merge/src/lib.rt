@@ -15,6 +15,9 @@ use crate::inputs::inputs_of;
 use crate::measuring::Measured;
 use crate::measuring::measure;
 use journal::Fault;
+use journal::MAX_LENGTH;
+use journal::OLD_FORM_REFUSAL;
+use journal::ROOM_REFUSAL;
 use journal::scan;
 use journal_order::Key;
 use journal_order::MOST;
@@ -27,15 +30,8 @@ mod parts;
 mod searching;
 mod stepping;
 
-// The longest journal, in bytes.
-const MAX_LENGTH: usize = 65_536;
-
-// Document 02's numbers: an input ends torn; form 1 after form 2 in the result; no room for it.
+// Document 02's number for an input that ends torn.
 const TORN_REFUSAL: u32 = 16;
-
-const OLD_FORM_REFUSAL: u32 = 13;
-
-const ROOM_REFUSAL: u32 = 9;
 
 // Whose: the first journal's or the second's.
 pub enum Whose {

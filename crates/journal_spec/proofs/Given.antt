@@ -1,19 +1,30 @@
--- What append and the model read of a request is what stands in its fields: its day, name and chances; the times handed in, or those of its
+-- A request has what a call is handed, and what append and the model read of it is what stands in its fields: its day, name and chances; the times handed in, or those of its
 -- name's lines in the log; and for a budget all of the record, or k bytes. Assumes nothing.
 use mathlib.Core.Path.{_≡_, refl, sym, ap, _∙_}
 use mathlib.Core.Logic.{_↔_}
 use Prim.Native.Nat.{ℕ, _≤_}
 use mathlib.Core.List.{List, map}
+use mathlib.Core.Option.{Option}
 use native.Mathlib.Omega.{arith}
 use lib.ListN.{length}
 use lib.Ieee.{binary64, toBits}
 use Rattle.limit.specs.Formula.{sampleForm}
 use Rattle.journal_spec.specs.Log.{gathered, misread, gatherOf}
 use Rattle.journal_spec.specs.Record.{Record, recordBytes}
-use Rattle.journal_spec.specs.Request.{Budget, all, upTo, Source, times, log, Request, gatherBy, timesOf, gatheredTimes, offerOf, allowed}
+use Rattle.journal_spec.specs.Profile.{Rule}
+use Rattle.journal_spec.specs.Request.{Budget, all, upTo, Source, times, log, Request, requestOf, gatherBy, timesOf, gatheredTimes}
+use Rattle.journal_spec.specs.Request.{offerOf, allowed}
 use Rattle.journal_spec.specs.Calls.{Call}
 use Rattle.journal_spec.specs.Model.{workedOut, recordFor}
 use Rattle.journal_spec.specs.Shown.{offerBy, recordOf, budgetOf, Reaches, GivenTimes, handed, inLog, Given}
+
+-- ---- what a call is handed
+
+-- each field of a call's request is what the call is handed for it
+pub request-given : (day : ℕ) (name chances : List ℕ) (source : Source) (budget : Budget) (rule : Rule) (index : Option (List ℕ))
+    → let q = requestOf day name chances source budget rule index in
+    (q .day ≡ day) × (q .name ≡ name) × (q .chances ≡ chances) × (q .source ≡ source) × (q .budget ≡ budget) × (q .rule ≡ rule) × (q .index ≡ index)
+request-given day name chances source budget rule index = (refl, refl, refl, refl, refl, refl, refl)
 
 -- ---- times
 

@@ -31,6 +31,18 @@ pub record Request : Type 0 where
   pub rule : Rule
   pub index : Option (List ℕ)
 
+-- a request from what a call is handed, in the order of the fields; every contract of an append cites it
+abbrev pub requestOf : ℕ → List ℕ → List ℕ → Source → Budget → Rule → Option (List ℕ) → Request
+requestOf day name chances source budget rule index = record {
+  day = day;
+  name = name;
+  chances = chances;
+  source = source;
+  budget = budget;
+  rule = rule;
+  index = index;
+}
+
 -- document 01's offered leaf, without its limits
 pub record Offer : Type 0 where
   pub day : ℕ

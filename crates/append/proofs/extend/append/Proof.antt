@@ -1,32 +1,13 @@
--- `append` hands the index on, or none, and then its buffer is as it was.
+-- `append` asks for all of the record, by its rule, beside the index or none.
 -- Assumes nothing.
-use mathlib.Core.Path.{refl}
 use borrow.Author.Needs.{needs}
-use Rattle.facts.proofs.Tests.{not-both}
 use Rattle.journal.specs.Handed.{asBudget, offerFrom}
-use Rattle.append.proofs.WrittenPart.{with-index, without-index}
 use Rattle.append.proofs.extend.append.Statement.{statement}
 use Rattle.append.proofs.extend.append.Tie as tie
 
 returns : tie.Need-returns
 unfolding asBudget offerFrom
-returns c =
-    let taken = c .before .before .before .before .before .before .before .if1 .taken in
-    (with-index _ _ _ _ _ _ _ _ _ taken (c .before .before .before .before .append-indexed .ensures), λ unset. not-both _ taken unset)
-
-returns-2 : tie.Need-returns-2
-unfolding asBudget offerFrom
-returns-2 c =
-    (without-index _ _ _ _ _ _ _ _ _ (c .before .before .before .before .if1 .left) (c .before .before .append-with .ensures), λ unset. refl)
+returns c = c .before .before .before .before .append-beside .ensures
 
 pub append-spec : {M : Type 1} → statement M
-append-spec =
-    tie.close
-    (tie.spec
-    (λ c κs. search needs)
-    (λ c. search needs)
-    (λ c. search needs)
-    returns
-    (λ c κs. search needs)
-    (λ c. search needs)
-    returns-2)
+append-spec = tie.close (tie.spec (λ c κs. search needs) (λ c. search needs) (λ c. search needs) returns)

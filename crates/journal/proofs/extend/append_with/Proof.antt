@@ -3,13 +3,12 @@
 use mathlib.Core.Path.{refl}
 use borrow.Author.Needs.{needs}
 use Rattle.journal_spec.specs.Request.{gatherBy, timesOf}
-use Rattle.journal.specs.Handed.{requestFrom}
 use Rattle.journal.proofs.Answering.{append-stands, append-damaged}
 use Rattle.journal.proofs.extend.append_with.Statement.{statement}
 use Rattle.journal.proofs.extend.append_with.Tie as tie
 
 returns : tie.Need-returns
-unfolding requestFrom timesOf gatherBy
+unfolding timesOf gatherBy
 returns c =
     let extended = c .before .before in
     let told = extended .before .before .before .x .given in

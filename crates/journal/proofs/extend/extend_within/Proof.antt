@@ -1,32 +1,23 @@
 -- `extend_within` takes the record's length for its room, and lends the slice from the committed length on to the writer.
 -- Assumes nothing.
-use mathlib.Core.Path.{_≡_}
+use mathlib.Core.Path.{refl}
 use Prim.Native.Nat.{_+_, _≤_, min}
 use native.Mathlib.Omega.{arith}
 use borrow.Author.Needs.{needs}
 use lib.ListN.{length, length-take, length-drop}
 use denote.Ref.{now}
 use Rattle.journal_spec.specs.Scan.{maxLength}
-use Rattle.journal.specs.Handed.{bytesFrom}
 use Rattle.journal.proofs.Extending.{room-fits, room-declined, room-extended}
 use Rattle.journal.proofs.extend.extend_within.Statement.{statement}
 use Rattle.journal.proofs.extend.extend_within.Tie as tie
 
--- the size is that of the record's bytes
-sized : (c : tie.After-size-of)
-    → let a = c .before .before .before .before .before .before .args in
-    c .size-of .result ≡ length (bytesFrom (a .day) (now (a .name)) (now (a .chances)) (now (a .times)) (now (a .limits)))
-sized c = c .size-of .ensures _
-
 -- after the test of the room, the record ends inside the slice and the longest journal
 fits : (c : tie.After-end-of)
-    → let size = c .before .before .before in
-    let a = size .before .before .before .before .before .before .args in
-    a .committed + size .size-of .result ≤ min (length (now (a .v))) maxLength
+    → let a = c .before .before .before .before .before .args in a .committed + length (now (a .bytes)) ≤ min (length (now (a .v))) maxLength
 fits c = room-fits _ _ _ (c .before .before .has-room .ensures) (c .before .if1 .left)
 
 returns : tie.Need-returns
-returns c len = room-declined _ _ _ _ _ (sized (c .before .before)) _ (c .before .has-room .ensures) (c .if1 .taken)
+returns c len = room-declined _ _ _ _ _ refl _ (c .before .has-room .ensures) (c .if1 .taken)
 
 sub-put-record : tie.Need-sub-put-record
 sub-put-record c = omega (arith, fits c)
@@ -36,10 +27,8 @@ part-put-record-start c = omega (arith, fits c)
 
 put-record-requires : tie.Need-put-record-requires
 put-record-requires c κs =
-    let ready = c .before in (
-      rw (length-take, length-drop) (omega (arith, fits ready, ready .end-of .ensures)),
-      omega (arith, sized (ready .before .before .before), ready .end-of .ensures),
-    )
+    let ready = c .before in
+    (rw (length-take, length-drop) (omega (arith, fits ready, ready .end-of .ensures)), omega (arith, ready .end-of .ensures))
 
 add-after : tie.Need-add-after
 add-after c =
@@ -49,14 +38,13 @@ add-after c =
 returns-2 : tie.Need-returns-2
 returns-2 c len =
     let ready = c .before .before .before .before in
-    room-extended _ _ _ _ (sized (ready .before .before .before)) _ (ready .before .before .has-room .ensures) (ready .before .if1 .left)
-    _ _ _ _ (ready .end-of .ensures) (c .before .before .put-record .ensures .1) (c .before .before .put-record .ensures .0)
+    let put = c .before .before .put-record .ensures in
+    room-extended _ _ _ _ refl _ (ready .before .before .has-room .ensures) (ready .before .if1 .left) _ _ _ _ (ready .end-of .ensures) (put .1) (put .0)
 
 pub extend-within-spec : {M : Type 1} → statement M
 extend-within-spec =
     tie.close
     (tie.spec
-    (λ c κs. search needs)
     (λ c κs. search needs)
     returns
     (λ c κs. search needs)

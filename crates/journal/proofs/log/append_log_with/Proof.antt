@@ -1,6 +1,6 @@
 -- `append_log_with` answers a line of the log that is refused, and else hands the times on to the append of times.
 -- Assumes nothing.
-use mathlib.Core.Path.{refl, sym}
+use mathlib.Core.Path.{sym}
 use native.Mathlib.Omega.{arith}
 use borrow.Author.Needs.{needs}
 use lib.Seq.{length-take-le}
@@ -14,7 +14,7 @@ returns : tie.Need-returns
 unfolding timesOf gatherBy
 returns c =
     let read = c .before .before .before .gather in
-    through-refused _ _ _ (read .result) (read .ensures .1 .0) (c .if1 .taken) refl
+    through-refused _ _ _ (read .result) (read .ensures .1 .0) (c .if1 .taken)
 
 slice-aggregate-append-with : tie.Need-slice-aggregate-append-with
 slice-aggregate-append-with c =

@@ -2,7 +2,6 @@
 -- Assumes nothing.
 use mathlib.Core.Path.{refl}
 use borrow.Author.Needs.{needs}
-use Rattle.journal.specs.Handed.{requestFrom}
 use Rattle.journal_index.proofs.Appending.{without, written-with}
 use Rattle.journal_index.proofs.Standing.{ends-placed, counts, index-left, index-amended}
 use Rattle.journal_index.proofs.append.extend_and_amend.Statement.{statement}
@@ -14,7 +13,7 @@ size-of-requires c κs =
     counts _ _ 0 _ _ _ _ _ _ _ _ (start .pre .0) (start .pre .1)
 
 returns : tie.Need-returns
-unfolding requestFrom without
+unfolding without
 returns c len =
     let called = c .before .before .before in
     let asked = called .before .before in
@@ -25,7 +24,7 @@ returns c len =
     (asked .is-finished .result) (asked .is-finished .ensures) (c .if1 .taken))
 
 returns-2 : tie.Need-returns-2
-unfolding requestFrom without
+unfolding without
 returns-2 c len =
     let tested = c .before .before .before .before in
     let called = tested .before .before .before in

@@ -2,12 +2,14 @@
 -- Assumes nothing.
 use mathlib.Core.Path.{_≡_, refl, sym, _∙_}
 use Prim.Native.Nat.{ℕ}
+use mathlib.Core.Option.{some}
 use native.Mathlib.Omega.{arith}
 use borrow.Author.Needs.{needs}
 use lib.ListN.{take}
 use denote.Ref.{now}
-use Rattle.journal.specs.Handed.{asBudget, asRule, requestFrom}
-use Rattle.journal_index.specs.Standing.{placedIn, requestWith}
+use Rattle.journal_spec.specs.Request as Request
+use Rattle.journal.specs.Handed.{requestBy, asBudget}
+use Rattle.journal_index.specs.Standing.{placedIn}
 use Rattle.journal_index.proofs.Appending.{without, Judged, judged}
 use Rattle.journal_index.proofs.Standing.{ends-placed, judged-first, judged-then, judged-none, judged-fits, judged-whole, judged-writes}
 use Rattle.journal_index.proofs.append.extend_indexed.Statement.{statement}
@@ -17,9 +19,9 @@ use Rattle.journal_index.proofs.append.extend_indexed.Tie as tie
 told : (c : tie.After-extend-by) (len : ℕ)
     → let a = c .before .before .before .before .before .before .before .args in
     Judged (record { slice = now (a .v); len = len }) (placedIn (take (a .committed) (now (a .v)))) (a .committed)
-    (requestWith (a .day) (now (a .name)) (now (a .chances)) (now (a .times)) (asBudget (a .budget)) (asRule (a .rule)) (now (a .index)))
+    (requestBy (a .asked) (now (a .name)) (now (a .chances)) (Request.times (now (a .times))) (some (now (a .index))))
     (now (a .index)) refl (c .extend-by .result) (c .extend-by .last .0)
-unfolding requestFrom without asBudget
+unfolding without asBudget
 told c len =
     let start = c .before .before .before .before .before .before .before in
     judged _ _ _ _ _ refl _ _ (c .extend-by .ensures len _ (ends-placed _ _ _ (start .pre)))
