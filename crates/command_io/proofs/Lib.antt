@@ -5,3 +5,4 @@ pub mod Storing
 pub mod Folders
 pub mod Gathering
 pub mod Examples
+pub mod Showing

@@ -3,3 +3,8 @@ pub mod Arguments
 pub mod Numbers
 pub mod Paths
 pub mod Gather
+pub mod Words
+pub mod Status
+pub mod Shown
+pub mod Options
+pub mod Kinds

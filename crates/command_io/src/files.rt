@@ -4,6 +4,8 @@
 ghost use Rattle.io.specs.Counts.{Counts};
 use crate::input::Input;
 use crate::input::read_input;
+use crate::message::fail;
+use crate::message::fail_file_of;
 use crate::path::folder_end;
 
 // Whether all three streams are open. Where one is closed, a file that is opened takes its number, and what is printed there lands in the
@@ -63,6 +65,42 @@ fn read_at(program: &[u8], path: &[u8], out: &mut [u8]) -> Input
     let read = read_input(fd, out);
     if read.failed {
         fail_file(program, path);
+    }
+    libc::close(fd);
+    read
+}
+
+// Reads the file that an argument names to its end, or as much as there is room for; where that fails, awaqlla says what failed.
+pub fn read_named(at: usize, out: &mut [u8]) -> Input
+    ensures { λ r. ⌜ Counts (r .size) (now (out .exit)) ⌝ }
+{
+    let mut path = io::buffer();
+    let size = os::arg(at, &mut path);
+    if size == 0 {
+        fail(b"FILE: not a path");
+        return Input {
+            size: 0,
+            failed: true,
+        };
+    }
+    read_path(&path[..size], out)
+}
+
+// Reads a file.
+fn read_path(path: &[u8], out: &mut [u8]) -> Input
+    ensures { λ r. ⌜ Counts (r .size) (now (out .exit)) ⌝ }
+{
+    let fd = os::open_read(path);
+    if fd < 0 {
+        fail_file_of(path);
+        return Input {
+            size: 0,
+            failed: true,
+        };
+    }
+    let read = read_input(fd, out);
+    if read.failed {
+        fail_file_of(path);
     }
     libc::close(fd);
     read

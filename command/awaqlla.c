@@ -1,0 +1,223 @@
+/* awaqlla: what Rattle lacks. The floating-point environment that the proofs are of, closed standard streams, what stands at a file's name, the
+   locks, and the exit status. Everything else is crate command's: C asks it which argument is locked, and it says every word. */
+#define _DEFAULT_SOURCE
+#define _XOPEN_SOURCE 700
+#include <errno.h>
+#include <fcntl.h>
+#include <limits.h>
+#include <signal.h>
+#include <stdint.h>
+#include <stdio.h>
+#include <stdlib.h>
+#include <string.h>
+#include <sys/file.h>
+#include <sys/stat.h>
+#include <unistd.h>
+#include <xmmintrin.h>
+
+/* Crate command's. `told` says what is wrong with a lock, and answers the exit status 2. */
+size_t awaqlla_guarded(void);
+uint32_t awaqlla_guard(void);
+uint64_t awaqlla_patience(void);
+uint32_t awaqlla_is_file(size_t i);
+uint64_t awaqlla_take(const uint8_t *kinds, size_t n, uint32_t *ticks, size_t room);
+uint32_t awaqlla_run(const uint8_t *kinds, size_t n, const uint32_t *ticks, size_t count);
+uint32_t awaqlla_told(uint32_t what, size_t at);
+size_t awaqlla_demo(uint8_t *text, size_t room);
+
+enum guard { NO_LOCK, LOCK_BOTH, LOCK_VOLUME, LOCK_NAME };
+enum kind { MISSING, PLAIN, FOLDER, OTHER, DANGLING, UNREADABLE = 8, PRINTED_TO = 16, TOLD_TO = 32, GUARDED = 64 };
+enum told { WAITING, NO_FOLDER, NO_PLAIN_LOCK, NOT_MADE, NOT_LOCKED, WAITED, NO_NAME };
+
+/* MXCSR as a process starts with it: every exception masked, no flush to zero, to nearest even. */
+#define DEFAULT_ENVIRONMENT 0x1f80u
+#define ARGUMENTS 64
+#define SECONDS_BEFORE_WORDS 2
+
+static char lock_path[PATH_MAX + 8];
+static int lock_made;
+
+static int same_file(const struct stat *a, const struct stat *b)
+{
+    return a->st_dev == b->st_dev && a->st_ino == b->st_ino;
+}
+
+/* The path of a file without links, which need not be there; its folder must. */
+static int full_path(const char *path, char out[PATH_MAX])
+{
+    if (realpath(path, out) != NULL)
+        return 1;
+    const char *slash = strrchr(path, '/');
+    const char *name = slash == NULL ? path : slash + 1;
+    size_t size = slash == NULL ? 1 : (size_t)(slash - path) + 1;
+    char folder[PATH_MAX];
+    if (size >= sizeof folder)
+        return 0;
+    memcpy(folder, slash == NULL ? "." : path, size);
+    folder[size] = 0;
+    if (realpath(folder, out) == NULL || strlen(out) + strlen(name) + 2 > PATH_MAX)
+        return 0;
+    if (strcmp(out, "/") != 0)
+        strcat(out, "/");
+    strcat(out, name);
+    return 1;
+}
+
+/* What stands at a name, and which of our streams and of our files it is. */
+static uint8_t kind_of(const char *path, const char *guarded)
+{
+    struct stat found, other;
+    char here[PATH_MAX], there[PATH_MAX];
+    unsigned kind = MISSING;
+    if (stat(path, &found) != 0) {
+        int away = errno == ENOENT || errno == ENOTDIR;
+        kind = lstat(path, &found) == 0 ? (away ? DANGLING : OTHER | UNREADABLE) : MISSING;
+        if (kind == MISSING && guarded != NULL && full_path(path, here) && full_path(guarded, there) && strcmp(here, there) == 0)
+            kind |= GUARDED;
+        return (uint8_t)kind;
+    }
+    kind = S_ISREG(found.st_mode) ? PLAIN : S_ISDIR(found.st_mode) ? FOLDER : OTHER;
+    if (access(path, R_OK) != 0)
+        kind |= UNREADABLE;
+    if (kind == PLAIN && fstat(1, &other) == 0 && same_file(&found, &other))
+        kind |= PRINTED_TO;
+    if ((kind & PLAIN) != 0 && fstat(2, &other) == 0 && same_file(&found, &other))
+        kind |= TOLD_TO;
+    if (guarded != NULL && stat(guarded, &other) == 0 && same_file(&found, &other))
+        kind |= GUARDED;
+    return (uint8_t)kind;
+}
+
+static void heed(int number)
+{
+    (void)number;
+}
+
+/* Takes the lock of an open file; says so where it waits, and gives up after --wait's seconds. */
+static uint32_t hold(int fd, size_t at)
+{
+    if (flock(fd, LOCK_EX | LOCK_NB) == 0)
+        return 0;
+    uint64_t patience = awaqlla_patience();
+    struct sigaction action;
+    memset(&action, 0, sizeof action);
+    action.sa_handler = heed;
+    if (sigaction(SIGALRM, &action, NULL) != 0)
+        return awaqlla_told(NOT_LOCKED, at);
+    for (uint64_t waited = 0;; waited += SECONDS_BEFORE_WORDS) {
+        if (waited >= patience)
+            return awaqlla_told(WAITED, at);
+        if (waited == SECONDS_BEFORE_WORDS)
+            (void)awaqlla_told(WAITING, at);
+        alarm(patience - waited < SECONDS_BEFORE_WORDS ? (unsigned)(patience - waited) : SECONDS_BEFORE_WORDS);
+        int held = flock(fd, LOCK_EX);
+        alarm(0);
+        if (held == 0)
+            return 0;
+        if (errno != EINTR)
+            return awaqlla_told(NOT_LOCKED, at);
+    }
+}
+
+/* Opens FILE.lock, no link and a plain file, or makes it with the volume's mode. */
+static int open_lock(const char *volume)
+{
+    struct stat found;
+    int flags = O_RDONLY | O_NOFOLLOW | O_CLOEXEC | O_NONBLOCK;
+    int fd = open(lock_path, flags);
+    if (fd >= 0 || errno != ENOENT)
+        return fd;
+    fd = open(lock_path, flags | O_CREAT | O_EXCL, 0666);
+    if (fd < 0)
+        return errno == EEXIST ? open(lock_path, flags) : fd;
+    lock_made = 1;
+    if (stat(volume, &found) == 0)
+        (void)!fchmod(fd, found.st_mode & 0666);
+    return fd;
+}
+
+/* Locks FILE.lock; one that was removed meanwhile is locked again. */
+static uint32_t lock_name(const char *volume, size_t at)
+{
+    struct stat held, found;
+    char full[PATH_MAX];
+    if (!full_path(volume, full))
+        return awaqlla_told(stat(volume, &found) == 0 ? NO_NAME : NO_FOLDER, at);
+    if (realpath(volume, full) == NULL && stat(volume, &found) == 0)
+        return awaqlla_told(NO_NAME, at);
+    (void)full_path(volume, full);
+    (void)snprintf(lock_path, sizeof lock_path, "%s.lock", full);
+    for (;;) {
+        int fd = open_lock(volume);
+        if (fd < 0)
+            return awaqlla_told(errno == ELOOP || errno == ENXIO ? NO_PLAIN_LOCK : NOT_MADE, at);
+        if (fstat(fd, &held) != 0 || !S_ISREG(held.st_mode))
+            return awaqlla_told(NO_PLAIN_LOCK, at);
+        uint32_t status = hold(fd, at);
+        if (status != 0)
+            return status;
+        if (lstat(lock_path, &found) == 0 && same_file(&held, &found))
+            return 0;
+        close(fd);
+    }
+}
+
+/* Locks the volume itself, where there is one that can be read, so that its other names wait too. */
+static uint32_t lock_volume(const char *volume, size_t at)
+{
+    struct stat found;
+    int fd = open(volume, O_RDONLY | O_CLOEXEC | O_NONBLOCK);
+    if (fd < 0)
+        return 0;
+    if (fstat(fd, &found) != 0 || !S_ISREG(found.st_mode)) {
+        close(fd);
+        return 0;
+    }
+    return hold(fd, at);
+}
+
+/* No stream is closed: a file that is opened would take its number. */
+static int streams_are_open(void)
+{
+    static const char *const closed[] = {"awaqlla: standard input: it is closed\n", "awaqlla: standard output: it is closed\n"};
+    if (fcntl(2, F_GETFD) < 0)
+        return 0;
+    for (int fd = 0; fd < 2; fd++)
+        if (fcntl(fd, F_GETFD) < 0) {
+            (void)!write(2, closed[fd], strlen(closed[fd]));
+            return 0;
+        }
+    return 1;
+}
+
+int main(int argc, char **argv)
+{
+    static uint8_t kinds[ARGUMENTS];
+    static uint32_t ticks[32768];
+    _mm_setcsr(DEFAULT_ENVIRONMENT);
+    (void)signal(SIGPIPE, SIG_IGN);
+    if (!streams_are_open())
+        return 2;
+    size_t at = awaqlla_guarded(), count = argc < ARGUMENTS ? (size_t)argc : ARGUMENTS;
+    const char *guarded = at != 0 && at < (size_t)argc ? argv[at] : NULL;
+    kinds[0] = kind_of("/dev/fd/0", NULL);
+    for (size_t i = 1; i < count; i++)
+        if (awaqlla_is_file(i) != 0)
+            kinds[i] = kind_of(argv[i], i == at ? NULL : guarded);
+    uint64_t taken = awaqlla_take(kinds, count, ticks, sizeof ticks / sizeof ticks[0]);
+    if (taken > UINT32_MAX)
+        return (int)(taken & 3);
+    uint32_t guard = guarded == NULL ? NO_LOCK : awaqlla_guard(), status = 0;
+    if (guard == LOCK_BOTH || guard == LOCK_NAME)
+        status = lock_name(guarded, at);
+    if (status == 0 && (guard == LOCK_BOTH || guard == LOCK_VOLUME))
+        status = lock_volume(guarded, at);
+    if (status == 0) {
+        if (guard == LOCK_NAME && at < count)
+            kinds[at] = kind_of(guarded, NULL);
+        status = awaqlla_run(kinds, count, ticks, (size_t)taken);
+    }
+    if (lock_made && (guard == LOCK_NAME || access(guarded, F_OK) != 0))
+        (void)!unlink(lock_path);
+    return (int)status;
+}
