@@ -1,10 +1,10 @@
 // The index's file, which stands beside the volume's. It is read before the append and written after the volume is: where the program is stopped
 // between, the index is stale, refusal 14 names it, and `index --make` makes it anew.
-ghost use Prim.Native.Nat.{_≤_};
-ghost use lib.ListN.{length};
+ghost use Rattle.io.specs.Counts.{Counts};
 use command_io::File;
 use command_io::fail_file_of;
 use command_io::fail_of;
+use command_io::inside;
 use command_io::made;
 use command_io::open_held;
 use command_io::say;
@@ -41,7 +41,8 @@ pub(crate) fn ready_index(path: &[u8], beside: Beside) -> File {
         fail_of(path, b"it is no index, and is not written over");
         return File::Failed;
     }
-    match beside.file {
+    let file = beside.file;
+    match file {
         File::Open(fd) => File::Open(fd),
         File::Missing => make_index(path),
         File::Failed => File::Failed,
@@ -69,11 +70,13 @@ fn begin_index(path: &[u8], fd: i32) -> File {
     File::Open(fd)
 }
 
-// Gives the file the index. Where that fails, what failed is said.
+// Empties the file and gives it the index, so that a stop leaves the first bytes of an index and no mixture. Where that fails, what failed is said.
 pub(crate) fn write_index(path: &[u8], fd: i32, index: &[u8]) -> bool {
     let size = index_size(index);
-    if write_synced(fd, 0, &index[..size]) {
-        return true;
+    if libc::ftruncate(fd, 0) == 0 {
+        if write_synced(fd, 0, &index[..size]) {
+            return true;
+        }
     }
     fail_file_of(path);
     say(b"the volume is extended and its index is not: awaqlla index --make makes it anew");
@@ -82,12 +85,8 @@ pub(crate) fn write_index(path: &[u8], fd: i32, index: &[u8]) -> bool {
 
 // How many bytes the index takes in its buffer.
 fn index_size(index: &[u8]) -> usize
-    ensures { λ r. ⌜ r ≤ length (now (index .entry)) ⌝ }
+    ensures { λ r. ⌜ Counts r (now (index .entry)) ⌝ }
 {
     let end = journal_entries::end_of(index);
-    let place = end.place;
-    if index.len() < place {
-        return 0;
-    }
-    place
+    inside(end.place, index)
 }

@@ -10,9 +10,6 @@ mod verdict;
 mod volume;
 mod words;
 
-pub use extend::Extension;
-pub use extend::Given;
-pub use extend::extend;
 pub use input::Taken;
 pub use input::take;
 pub use verdict::status_of;

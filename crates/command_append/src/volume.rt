@@ -106,7 +106,8 @@ fn append_beside(
     }
     let mut index = journal_index::index_room();
     let beside = open_index(&index_path[..size], &mut index);
-    if is_failed(beside.file) {
+    let file = beside.file;
+    if is_failed(file) {
         return Status::Failed;
     }
     append_at(
@@ -192,7 +193,8 @@ fn write_both(
 fn write_record(path: &[u8], place: Place, record: &[u8]) -> bool
     requires { ⌜ place .start ≤ maxLength ⌝ }
 {
-    match made(path, place.file) {
+    let file = place.file;
+    match made(path, file) {
         File::Open(fd) => write_to(path, fd, place, record),
         File::Missing => false,
         File::Failed => false,

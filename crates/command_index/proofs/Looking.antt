@@ -1,7 +1,7 @@
 -- What a look-up finds, in the order of the code's tests.
 -- Assumes nothing.
 use mathlib.Core.Path.{_≡_, refl, sym, ap, _∙_}
-use Prim.Native.Nat.{ℕ, _≤_, _<_}
+use Prim.Native.Nat.{ℕ, _+_, _≤_, _<_}
 use mathlib.Core.Bool.{Bool, true, false, cond}
 use mathlib.Core.List.{List}
 use native.Mathlib.Omega.{arith}
@@ -66,9 +66,23 @@ looked-some name b start size h e z = rw (le-leb start maxLength h, ← e, ne-eq
 
 -- by what the scan of the record alone answers
 module _ (start : ℕ) (one : List ℕ) (s : Status) (e : meaning s ≡ scanOf plain one (length one)) where
-  pub judged-is : judgedBy start (length one) (meaning s) ≡ judgedAlone start one
+  judged-is : judgedBy start (length one) (meaning s) ≡ judgedAlone start one
   unfolding judgedAlone
   judged-is = ap (judgedBy start (length one)) e
+
+  pub judged-whole : (n m : ℕ) → s ≡ S.Whole n m → L.Shown (length one) ≡ judgedAlone start one
+  unfolding judgedBy meaning
+  judged-whole n m d = (let x : L.Shown (length one) ≡ judgedBy start (length one) (meaning s) = rw d refl in x) ∙ judged-is
+
+  pub judged-torn : (n m : ℕ) → s ≡ S.Torn n m → L.Shown (length one) ≡ judgedAlone start one
+  unfolding judgedBy meaning
+  judged-torn n m d = (let x : L.Shown (length one) ≡ judgedBy start (length one) (meaning s) = rw d refl in x) ∙ judged-is
+
+  pub judged-damaged : (f : Fault) → s ≡ S.Damaged f → L.Damaged (record { number = f .number; place = start + f .place }) ≡ judgedAlone start one
+  unfolding judgedBy meaning
+  judged-damaged f d =
+      let x : L.Damaged (record { number = f .number; place = start + f .place }) ≡ judgedBy start (length one) (meaning s) = rw d refl in
+      x ∙ judged-is
 
   -- a fault's place is inside the longest volume
   pub fault-inside : (f : Fault) → s ≡ S.Damaged f → f .place ≤ maxLength

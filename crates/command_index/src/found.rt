@@ -9,10 +9,9 @@ ghost use Rattle.text_digits.specs.Text.{Put};
 ghost use Rattle.journal_spec.specs.Scan.{maxLength};
 ghost use Rattle.journal_parts.specs.Front.{recordName};
 ghost use Rattle.command_index.specs.Found.{judgedAlone, namedSize, lookedAt, firstLine, lookedLine, lookedStatus};
-use command_io::Status;
 use journal::Fault;
 use journal::Rule;
-use journal::Status as Scanned;
+use journal::Status;
 use journal_listing::put_word;
 use journal_listing::put_words;
 use journal_parts::record_name;
@@ -82,15 +81,15 @@ fn judged(one: &[u8], start: usize) -> Looked
     let size = one.len();
     let status = journal::scan_by(one, size, Rule::Plain);
     match status {
-        Scanned::Whole {
+        Status::Whole {
             records: _,
             committed: _,
         } => Looked::Shown(size),
-        Scanned::Torn {
+        Status::Torn {
             records: _,
             committed: _,
         } => Looked::Shown(size),
-        Scanned::Damaged(f) => {
+        Status::Damaged(f) => {
             let number = f.number;
             let place = f.place;
             let there = start + place;
@@ -115,14 +114,14 @@ pub fn looked_line(l: Looked, b: &[u8], out: &mut [u8]) -> usize
 }
 
 // The exit status that it decides.
-pub fn looked_status(l: Looked) -> Status
+pub fn looked_status(l: Looked) -> command_io::Status
     ensures { λ r. ⌜ r ≡ lookedStatus l ⌝ }
 {
     match l {
-        Looked::Shown(_) => Status::Done,
-        Looked::Absent => Status::Refused,
-        Looked::Other => Status::Refused,
-        Looked::Damaged(_) => Status::Refused,
+        Looked::Shown(_) => command_io::Status::Done,
+        Looked::Absent => command_io::Status::Refused,
+        Looked::Other => command_io::Status::Refused,
+        Looked::Damaged(_) => command_io::Status::Refused,
     }
 }
 

@@ -17,11 +17,10 @@ use command_io::is_guarded;
 use command_io::read_named;
 use command_io::readable;
 use command_io::words_from;
-use journal_entries::Start;
-
 pub use found::Looked;
 pub use found::look;
 pub use found::looked_line;
+use journal_entries::Start;
 pub use made::Made;
 pub use made::indexed;
 pub use verdict::checked_line;
@@ -49,10 +48,18 @@ pub fn judge(o: Options, kinds: &[u8]) -> Status {
 fn has_words(o: Options) -> bool {
     let count = words_from(o.first);
     if o.make {
-        return is_count(count, 2, b"index takes --make FILE INDEX; awaqlla --help says more");
+        return is_count(
+            count,
+            2,
+            b"index takes --make FILE INDEX; awaqlla --help says more",
+        );
     }
     if o.check {
-        return is_count(count, 2, b"index takes --check FILE INDEX; awaqlla --help says more");
+        return is_count(
+            count,
+            2,
+            b"index takes --check FILE INDEX; awaqlla --help says more",
+        );
     }
     is_count(
         count,

@@ -5,6 +5,7 @@ ghost use mathlib.Core.Path.{_≡_};
 ghost use Rattle.io.specs.Counts.{Counts};
 use command_io::fail_file_of;
 use command_io::fail_of;
+use command_io::inside;
 use command_io::path_at;
 use command_io::write_synced;
 use text_digits::put;
@@ -21,52 +22,27 @@ pub(crate) fn write_new(at: usize, result: &[u8]) -> bool {
     write_part(&name[..end], &path[..size], result)
 }
 
-// Room for a path, a process's number and what stands around it.
-fn part_room() -> [u8; 4_128]
-    ensures { λ r. ⌜ 4_128 ≡ length r ⌝ }
+// Room for a path and what stands behind it.
+fn part_room() -> [u8; 4_101]
+    ensures { λ r. ⌜ 4_101 ≡ length r ⌝ }
 {
-    [0; 4_128]
+    [0; 4_101]
 }
 
-// The name beside a path: the path, this process's number, and `.part`. No other process that runs has it.
+// The name beside a path: the path and `.part`. OUT is locked, so that no other merge uses it.
 fn part_name(path: &[u8], out: &mut [u8]) -> usize
     ensures { λ r. ⌜ Counts r (now (out .exit)) ⌝ }
 {
-    let d = text_digits::decimal_of(process_number());
-    let digits = d.digits;
-    let count = d.count;
-    let p = put(out, 0, path);
-    let q = put(out, p, b".");
-    let r = put(out, q, &digits[..count]);
-    let end = put(out, r, b".part");
-    inside(end, out)
-}
-
-// The number of this process.
-fn process_number() -> u64 {
-    let pid = libc::getpid();
-    if pid < 0 {
-        return 0;
-    }
-    pid as u64
-}
-
-// A number of a buffer's bytes, never more than there are.
-fn inside(n: usize, buffer: &[u8]) -> usize
-    ensures { λ r. ⌜ Counts r (now (buffer .entry)) ⌝ }
-{
-    if buffer.len() < n {
-        return buffer.len();
-    }
-    n
+    let end = put(out, 0, path);
+    let size = put(out, end, b".part");
+    inside(size, out)
 }
 
 // Makes the file under its own name; one that cannot be written and synced whole is taken away again.
 fn write_part(part: &[u8], path: &[u8], result: &[u8]) -> bool {
     let fd = os::create(part);
     if fd < 0 {
-        fail_file_of(part);
-        return false;
+        return not_made(part);
     }
     if !write_synced(fd, 0, result) {
         fail_file_of(path);
@@ -81,10 +57,35 @@ fn write_part(part: &[u8], path: &[u8], result: &[u8]) -> bool {
     give_name(part, path)
 }
 
-// Gives the file its name, where nothing stands under it, and syncs the folder.
-fn give_name(part: &[u8], path: &[u8]) -> bool {
+// Why it could not be made. One that is there is none of this merge's, and stays.
+fn not_made(part: &[u8]) -> bool {
+    if os::errno() == libc::EEXIST {
+        fail_of(
+            part,
+            b"it exists, as a merge that was stopped leaves it: delete it",
+        );
+        return false;
+    }
+    fail_file_of(part);
+    false
+}
+
+// Whether nothing stands under a name; if something does, or that cannot be told, that is said.
+fn is_free(path: &[u8]) -> bool {
     if 0 <= os::open_read(path) {
         fail_of(path, b"it exists, and a merge writes over no file");
+        return false;
+    }
+    if os::errno() == libc::ENOENT {
+        return true;
+    }
+    fail_file_of(path);
+    false
+}
+
+// Gives the file its name, where nothing stands under it, and syncs the folder.
+fn give_name(part: &[u8], path: &[u8]) -> bool {
+    if !is_free(path) {
         take_away(part);
         return false;
     }

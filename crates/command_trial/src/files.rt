@@ -1,28 +1,24 @@
-// The log: a file by name, or standard input.
-// A file that cannot be opened is said on standard error.
+// The log, a file by name.
+// One that cannot be opened is said on standard error.
+use command_io::File;
+use command_io::fail_file_of;
+use command_io::path_at;
 
-// The log's descriptor, or -1: that of the second argument's file where there are so many arguments, else standard input's.
-pub(crate) fn log_of(count: usize) -> i32 {
-    if count < 3 {
-        return libc::STDIN_FILENO;
-    }
+// Opens the log that the argument at a place names.
+pub(crate) fn open_log(at: usize) -> File {
     let mut path = io::buffer();
-    let size = os::arg(2, &mut path);
+    let size = path_at(at, &mut path);
     if size == 0 {
-        command_io::complain(
-            b"trial: ",
-            b"LOG: an empty name, or one of more than 4096 bytes",
-        );
-        return -1;
+        return File::Failed;
     }
     open(&path[..size])
 }
 
-// Opens a file.
-fn open(path: &[u8]) -> i32 {
+fn open(path: &[u8]) -> File {
     let fd = os::open_read(path);
-    if fd < 0 {
-        command_io::fail_file(b"trial: ", path);
+    if 0 <= fd {
+        return File::Open(fd);
     }
-    fd
+    fail_file_of(path);
+    File::Failed
 }

@@ -4,24 +4,18 @@ ghost use mathlib.Core.Path.{_≡_};
 ghost use Prim.Native.Nat.{_≤_};
 ghost use lib.ListN.{length};
 use crate::output::gather_line;
-use crate::output::print_refusal;
 use crate::output::print_unknown;
+use crate::output::refuse;
 use crate::passes::try_pieces;
 use crate::table::count_at;
 use crate::table::table_room;
 use crate::text::put_chance;
 use crate::text::put_head;
 use command_io::Gathered;
+use command_io::Status;
 use journal::number_in;
 use journal_trial::Unknown;
 use text_digits::put;
-
-// Room for the longest index: an entry is shorter than its record.
-fn index_room() -> [u8; 65_538]
-    ensures { λ r. ⌜ 65_538 ≡ length r ⌝ }
-{
-    [0; 65_538]
-}
 
 // Room for a line.
 fn line_room() -> [u8; 1_024]
@@ -31,26 +25,26 @@ fn line_room() -> [u8; 1_024]
 }
 
 // Tries the log of a descriptor on the journal that is all of a slice.
-pub(crate) fn try_log(fd: i32, v: &[u8]) {
-    let mut index = index_room();
+pub(crate) fn try_log(fd: i32, v: &[u8]) -> Status {
+    let mut index = journal_index::index_room();
     journal_index::make_index(v, v.len(), &mut index);
     let mut table = table_room();
     let p = try_pieces(fd, v, &index, &mut table);
     if p.failed {
-        os::fail(b"trial: the log");
-        return;
+        os::fail(b"awaqlla: the log");
+        return Status::Failed;
     }
     let answer = p.answer;
     match answer {
         Unknown::Lines(n) => print_all(v, &index, &table, n),
-        Unknown::Declined(n) => print_refusal(b"declined", n, 0),
-        Unknown::Damaged(f) => print_refusal(b"damaged", f.number, f.place),
-        Unknown::DeclinedAt(f) => print_refusal(b"log", f.number, f.place),
+        Unknown::Declined(_) => refuse(answer),
+        Unknown::Damaged(_) => refuse(answer),
+        Unknown::DeclinedAt(_) => refuse(answer),
     }
 }
 
 // The lines of all names, then the lines with unknown names. They are gathered, so that a write takes many.
-fn print_all(v: &[u8], index: &[u8], table: &[u64], unknown: u64) {
+fn print_all(v: &[u8], index: &[u8], table: &[u64], unknown: u64) -> Status {
     let mut space = io::large_buffer();
     let room: &mut [u8] = &mut space;
     let count = number_in(index, 0, 2) as usize;
@@ -59,12 +53,12 @@ fn print_all(v: &[u8], index: &[u8], table: &[u64], unknown: u64) {
     while k < count {
         let printed = print_name(v, index, table, k, room, waiting);
         if !printed.written {
-            return;
+            return Status::Failed;
         }
         waiting = printed.waiting;
         k += 1;
     }
-    print_unknown(room, waiting, unknown);
+    print_unknown(room, waiting, unknown)
 }
 
 // The line of the name at a position, behind what waits in the room.

@@ -18,7 +18,7 @@ use Rattle.command_append.proofs.extend.extend.Tie as tie
 offer : tie.After-append → Offer
 offer c =
     let a = c .before .before .before .before .before .before .before .before .args in
-    offerFrom (a .day) (now (a .name)) (now (a .chances)) (now (a .times))
+    offerFrom (a .given .day) (now (a .name)) (now (a .chances)) (now (a .times))
 
 -- the record ends at the new length, and that is inside the longest journal
 fits : (c : tie.After-known-told)
@@ -29,7 +29,7 @@ unfolding offer offerFrom asBudget
 fits c =
     let appended = c .before .before .before .before .before .before .before in
     let a = appended .before .before .before .before .before .before .before .before .args in
-    let x = extended-said (now (a .v)) (a .len) (asRule (a .rule)) (offer appended) _ (appended .append .result) _ _ (appended .append .ensures .0) _
+    let x = extended-said (now (a .v)) (a .len) (asRule (a .given .rule)) (offer appended) _ (appended .append .result) _ _ (appended .append .ensures .0) _
     (c .before .answer .given .1) in
     (omega (arith, x .place, offered-length (offer appended)), omega (arith, x .room))
 
@@ -38,7 +38,7 @@ unfolding offer offerFrom asBudget
 returns c =
     let appended = c .before .before .before .before .before .before .before in
     let a = appended .before .before .before .before .before .before .before .before .args in
-    let x = extends-record (now (a .v)) (a .len) (asRule (a .rule)) (offer appended) _ (appended .append .result) _ _ (appended .append .ensures .0)
+    let x = extends-record (now (a .v)) (a .len) (asRule (a .given .rule)) (offer appended) _ (appended .append .result) _ _ (appended .append .ensures .0)
     _ _ (c .before .answer .given .1) refl (omega arith) in
     (x .0, (x .1, appended .append .ensures .1))
 
@@ -47,7 +47,7 @@ unfolding offer offerFrom asBudget
 returns-2 c =
     let appended = c .before .before .before .before .before .before in
     let a = appended .before .before .before .before .before .before .before .before .args in
-    let x = extends-nothing (now (a .v)) (a .len) (asRule (a .rule)) (offer appended) _ (appended .append .result) _ _ (appended .append .ensures .0)
+    let x = extends-nothing (now (a .v)) (a .len) (asRule (a .given .rule)) (offer appended) _ (appended .append .result) _ _ (appended .append .ensures .0)
     (declined-unwritten _ _ (c .enum-told .given .1)) in
     (x .0, (x .1, appended .append .ensures .1))
 
@@ -56,7 +56,7 @@ unfolding offer offerFrom asBudget
 returns-3 c =
     let appended = c .before .before .before .before .before .before in
     let a = appended .before .before .before .before .before .before .before .before .args in
-    let x = extends-nothing (now (a .v)) (a .len) (asRule (a .rule)) (offer appended) _ (appended .append .result) _ _ (appended .append .ensures .0)
+    let x = extends-nothing (now (a .v)) (a .len) (asRule (a .given .rule)) (offer appended) _ (appended .append .result) _ _ (appended .append .ensures .0)
     (line-unwritten _ _ (c .enum-told2 .given .1)) in
     (x .0, (x .1, appended .append .ensures .1))
 
@@ -65,7 +65,7 @@ unfolding offer offerFrom asBudget
 returns-4 c =
     let appended = c .before .before .before .before .before .before in
     let a = appended .before .before .before .before .before .before .before .before .args in
-    let x = extends-nothing (now (a .v)) (a .len) (asRule (a .rule)) (offer appended) _ (appended .append .result) _ _ (appended .append .ensures .0)
+    let x = extends-nothing (now (a .v)) (a .len) (asRule (a .given .rule)) (offer appended) _ (appended .append .result) _ _ (appended .append .ensures .0)
     (damaged-unwritten _ _ (c .enum-told3 .given .1)) in
     (x .0, (x .1, appended .append .ensures .1))
 
