@@ -4,6 +4,7 @@ mod asked;
 mod guard;
 mod run;
 mod take;
+
 ghost use Prim.Native.Nat.{_≤_, _<_, _+_, _^_};
 use command_io::status_number;
 

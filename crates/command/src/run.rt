@@ -89,5 +89,8 @@ fn refusal_of(number: u64, at: usize) -> Status {
 
 // That no refusal has a number.
 fn no_refusal(at: usize) -> Status {
-    fail_argument(at, b"no refusal has that number; awaqlla refusal has them all")
+    fail_argument(
+        at,
+        b"no refusal has that number; awaqlla refusal has them all",
+    )
 }
