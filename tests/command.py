@@ -18,6 +18,11 @@ PROGRAMS = ("append", "list", "survey", "index", "merge", "trial", "report")
 WAIT = 10  # seconds after which a run counts as hanging
 
 
+def in_memory():
+    """A folder for files in memory, where a sync costs nothing, or None."""
+    return "/dev/shm" if os.access("/dev/shm", os.W_OK | os.X_OK) else None
+
+
 def dynamic():
     """What stands before a command's other words: the same objects as the program's, linked so that a library can be preloaded."""
     if not IS_ONE:
