@@ -11,6 +11,7 @@ import sys
 from checking import TOP, build, read
 
 TRIED = os.environ.get("AWAQLLA_TRIED")  # another program to be tried in its place, linked with the machine's C library: tools/mutants makes one
+STOPS = "AWAQLLA_STOPS" in os.environ  # the test is over at the first case with something wrong
 IS_ONE = bool(TRIED) or os.path.exists(os.path.join(TOP, "command", "awaqlla.c"))
 AWAQLLA = TRIED or os.path.join(TOP, "target" if IS_ONE else "", "awaqlla")
 PARTS = {"slots": ["report", "slots"], "record": ["report", "record"]}
