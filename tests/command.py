@@ -1,7 +1,7 @@
 """The command as these tests start it, quickly: its words, its input from a file, what it prints and says, its exit status.
 
 The one program is target/awaqlla, of command/awaqlla.c and the crates command_..; a preloaded library needs it linked with the machine's C library,
-as tools/program does it where it is given a path. Where there is no command/awaqlla.c, the programs of target/bin stand for it, and these have no exit status."""
+which `dynamic` does. Where there is no command/awaqlla.c, the programs of target/bin stand for it, and these have no exit status."""
 
 import os
 import signal
@@ -11,6 +11,7 @@ import sys
 from checking import TOP, build, read
 
 TRIED = os.environ.get("AWAQLLA_TRIED")  # another program to be tried in its place, linked with the machine's C library: tools/mutants makes one
+STOPS = "AWAQLLA_STOPS" in os.environ  # the test is over at the first case with something wrong
 IS_ONE = bool(TRIED) or os.path.exists(os.path.join(TOP, "command", "awaqlla.c"))
 AWAQLLA = TRIED or os.path.join(TOP, "target" if IS_ONE else "", "awaqlla")
 PARTS = {"slots": ["report", "slots"], "record": ["report", "record"]}
@@ -18,18 +19,37 @@ PROGRAMS = ("append", "list", "survey", "index", "merge", "trial", "report")
 WAIT = 10  # seconds after which a run counts as hanging
 
 
-def dynamic():
-    """What stands before a command's other words: the same objects as the program's, linked so that a library can be preloaded."""
-    if not IS_ONE:
-        build(*PROGRAMS)
-        return lambda name: [os.path.join(TOP, "target", "bin", word) if i == 0 else word for i, word in enumerate(PARTS.get(name, [name]))]
-    if TRIED:
-        return lambda name: [TRIED, name]
-    path = os.path.join(TOP, "target", "awaqlla-dynamic")
-    done = subprocess.run([os.path.join(TOP, "tools", "program"), path], cwd=TOP, stdout=subprocess.PIPE, stderr=subprocess.STDOUT)
+def in_memory():
+    """A folder for files in memory, where a sync costs nothing, or None."""
+    return "/dev/shm" if os.access("/dev/shm", os.W_OK | os.X_OK) else None
+
+
+def made(*words):
+    """Runs what builds something; where that fails, it says why, and the test is over."""
+    done = subprocess.run(words, cwd=TOP, stdout=subprocess.PIPE, stderr=subprocess.STDOUT)
     if done.returncode != 0:
         sys.stdout.write(done.stdout.decode("utf-8", "replace"))
         sys.exit(2)
+    return done.stdout.decode("utf-8", "replace")
+
+
+def ready():
+    """Builds the command where it is missing or old."""
+    if not IS_ONE:
+        build(*PROGRAMS)
+    elif not TRIED:
+        made(os.path.join(TOP, "tools", "program"))
+
+
+def dynamic():
+    """What stands before a command's other words: the same objects as the program's, linked so that a library can be preloaded."""
+    ready()
+    if not IS_ONE:
+        return lambda name: [os.path.join(TOP, "target", "bin", word) if i == 0 else word for i, word in enumerate(PARTS.get(name, [name]))]
+    path = TRIED or os.path.join(TOP, "target", "awaqlla-dynamic")
+    if not TRIED:
+        kit = os.path.dirname(os.path.dirname(made("rt", "doc").strip()))
+        made("cc", "-std=gnu99", "-O2", "-o", path, "command/awaqlla.c", "target/staticlib/libcommand.a", os.path.join(kit, "lib", "libos_c.a"))
     return lambda name: [path, name]
 
 
