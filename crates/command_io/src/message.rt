@@ -29,6 +29,18 @@ pub fn fail_of(text: &[u8], what: &[u8]) -> Status {
     Status::Failed
 }
 
+// The same with a second text that was handed in, between two parts of what is wrong.
+pub fn fail_between(text: &[u8], what: &[u8], word: &[u8], more: &[u8]) -> Status {
+    io::write_all(libc::STDERR_FILENO, b"awaqlla: ");
+    write_shown(text);
+    io::write_all(libc::STDERR_FILENO, b": ");
+    io::write_all(libc::STDERR_FILENO, what);
+    write_shown(word);
+    io::write_all(libc::STDERR_FILENO, more);
+    io::write_all(libc::STDERR_FILENO, b"\n");
+    Status::Failed
+}
+
 // Says what is wrong with the argument at a place, and fails.
 pub fn fail_argument(at: usize, what: &[u8]) -> Status {
     let mut word = io::buffer();

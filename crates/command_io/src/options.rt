@@ -23,7 +23,7 @@ pub enum Command {
     Demo,
     Drawn,
     Help,
-    Version,
+    Selftest,
     Nothing,
 }
 
@@ -91,7 +91,7 @@ fn asked_of(word: &[u8]) -> Command
     ensures { λ r. ⌜ r ≡ askedOf (now (word .entry)) ⌝ }
 {
     let rest3 = Command::Nothing;
-    let rest2 = command_if(word, b"--version", Command::Version, rest3);
+    let rest2 = command_if(word, b"selftest", Command::Selftest, rest3);
     let rest1 = command_if(word, b"--help", Command::Help, rest2);
     command_if(word, b"-h", Command::Help, rest1)
 }
@@ -152,4 +152,108 @@ fn dash_of(word: &[u8]) -> Flag
         return Flag::Dash;
     }
     Flag::Word
+}
+
+// Whether a command takes an option.
+pub fn takes(command: Command, flag: Flag) -> bool {
+    match flag {
+        Flag::Profile => takes_profile(command),
+        Flag::Log => is_append(command),
+        Flag::Index => is_append(command),
+        Flag::Wait => writes(command),
+        Flag::Tabs => is_slots(command),
+        Flag::Ticks => is_record(command),
+        Flag::Make => is_index(command),
+        Flag::Check => is_index(command),
+        _ => false,
+    }
+}
+
+fn takes_profile(command: Command) -> bool {
+    match command {
+        Command::Append => true,
+        Command::List => true,
+        Command::Survey => true,
+        _ => false,
+    }
+}
+
+fn writes(command: Command) -> bool {
+    match command {
+        Command::Append => true,
+        Command::Merge => true,
+        Command::Index => true,
+        _ => false,
+    }
+}
+
+fn is_append(command: Command) -> bool {
+    match command {
+        Command::Append => true,
+        _ => false,
+    }
+}
+
+fn is_slots(command: Command) -> bool {
+    match command {
+        Command::Slots => true,
+        _ => false,
+    }
+}
+
+fn is_record(command: Command) -> bool {
+    match command {
+        Command::Record => true,
+        _ => false,
+    }
+}
+
+fn is_index(command: Command) -> bool {
+    match command {
+        Command::Index => true,
+        _ => false,
+    }
+}
+
+// Whether an option stands already; of --make and --check one stands.
+pub fn has_flag(o: Options, flag: Flag) -> bool {
+    match flag {
+        Flag::Profile => o.profile,
+        Flag::Log => o.log,
+        Flag::Index => o.index > 0,
+        Flag::Wait => o.wait > 0,
+        Flag::Tabs => o.tabs,
+        Flag::Ticks => o.ticks,
+        Flag::Make => o.make || o.check,
+        Flag::Check => o.make || o.check,
+        _ => false,
+    }
+}
+
+// The options with one more, at a place. Behind it stands the next word; behind --index and --wait the one after that.
+pub fn with_flag(o: Options, flag: Flag, at: usize) -> Options {
+    let next = std::num::wrapping_add_usize(at, 1);
+    let mut r = o;
+    r.first = next;
+    match flag {
+        Flag::Profile => r.profile = true,
+        Flag::Log => r.log = true,
+        Flag::Index => r = with_places(r, next, r.wait),
+        Flag::Wait => r = with_places(r, r.index, next),
+        Flag::Tabs => r.tabs = true,
+        Flag::Ticks => r.ticks = true,
+        Flag::Make => r.make = true,
+        Flag::Check => r.check = true,
+        _ => (),
+    }
+    r
+}
+
+// The same with the places of INDEX and SECONDS, of which one is the word before the next.
+fn with_places(o: Options, index: usize, wait: usize) -> Options {
+    let mut r = o;
+    r.index = index;
+    r.wait = wait;
+    r.first = std::num::wrapping_add_usize(o.first, 1);
+    r
 }

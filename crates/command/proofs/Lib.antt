@@ -1,0 +1,2 @@
+-- The functions here need no law.
+-- Assumes nothing.

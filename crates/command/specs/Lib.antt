@@ -1,0 +1,2 @@
+-- No definitions of its own: each command has its crate.
+-- Assumes nothing.

@@ -1,0 +1,3 @@
+-- What the commands need of the listing.
+-- Assumes nothing.
+pub mod EndState

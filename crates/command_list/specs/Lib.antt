@@ -1,0 +1,3 @@
+-- The definition that the contracts cite: the exit status of an end state.
+-- Assumes nothing.
+pub mod Ends

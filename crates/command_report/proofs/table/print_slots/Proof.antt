@@ -1,0 +1,23 @@
+-- `print_slots` hands on the front of its array, which the chances fill.
+-- Assumes nothing.
+use lib.ListN.{length-take}
+use native.Mathlib.Omega.{arith}
+use borrow.Author.Needs.{needs}
+use Rattle.command_report.proofs.table.print_slots.Statement.{statement}
+use Rattle.command_report.proofs.table.print_slots.Tie as tie
+
+slice-aggregate-print-indexed : tie.Need-slice-aggregate-print-indexed
+slice-aggregate-print-indexed c = rw length-take (omega arith)
+
+pub print-slots-spec : {M : Type 1} → statement M
+print-slots-spec =
+    tie.close
+    (tie.spec
+    (λ c. search needs)
+    (λ c κs. search needs)
+    (λ c. search needs)
+    slice-aggregate-print-indexed
+    (λ c κs. search needs)
+    (λ c κs. search needs)
+    (λ c. search needs)
+    (λ c. search needs))

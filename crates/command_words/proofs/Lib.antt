@@ -1,0 +1,2 @@
+-- The table of refusals needs no law of its own.
+-- Assumes nothing.

@@ -1,3 +1,0 @@
--- What the program needs of the listing.
--- Assumes nothing.
-pub mod EndState

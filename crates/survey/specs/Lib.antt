@@ -1,2 +1,0 @@
--- No definitions: the program is thin over crate journal_listing.
--- Assumes nothing.
