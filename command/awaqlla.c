@@ -22,8 +22,7 @@ uint64_t awaqlla_patience(void);
 uint32_t awaqlla_is_file(size_t i);
 uint64_t awaqlla_take(const uint8_t *kinds, size_t n, uint32_t *ticks, size_t room);
 uint32_t awaqlla_run(const uint8_t *kinds, size_t n, const uint32_t *ticks, size_t count);
-uint32_t awaqlla_told(uint32_t what, size_t at);
-size_t awaqlla_demo(uint8_t *text, size_t room);
+uint32_t awaqlla_told(uint32_t what, const uint8_t *path, size_t size);
 
 enum guard { NO_LOCK, LOCK_BOTH, LOCK_VOLUME, LOCK_NAME };
 enum kind { MISSING, PLAIN, FOLDER, OTHER, DANGLING, UNREADABLE = 8, PRINTED_TO = 16, TOLD_TO = 32, GUARDED = 64 };
@@ -41,6 +40,11 @@ enum told { WAITING, NO_FOLDER, NO_PLAIN_LOCK, NOT_MADE, NOT_LOCKED, WAITED, NO_
 static char lock_path[PATH_MAX + 8];
 static int lock_made;
 
+static uint32_t told(enum told what, const char *path)
+{
+    return awaqlla_told(what, (const uint8_t *)path, strlen(path));
+}
+
 static int same_file(const struct stat *a, const struct stat *b)
 {
     return a->st_dev == b->st_dev && a->st_ino == b->st_ino;
@@ -52,28 +56,22 @@ static int full_path(const char *path, char out[PATH_MAX])
     if (realpath(path, out) != NULL)
         return 1;
     const char *slash = strrchr(path, '/');
-    const char *name = slash == NULL ? path : slash + 1;
-    size_t size = slash == NULL ? 1 : (size_t)(slash - path) + 1;
-    char folder[PATH_MAX];
-    if (size >= sizeof folder)
+    int front = slash == NULL ? 0 : (int)(slash - path) + 1;
+    char folder[PATH_MAX], full[PATH_MAX];
+    int size = snprintf(folder, sizeof folder, "%.*s.", front, path);
+    if (size < 0 || (size_t)size >= sizeof folder || realpath(folder, full) == NULL)
         return 0;
-    memcpy(folder, slash == NULL ? "." : path, size);
-    folder[size] = 0;
-    if (realpath(folder, out) == NULL || strlen(out) + strlen(name) + 2 > PATH_MAX)
-        return 0;
-    if (strcmp(out, "/") != 0)
-        strcat(out, "/");
-    strcat(out, name);
-    return 1;
+    size = snprintf(out, PATH_MAX, "%s%s%s", full, strcmp(full, "/") == 0 ? "" : "/", path + front);
+    return size >= 0 && size < PATH_MAX;
 }
 
 /* What stands at a name, and which of our streams and of our files it is. */
 static uint8_t kind_of(const char *path, const char *guarded)
 {
     struct stat found, other;
-    char here[PATH_MAX], there[PATH_MAX];
-    unsigned kind = MISSING;
+    unsigned kind;
     if (stat(path, &found) != 0) {
+        char here[PATH_MAX], there[PATH_MAX];
         int away = errno == ENOENT || errno == ENOTDIR;
         kind = lstat(path, &found) == 0 ? (away ? DANGLING : OTHER | UNREADABLE) : MISSING;
         if (kind == MISSING && guarded != NULL && full_path(path, here) && full_path(guarded, there) && strcmp(here, there) == 0)
@@ -98,7 +96,7 @@ static void heed(int number)
 }
 
 /* Takes the lock of an open file; says so where it waits, and gives up after --wait's seconds. */
-static uint32_t hold(int fd, size_t at)
+static uint32_t hold(int fd, const char *path)
 {
     if (flock(fd, LOCK_EX | LOCK_NB) == 0)
         return 0;
@@ -107,19 +105,19 @@ static uint32_t hold(int fd, size_t at)
     memset(&action, 0, sizeof action);
     action.sa_handler = heed;
     if (sigaction(SIGALRM, &action, NULL) != 0)
-        return awaqlla_told(NOT_LOCKED, at);
+        return told(NOT_LOCKED, path);
     for (uint64_t waited = 0;; waited += SECONDS_BEFORE_WORDS) {
         if (waited >= patience)
-            return awaqlla_told(WAITED, at);
+            return told(WAITED, path);
         if (waited == SECONDS_BEFORE_WORDS)
-            (void)awaqlla_told(WAITING, at);
+            (void)told(WAITING, path);
         alarm(patience - waited < SECONDS_BEFORE_WORDS ? (unsigned)(patience - waited) : SECONDS_BEFORE_WORDS);
         int held = flock(fd, LOCK_EX);
         alarm(0);
         if (held == 0)
             return 0;
         if (errno != EINTR)
-            return awaqlla_told(NOT_LOCKED, at);
+            return told(NOT_LOCKED, path);
     }
 }
 
@@ -141,23 +139,22 @@ static int open_lock(const char *volume)
 }
 
 /* Locks FILE.lock; one that was removed meanwhile is locked again. */
-static uint32_t lock_name(const char *volume, size_t at)
+static uint32_t lock_name(const char *volume)
 {
     struct stat held, found;
     char full[PATH_MAX];
-    if (!full_path(volume, full))
-        return awaqlla_told(stat(volume, &found) == 0 ? NO_NAME : NO_FOLDER, at);
     if (realpath(volume, full) == NULL && stat(volume, &found) == 0)
-        return awaqlla_told(NO_NAME, at);
-    (void)full_path(volume, full);
+        return told(NO_NAME, volume);
+    if (!full_path(volume, full))
+        return told(NO_FOLDER, volume);
     (void)snprintf(lock_path, sizeof lock_path, "%s.lock", full);
     for (;;) {
         int fd = open_lock(volume);
         if (fd < 0)
-            return awaqlla_told(errno == ELOOP || errno == ENXIO ? NO_PLAIN_LOCK : NOT_MADE, at);
+            return told(errno == ELOOP || errno == ENXIO ? NO_PLAIN_LOCK : NOT_MADE, lock_path);
         if (fstat(fd, &held) != 0 || !S_ISREG(held.st_mode))
-            return awaqlla_told(NO_PLAIN_LOCK, at);
-        uint32_t status = hold(fd, at);
+            return told(NO_PLAIN_LOCK, lock_path);
+        uint32_t status = hold(fd, lock_path);
         if (status != 0)
             return status;
         if (lstat(lock_path, &found) == 0 && same_file(&held, &found))
@@ -167,7 +164,7 @@ static uint32_t lock_name(const char *volume, size_t at)
 }
 
 /* Locks the volume itself, where there is one that can be read, so that its other names wait too. */
-static uint32_t lock_volume(const char *volume, size_t at)
+static uint32_t lock_volume(const char *volume)
 {
     struct stat found;
     int fd = open(volume, O_RDONLY | O_CLOEXEC | O_NONBLOCK);
@@ -177,7 +174,7 @@ static uint32_t lock_volume(const char *volume, size_t at)
         close(fd);
         return 0;
     }
-    return hold(fd, at);
+    return hold(fd, volume);
 }
 
 /* No stream is closed: a file that is opened would take its number. */
@@ -225,15 +222,15 @@ int main(int argc, char **argv)
         return (int)(taken & 3);
     uint32_t guard = guarded == NULL ? NO_LOCK : awaqlla_guard(), status = 0;
     if (guard == LOCK_BOTH || guard == LOCK_NAME)
-        status = lock_name(guarded, at);
+        status = lock_name(guarded);
     if (status == 0 && (guard == LOCK_BOTH || guard == LOCK_VOLUME))
-        status = lock_volume(guarded, at);
+        status = lock_volume(guarded);
     if (status == 0) {
         if (guard == LOCK_NAME && at < count)
             kinds[at] = kind_of(guarded, NULL);
         status = awaqlla_run(kinds, count, ticks, (size_t)taken);
     }
-    if (lock_made && (guard == LOCK_NAME || access(guarded, F_OK) != 0))
+    if (lock_made && guarded != NULL && (guard == LOCK_NAME || access(guarded, F_OK) != 0))
         (void)!unlink(lock_path);
     return (int)status;
 }

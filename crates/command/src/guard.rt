@@ -4,7 +4,8 @@ use crate::asked::Asked;
 use command_io::Command;
 use command_io::Status;
 use command_io::argument;
-use command_io::fail_argument;
+use command_io::fail_of;
+use command_io::write_shown;
 
 // The place so many words behind another.
 fn behind(at: usize, words: usize) -> usize {
@@ -85,15 +86,26 @@ fn files(command: Command) -> usize {
     }
 }
 
-// What a lock comes to.
-pub(crate) fn told(what: u32, at: usize) -> Status {
+// What a lock comes to, with the path of what is locked.
+pub(crate) fn told(what: u32, path: &[u8]) -> Status {
     match what {
-        0 => fail_argument(at, b"waiting for another command, which holds it"),
-        1 => fail_argument(at, b"its folder is missing"),
-        2 => fail_argument(at, b"its .lock is not a regular file"),
-        3 => fail_argument(at, b"its .lock cannot be made, and a command that writes locks it"),
-        4 => fail_argument(at, b"it cannot be locked"),
-        5 => fail_argument(at, b"another command holds it, and --wait is over"),
-        _ => fail_argument(at, b"a file without a name of its own cannot be locked"),
+        0 => waiting(path),
+        1 => fail_of(path, b"its folder is missing"),
+        2 => fail_of(path, b"not a regular file"),
+        3 => fail_of(path, b"it cannot be made, and an append locks it"),
+        4 => fail_of(path, b"it cannot be locked"),
+        5 => fail_of(path, b"another command holds it, and --wait is over"),
+        _ => fail_of(path, b"a file without a name of its own cannot be locked"),
     }
+}
+
+// That it is waited for.
+fn waiting(path: &[u8]) -> Status {
+    io::write_all(
+        libc::STDERR_FILENO,
+        b"awaqlla: waiting for another append, which holds ",
+    );
+    write_shown(path);
+    io::write_all(libc::STDERR_FILENO, b"\n");
+    Status::Failed
 }

@@ -4,6 +4,7 @@ mod asked;
 mod guard;
 mod run;
 mod take;
+
 ghost use Prim.Native.Nat.{_≤_, _<_, _+_, _^_};
 use command_io::status_number;
 
@@ -33,10 +34,10 @@ pub extern "C" fn awaqlla_is_file(i: usize) -> u32 {
 
 // What a lock comes to, in words; the exit status of a command that cannot have its lock.
 #[no_mangle]
-pub extern "C" fn awaqlla_told(what: u32, at: usize) -> u32
+pub extern "C" fn awaqlla_told(what: u32, path: &[u8]) -> u32
     ensures { λ r. ⌜ r ≤ 2 ⌝ }
 {
-    status_number(guard::told(what, at))
+    status_number(guard::told(what, path))
 }
 
 // What is read before the lock is taken: how many ticks; or 2^32 and the exit status, where the command is over.

@@ -19,12 +19,31 @@ pub(crate) fn run(a: Asked, kinds: &[u8], ticks: &[u32]) -> Status {
         Command::Merge => fail(b"merge: not built yet"),
         Command::Index => fail(b"index: not built yet"),
         Command::Trial => fail(b"trial: not built yet"),
-        Command::List => command_list::list(options, kinds),
-        Command::Survey => command_list::survey(options, kinds),
+        Command::List => list(options, kinds),
+        Command::Survey => survey(options, kinds),
         Command::Slots => command_report::slots(options, kinds),
         Command::Record => command_report::record(options, kinds),
         _ => told(a),
     }
+}
+
+// Whether one word more than so many stands behind the options.
+fn has_more(o: Options, words: usize) -> bool {
+    std::num::wrapping_add_usize(o.first, words) < os::arg_count()
+}
+
+fn list(o: Options, kinds: &[u8]) -> Status {
+    if has_more(o, 1) {
+        return fail(b"list takes one FILE, or a volume on standard input");
+    }
+    command_list::list(o, kinds)
+}
+
+fn survey(o: Options, kinds: &[u8]) -> Status {
+    if has_more(o, 1) {
+        return fail(b"survey takes one FILE, or a volume on standard input");
+    }
+    command_list::survey(o, kinds)
 }
 
 // Those that read no volume.
@@ -39,7 +58,7 @@ fn told(a: Asked) -> Status {
         Command::Drawn => fail(
             b"plot and page are tools of the clone, in python3: its awaqlla calls them",
         ),
-        _ => fail(b"not built yet"),
+        _ => fail(b"band and demo are tools of the clone: its awaqlla calls them"),
     }
 }
 
@@ -78,5 +97,8 @@ fn refusal_of(number: u64, at: usize) -> Status {
 
 // That no refusal has a number.
 fn no_refusal(at: usize) -> Status {
-    fail_argument(at, b"no refusal has that number; awaqlla refusal has them all")
+    fail_argument(
+        at,
+        b"no refusal has that number; awaqlla refusal has them all",
+    )
 }

@@ -46,7 +46,12 @@ fn twice(at: usize) -> Status {
     let size = command_io::argument(1, &mut command);
     let mut word = [0u8; 16];
     let length = command_io::argument(at, &mut word);
-    command_io::fail_between(&command[..size], b"one option too many: ", &word[..length], b"")
+    command_io::fail_between(
+        &command[..size],
+        b"one option too many: ",
+        &word[..length],
+        b"",
+    )
 }
 
 // A word that starts with a dash and is no option here.

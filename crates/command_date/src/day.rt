@@ -62,7 +62,12 @@ fn checked(word: &[u8], n: u16) -> Day
 
 // Whether a text has four digits, a dash, two, a dash and two.
 fn is_dated(word: &[u8]) -> bool {
-    are_two(word, 0) && are_two(word, 2) && is_dash(word, 4) && are_two(word, 5) && is_dash(word, 7) && are_two(word, 8)
+    are_two(word, 0)
+        && are_two(word, 2)
+        && is_dash(word, 4)
+        && are_two(word, 5)
+        && is_dash(word, 7)
+        && are_two(word, 8)
 }
 
 fn is_dash(word: &[u8], i: usize) -> bool {

@@ -72,7 +72,5 @@ fn print_day(day: u16) -> bool {
 
 // What the command takes.
 fn usage() -> Status {
-    fail(
-        b"date: it takes DAY [LAST], each a decimal number from 0 to 65535 without leading zeros",
-    )
+    fail(b"date: it takes DAY [LAST], each a decimal number from 0 to 65535 without leading zeros")
 }

@@ -116,6 +116,7 @@ fn is_free(at: usize, access: Access) -> bool {
         Access::Unreadable => fail_argument(at, b"it cannot be read"),
         Access::Printed => fail_argument(at, b"what is printed would go into it"),
         Access::Quiet => crate::ending::Status::Failed,
-    };
+    }
+    ;
     false
 }

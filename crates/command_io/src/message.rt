@@ -3,8 +3,8 @@
 ghost use mathlib.Core.Path.{_≡_};
 ghost use lib.ListN.{length};
 ghost use Rattle.io.specs.Counts.{Counts};
-use crate::shown::put_shown;
 use crate::ending::Status;
+use crate::shown::put_shown;
 
 // Says a line.
 pub fn say(what: &[u8]) {
@@ -91,10 +91,7 @@ pub fn await_input(what: &[u8]) {
 
 // Writes a text to standard output, and answers whether all of it is written; if not, that is said.
 pub fn write_output(text: &[u8]) -> bool {
-    crate::output::print(
-        text,
-        b"awaqlla: standard output: it cannot be written",
-    )
+    crate::output::print(text, b"awaqlla: standard output: it cannot be written")
 }
 
 // The same of a verdict, a line whose end is its last byte: it is then said too.

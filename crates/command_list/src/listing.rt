@@ -36,11 +36,7 @@ pub fn list(o: Options, kinds: &[u8]) -> command_io::Status {
 
 // The listing of a journal, and what is said of its end state.
 fn list_volume(v: &[u8], rule: Rule) -> command_io::Status {
-    let listed = print_listing(
-        v,
-        rule,
-        b"awaqlla: standard output: it cannot be written",
-    );
+    let listed = print_listing(v, rule, b"awaqlla: standard output: it cannot be written");
     let status = listed.status;
     if listed.written {
         return ended(status);

@@ -45,13 +45,25 @@ fn print_asked(v: &[u8], asked: Asked, ticks: bool) -> command_io::Status {
     let status = start.status;
     match asked {
         Asked::Name(word) => print_named(v, records, word, ticks, status),
-        Asked::At(i) => print_record(v, records, at_position(v, records, i as usize), ticks, status),
+        Asked::At(i) => print_record(
+            v,
+            records,
+            at_position(v, records, i as usize),
+            ticks,
+            status,
+        ),
         _ => command_io::Status::Failed,
     }
 }
 
 // The last record of the name in an argument.
-fn print_named(v: &[u8], records: usize, word: usize, ticks: bool, status: Status) -> command_io::Status {
+fn print_named(
+    v: &[u8],
+    records: usize,
+    word: usize,
+    ticks: bool,
+    status: Status,
+) -> command_io::Status {
     let mut name = [0u8; 33];
     let size = argument(word, &mut name);
     let place = last_named(v, records, &name[..size]);
@@ -59,7 +71,13 @@ fn print_named(v: &[u8], records: usize, word: usize, ticks: bool, status: Statu
 }
 
 // The record at a place; or the volume's fault, or that there is no such record.
-fn print_record(v: &[u8], records: usize, place: Place, ticks: bool, status: Status) -> command_io::Status {
+fn print_record(
+    v: &[u8],
+    records: usize,
+    place: Place,
+    ticks: bool,
+    status: Status,
+) -> command_io::Status {
     if place.found {
         if ticks {
             return if_written(lines::print_times(v, place.at), command_io::Status::Done);

@@ -106,7 +106,15 @@ fn put_head(layout: Layout, names: usize, room: &mut [u8]) -> usize {
 }
 
 // The line of an entry, behind what waits.
-fn put_line(v: &[u8], index: &[u8], k: usize, layout: Layout, asked: &[u32], room: &mut [u8], waiting: usize) -> Gathered {
+fn put_line(
+    v: &[u8],
+    index: &[u8],
+    k: usize,
+    layout: Layout,
+    asked: &[u32],
+    room: &mut [u8],
+    waiting: usize,
+) -> Gathered {
     let mut out = [0u8; journal_report::MAX_LINE];
     let size = entry_line(v, index, k, layout, asked, &mut out);
     gather_front(&out, size, room, waiting)

@@ -6,7 +6,26 @@ use text_digits::put;
 use text_digits::put_decimal;
 
 // The refusals' numbers that are in use, and how many they are.
-const NUMBERS: [u64; 18] = [1, 2, 3, 4, 5, 6, 7, 9, 10, 11, 12, 13, 14, 15, 16, 17, 18, 19];
+const NUMBERS: [u64; 18] = [
+    1,
+    2,
+    3,
+    4,
+    5,
+    6,
+    7,
+    9,
+    10,
+    11,
+    12,
+    13,
+    14,
+    15,
+    16,
+    17,
+    18,
+    19,
+];
 
 // Writes bytes to standard error.
 fn write(text: &[u8]) {
@@ -39,7 +58,10 @@ pub fn refused(number: u64) -> Status {
 // A line of the log.
 pub fn refused_log(number: u64, place: u64) -> Status {
     write_row(number);
-    write_place(b"; not so in the line of the log that starts at byte ", place);
+    write_place(
+        b"; not so in the line of the log that starts at byte ",
+        place,
+    );
     write(b"\n");
     Status::Refused
 }

@@ -21,7 +21,11 @@ pub fn put_refusal(line: &mut [u8], place: usize, number: u64) -> usize
             place,
             b"a name has 1 to 32 bytes, each 21 to 7e in hexadecimal: visible ASCII, no space",
         ),
-        5 => put(line, place, b"a chance is 1 to 999,999 in a million, 1 to 8 of them, rising"),
+        5 => put(
+            line,
+            place,
+            b"a chance is 1 to 999,999 in a million, 1 to 8 of them, rising",
+        ),
         6 => put(
             line,
             place,
@@ -48,7 +52,11 @@ pub fn put_refusal(line: &mut [u8], place: usize, number: u64) -> usize
             place,
             b"a record has at most 128 times, and the log has more lines of the name",
         ),
-        13 => put(line, place, b"no record of form 1 stands behind one of form 2"),
+        13 => put(
+            line,
+            place,
+            b"no record of form 1 stands behind one of form 2",
+        ),
         14 => put(
             line,
             place,
@@ -69,7 +77,11 @@ pub fn put_refusal(line: &mut [u8], place: usize, number: u64) -> usize
             place,
             b"an offered chance is at most 500,000 in a million: beyond even chances a limit is no guarantee",
         ),
-        18 => put(line, place, b"a share of links inside a band is 1 to 999,999 in a million"),
+        18 => put(
+            line,
+            place,
+            b"a share of links inside a band is 1 to 999,999 in a million",
+        ),
         19 => put(
             line,
             place,
