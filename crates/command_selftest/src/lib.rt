@@ -24,13 +24,13 @@ pub fn selftest() -> Status {
     let limits = limits_differing() == 0;
     let listing = volume::is_listed();
     let cuts = volume::cuts_differing() == 0;
-    let first = told(b"quantile: 64 answers of the Rust", quantiles);
-    let second = told(b"limit: 12 limits of two times, four figures each", limits);
-    let third = told(b"listing: a volume of 12 records", listing);
-    let fourth = told(b"append: cut after each of 61 bytes, and finished", cuts);
     let same = quantiles && limits && listing && cuts;
-    let last = verdict(same);
-    if_written(first && second && third && fourth && last, ending(same))
+    let written = told(b"quantile: 64 answers of the Rust", quantiles)
+        && told(b"limit: 12 limits of two times, four figures each", limits)
+        && told(b"listing: a volume of 12 records", listing)
+        && told(b"append: cut after each of 61 bytes, and finished", cuts)
+        && verdict(same);
+    if_written(written, ending(same))
 }
 
 // A part's line; whether it is written.

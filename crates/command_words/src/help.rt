@@ -44,6 +44,7 @@ fn print_part3() -> bool {
         \x20      awaqlla refusal [NUMBER]                              what a refusal's number means; all of them\n\
         \x20      awaqlla selftest                                      whether this machine gives the bits of stored answers\n\
         \x20      awaqlla demo                                          walks through all this with a small volume in a temporary folder\n\
+        \x20      awaqlla install PREFIX                                from a clone: puts what a package has under PREFIX\n\
         \x20      awaqlla -h | --help | --version\n\
         DATE is YYYY-MM-DD, 2000-01-01 to 2179-06-06; DAY counts the days since 2000-01-01, 0 to 65535. NAME is 1 to 32 visible ASCII\n\
         characters. There are 1 to 8 chances, rising, each 1 to 500000 in a million. TICKS are 2 to 128 numbers from 1 to 1048575, ticks of\n",
