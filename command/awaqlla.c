@@ -31,6 +31,10 @@ enum told { WAITING, NO_FOLDER, NO_PLAIN_LOCK, NOT_MADE, NOT_LOCKED, WAITED, NO_
 /* MXCSR as a process starts with it: every exception masked, no flush to zero, to nearest even. */
 #define DEFAULT_ENVIRONMENT 0x1f80u
 #define ARGUMENTS 64
+/* tools/program says the version, the commit and the kit. */
+#ifndef AWAQLLA_VERSION
+#define AWAQLLA_VERSION "of an unknown version"
+#endif
 #define SECONDS_BEFORE_WORDS 2
 
 static char lock_path[PATH_MAX + 8];
@@ -187,6 +191,16 @@ static int streams_are_open(void)
     return 1;
 }
 
+/* --version: what this program was made of. */
+static int say_version(void)
+{
+    static const char text[] = "awaqlla " AWAQLLA_VERSION "\n", failed[] = "awaqlla: standard output: it cannot be written\n";
+    if (write(1, text, sizeof text - 1) == (ssize_t)(sizeof text - 1))
+        return 0;
+    (void)!write(2, failed, sizeof failed - 1);
+    return 2;
+}
+
 int main(int argc, char **argv)
 {
     static uint8_t kinds[ARGUMENTS];
@@ -195,6 +209,8 @@ int main(int argc, char **argv)
     (void)signal(SIGPIPE, SIG_IGN);
     if (!streams_are_open())
         return 2;
+    if (argc > 1 && strcmp(argv[1], "--version") == 0)
+        return say_version();
     size_t at = awaqlla_guarded(), count = argc < ARGUMENTS ? (size_t)argc : ARGUMENTS;
     const char *guarded = at != 0 && at < (size_t)argc ? argv[at] : NULL;
     kinds[0] = kind_of("/dev/fd/0", NULL);

@@ -53,11 +53,19 @@ fn told(a: Asked) -> Status {
         Command::Day => command_date::tell_day(options),
         Command::Date => command_date::date(options),
         Command::Refusal => refusal(options),
+        Command::Selftest => selftest(options),
         Command::Drawn => fail(
             b"plot and page are tools of the clone, in python3: its awaqlla calls them",
         ),
         _ => fail(b"band and demo are tools of the clone: its awaqlla calls them"),
     }
+}
+
+fn selftest(o: Options) -> Status {
+    if has_more(o, 0) {
+        return fail(b"selftest takes nothing");
+    }
+    command_selftest::selftest()
 }
 
 // The command refusal: what a number means, or all of them.

@@ -18,9 +18,8 @@ pub(crate) fn take(a: Asked, kinds: &[u8], ticks: &mut [u32]) -> u64 {
     let command = a.command;
     match command {
         Command::Help => over(command_words::print_help()),
-        Command::Version => over(command_words::print_version()),
         Command::Nothing => over(fail(
-            b"it takes append, list, survey, slots, record, plot, page, merge, index, trial, band, day, date, refusal or demo; awaqlla --help says more",
+            b"it takes append, list, survey, slots, record, plot, page, merge, index, trial, band, day, date, refusal, selftest or demo; awaqlla --help says more",
         )),
         _ => take_options(a, kinds, ticks),
     }

@@ -17,7 +17,7 @@ unfoldable pub askedOf : List ℕ → Command
 askedOf w =
     cond (sameBytes w (bytesOf "-h")) C.Help
     (cond (sameBytes w (bytesOf "--help")) C.Help
-    (cond (sameBytes w (bytesOf "--version")) C.Version
+    (cond (sameBytes w (bytesOf "selftest")) C.Selftest
     C.Nothing))
 
 -- commands that need no volume; pictures and pages are drawn by tools of the clone

@@ -23,7 +23,7 @@ pub enum Command {
     Demo,
     Drawn,
     Help,
-    Version,
+    Selftest,
     Nothing,
 }
 
@@ -91,7 +91,7 @@ fn asked_of(word: &[u8]) -> Command
     ensures { λ r. ⌜ r ≡ askedOf (now (word .entry)) ⌝ }
 {
     let rest3 = Command::Nothing;
-    let rest2 = command_if(word, b"--version", Command::Version, rest3);
+    let rest2 = command_if(word, b"selftest", Command::Selftest, rest3);
     let rest1 = command_if(word, b"--help", Command::Help, rest2);
     command_if(word, b"-h", Command::Help, rest1)
 }

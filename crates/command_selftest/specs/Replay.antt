@@ -1,7 +1,7 @@
 -- Stored answers beside what the definitions give: how many differ.
 -- Assumes nothing.
 use Prim.Native.Nat.{ℕ, _+_}
-use mathlib.Core.Bool.{cond}
+use mathlib.Core.Bool.{Bool, cond}
 use mathlib.Core.List.{List, [], _∷_}
 use lib.Dec.{eqb}
 use lib.Ieee.{binary64, toBits}
@@ -10,6 +10,8 @@ use Rattle.pxfm.specs.Inverfc.{fErfcinvBits}
 use Rattle.limit.specs.declared.Figures.{Figures}
 use Rattle.limit.specs.Answer.{LimitResult, limited, refused}
 use Rattle.limit.specs.Limit.{limitOf}
+use Rattle.command_io.specs.declared.ending.Status.{Status}
+use Rattle.command_io.specs.declared.ending.Status.the-variants as S
 use Rattle.command_selftest.specs.declared.limits.Row.{Row}
 
 -- 1 where two patterns differ
@@ -40,3 +42,7 @@ answerDiffering row (refused n) = 4
 -- the same of what the limit operation answers
 unfoldable pub limitDiffering : Row → ℕ
 limitDiffering row = answerDiffering row (limitOf (row .form) (row .first ∷ row .second ∷ []) (row .chance))
+
+-- done where all are the same, and refused where one differs
+unfoldable pub endingOf : Bool → Status
+endingOf same = cond same S.Done S.Refused

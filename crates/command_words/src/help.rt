@@ -1,5 +1,5 @@
-// The help, as a terminal shows it, in parts; and the version.
-// Each answers the exit status, which is failed where standard output cannot be written.
+// The help, as a terminal shows it, in parts.
+// It answers the exit status, which is failed where standard output cannot be written.
 use command_io::Status;
 use command_io::if_written;
 use command_io::write_output;
@@ -8,11 +8,6 @@ use command_io::write_output;
 pub fn print_help() -> Status {
     let written = print_part1() && print_part2() && print_part3() && print_part4() && print_part5();
     if_written(written, Status::Done)
-}
-
-// The version.
-pub fn print_version() -> Status {
-    if_written(write_output(b"awaqlla 1.0\n"), Status::Done)
 }
 
 fn print_part1() -> bool {
@@ -47,7 +42,9 @@ fn print_part3() -> bool {
         \x20      awaqlla day DATE                                      the day of a date, as a record holds it\n\
         \x20      awaqlla date DAY [LAST]                               the date of a day, or of each day to LAST, a line each\n\
         \x20      awaqlla refusal [NUMBER]                              what a refusal's number means; all of them\n\
+        \x20      awaqlla selftest                                      whether this machine gives the bits of stored answers\n\
         \x20      awaqlla demo                                          walks through all this with a small volume in a temporary folder\n\
+        \x20      awaqlla install PREFIX                                from a clone: puts what a package has under PREFIX\n\
         \x20      awaqlla -h | --help | --version\n\
         DATE is YYYY-MM-DD, 2000-01-01 to 2179-06-06; DAY counts the days since 2000-01-01, 0 to 65535. NAME is 1 to 32 visible ASCII\n\
         characters. There are 1 to 8 chances, rising, each 1 to 500000 in a million. TICKS are 2 to 128 numbers from 1 to 1048575, ticks of\n",

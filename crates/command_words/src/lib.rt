@@ -16,5 +16,4 @@ pub use answer::refused_merge;
 pub use answer::refused_torn;
 pub use answer::torn;
 pub use help::print_help;
-pub use help::print_version;
 pub use refusal::put_refusal;
