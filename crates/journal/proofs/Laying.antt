@@ -10,7 +10,7 @@ use Rattle.facts.proofs.Orders.{by-order}
 use Rattle.text_digits.specs.Text.{roomFor, Put}
 use Rattle.text_digits.proofs.Putting.{put-nothing, put-put, put-as, put-whole}
 use Rattle.limit.specs.Formula.{sampleForm}
-use Rattle.journal_spec.specs.Bytes.{bytesOf, joined}
+use Rattle.journal_spec.specs.Bytes.{bytesOf, joined, AreBytes}
 use Rattle.journal_spec.specs.Section.{numberBytes, sectionBytes}
 use Rattle.limit.specs.Times.{maxCount}
 use Rattle.journal_spec.specs.Record.{maxName, maxChances, recordBytes}
@@ -74,6 +74,18 @@ module _ (d : List ℕ) (at w : ℕ) (xs : List ℕ) where
         let all : i ≡ length xs = omega (arith, l .few) in
         let text : take i xs ≡ xs = rw all (take-length xs) in
         put-as _ _ _ _ _ _ (ap (λ (ys : List ℕ). bytesOf 2 (length xs) ++ numberBytes w ys) text) (put-put _ _ _ _ _ _ _ _ count (l .put))
+
+-- bytes are their own numbers of one byte
+bytes-alone : (xs : List ℕ) → AreBytes xs → numberBytes 1 xs ≡ xs
+unfolding numberBytes bytesOf
+bytes-alone [] h = refl
+bytes-alone (x ∷ xs) h =
+    let low : x % 256 ≡ x = omega (arith, h .0) in
+    rw (low, bytes-alone xs (h .1)) refl
+
+pub bytes-section : (xs : List ℕ) → AreBytes xs → bytesOf 2 (length xs) ++ xs ≡ sectionBytes 1 xs
+unfolding sectionBytes
+bytes-section xs h = ap (λ (bs : List ℕ). bytesOf 2 (length xs) ++ bs) (sym (bytes-alone xs h))
 
 -- ---- the record
 

@@ -45,14 +45,8 @@ fn lay_head(out: &mut [u8], day: u16) -> usize
 fn lay_bytes(out: &mut [u8], at: usize, bytes: &[u8]) -> usize
     ensures { λ r. ⌜ Put (now (out .entry)) at (sectionBytes 1 (now (bytes .entry))) (now (out .exit)) r ⌝ }
 {
-    let n = bytes.len();
-    let mut p = lay_number(out, at, 2, n as u64);
-    let mut i: usize = 0;
-    while i < n {
-        p = lay_number(out, p, 1, bytes[i] as u64);
-        i += 1;
-    }
-    p
+    let p = lay_number(out, at, 2, bytes.len() as u64);
+    put(out, p, bytes)
 }
 
 // A section of chances or of times.

@@ -1,5 +1,5 @@
--- A request has what a call is handed, and what append and the model read of it is what stands in its fields: its day, name and chances; the times handed in, or those of its
--- name's lines in the log; and for a budget all of the record, or k bytes. Assumes nothing.
+-- A request has what a call is handed, and what append and the model read of it is what stands in its fields: its day, name and chances; the
+-- times handed in, or those of its name's lines in the log; and for a budget all of the record, or k bytes. Assumes nothing.
 use mathlib.Core.Path.{_≡_, refl, sym, ap, _∙_}
 use mathlib.Core.Logic.{_↔_}
 use Prim.Native.Nat.{ℕ, _≤_}

@@ -1,48 +1,21 @@
--- `lay_bytes` lays the name's count and its bytes, a number a turn. The measure is how many are left.
+-- `lay_bytes` lays the count of the name's bytes, and these behind it.
 -- Assumes nothing.
-use mathlib.Core.Path.{refl}
-use Prim.Native.Nat.{_-_}
 use native.Mathlib.Omega.{arith}
-use Rattle.journal.proofs.Laying.{Laid, laid-none, laid-next, laid-length, laid-all}
+use borrow.Author.Needs.{needs}
+use denote.Ref.{now}
+use Rattle.text_digits.proofs.Putting.{put-put, put-as}
+use Rattle.journal_spec.proofs.Numbers.{are-bytes}
+use Rattle.journal.proofs.Laying.{bytes-section}
 use Rattle.journal.proofs.layout.lay_bytes.Statement.{statement}
 use Rattle.journal.proofs.layout.lay_bytes.Tie as tie
 
-abbrev Inv-loop : tie.InvT-loop
-Inv-loop out₀ at bytes n p₀ i₀ out p i = Laid out₀ p₀ 1 bytes i out p
-
-abbrev μ-loop : tie.MeasureT-loop
-μ-loop out₀ at bytes n p₀ i₀ out p i = n - i
-
-loop-holds : tie.Need-loop-holds Inv-loop μ-loop
-loop-holds c = laid-none _ _ _ _
-
-cast-lay-number : tie.Need-cast-lay-number Inv-loop μ-loop
-cast-lay-number c = omega (arith, c .shared-slice-known2 .given (c .before .before .before .loop .i))
-
-loop-again : tie.Need-loop-again Inv-loop μ-loop
-loop-again c =
-    let head = c .before .before .before .before .before .before in
-    laid-next _ _ _ _ _ _ _ _ _ _ (head .loop .inv) (omega arith) refl (c .before .before .lay-number2 .ensures)
-
-same-length : tie.Need-same-length Inv-loop μ-loop
-same-length c = laid-length _ _ _ _ _ _ (c .before .before .before .before .lay-number .ensures) _ _ _ (c .before .loop .inv)
-
-returns : tie.Need-returns Inv-loop μ-loop
-returns c = laid-all _ _ _ _ _ _ (c .before .before .before .before .lay-number .ensures) _ _ _ (c .before .loop .inv) (omega arith)
+returns : tie.Need-returns
+returns c =
+    let second = c .before .before in
+    let first = second .before .before .before .before in
+    let known = first .before .before in
+    let bytes = are-bytes (now (known .before .before .args .bytes)) (λ i. omega (arith, known .shared-slice-known .given i)) in
+    put-as _ _ _ _ _ _ (bytes-section _ bytes) (put-put _ _ _ _ _ _ _ _ (first .lay-number .ensures) (second .put .ensures))
 
 pub lay-bytes-spec : {M : Type 1} → statement M
-lay-bytes-spec =
-    tie.close
-    (tie.spec
-    Inv-loop
-    μ-loop
-    (λ c κs. omega arith)
-    loop-holds
-    (λ c. omega arith)
-    cast-lay-number
-    (λ c κs. omega arith)
-    (λ c. omega arith)
-    (λ c. omega arith)
-    loop-again
-    same-length
-    returns)
+lay-bytes-spec = tie.close (tie.spec (λ c κs. search needs) (λ c κs. search needs) (λ c. search needs) returns)
