@@ -6,9 +6,9 @@ use mathlib.Core.List.{List}
 use Rattle.text_digits.specs.Same.{sameBytes}
 use Rattle.journal_spec.specs.Request.{Outcome}
 use Rattle.journal.specs.declared.Appended.{Appended}
-use Rattle.journal.specs.Answers.{outcomeOf}
+use Rattle.journal.specs.Answers.{outcomeWith, outcomeOf}
 
 pub leaves-same : (len : ℕ) (r : Appended) (slice wanted : List ℕ) (o : Outcome) (b : Bool) → outcomeOf len r slice ≡ o
     → b ≡ sameBytes slice wanted → b ≡ sameBytes (o .journal .slice) wanted
-unfolding outcomeOf
+unfolding outcomeWith
 leaves-same len r slice wanted o b e h = rw (← e) h
