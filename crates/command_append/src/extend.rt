@@ -91,10 +91,13 @@ fn append(
         (handed (given .indexed) (now (index .entry))) ⌝ }
     ensures { λ r. ⌜ (given .indexed ≡ false → now (index .exit) ≡ now (index .entry)) ⌝ }
 {
+    let day = given.day;
+    let rule = given.rule;
+    let indexed = given.indexed;
     let all = Asked {
-        day: given.day,
+        day,
         budget: Budget::All,
-        rule: given.rule,
+        rule,
     };
-    append_beside(v, len, name, chances, times, index, given.indexed, all)
+    append_beside(v, len, name, chances, times, index, indexed, all)
 }
