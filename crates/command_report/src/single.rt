@@ -42,7 +42,8 @@ fn read_record(o: Options, kinds: &[u8], asked: Asked) -> command_io::Status {
 // What is asked for. The volume is scanned once.
 fn print_asked(v: &[u8], asked: Asked, ticks: bool) -> command_io::Status {
     let mut index = index_room();
-    let status = begin(v, &mut index).status;
+    let begun = begin(v, &mut index);
+    let status = begun.status;
     let records = records_of(status);
     match asked {
         Asked::Name(word) => print_named(v, &index, records, word, ticks, status),

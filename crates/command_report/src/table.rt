@@ -51,12 +51,11 @@ fn print_slots(v: &[u8], tabs: bool, first: usize) -> command_io::Status {
     let n = chances(first, &mut asked);
     let mut index = index_room();
     let begun = begin(v, &mut index);
-    let layout = Layout {
-        name: begun.width,
-        tabs,
-    };
-    let written = print_lines(v, &index, begun.names, layout, &asked[..n]);
-    command_list::close_with(v, begun.status, written)
+    let status = begun.status;
+    let names = begun.names;
+    let name = begun.width;
+    let written = print_lines(v, &index, names, Layout { name, tabs }, &asked[..n]);
+    command_list::close_with(v, status, written)
 }
 
 // The head and the lines of so many entries, gathered, so that a write takes many; whether they were written.

@@ -6,8 +6,8 @@ use borrow.Author.Needs.{needs}
 use Rattle.command_report.proofs.table.print_slots.Statement.{statement}
 use Rattle.command_report.proofs.table.print_slots.Tie as tie
 
-slice-aggregate-print-indexed : tie.Need-slice-aggregate-print-indexed
-slice-aggregate-print-indexed c = rw length-take (omega arith)
+asked-front : tie.Need-slice-aggregate-print-lines-2
+asked-front c = rw length-take (omega arith)
 
 pub print-slots-spec : {M : Type 1} → statement M
 print-slots-spec =
@@ -17,7 +17,10 @@ print-slots-spec =
     (λ c κs. search needs)
     (λ c κs. search needs)
     (λ c. search needs)
-    slice-aggregate-print-indexed
+    (λ c κs. search needs)
+    (λ c. search needs)
+    (λ c. search needs)
+    asked-front
     (λ c κs. search needs)
     (λ c κs. search needs)
     (λ c. search needs))
