@@ -5,6 +5,7 @@ The expected bytes come from tools/leaf.py, which is written from documents 01 a
 
 import itertools
 import os
+import re
 import resource
 import signal
 import subprocess
@@ -12,7 +13,7 @@ import sys
 import tempfile
 
 TOP = os.path.dirname(os.path.dirname(os.path.abspath(__file__)))
-PROGRAMS = os.path.join(TOP, "target", "bin")
+PROGRAM = os.path.join(TOP, "target", "awaqlla")
 sys.path.insert(0, os.path.join(TOP, "tools"))
 from leaf import EIGHT, OFFERED, OLD, Leaf  # noqa: E402, F401 (the path is set above; the checks import these from here)
 
@@ -57,12 +58,23 @@ def report(name):
 # ---- Files and programs.
 
 
-def build(*crates):
-    """Proves and builds programs where they are missing or old."""
-    done = subprocess.run(["rt", "check", *crates], cwd=TOP, stdout=subprocess.PIPE, stderr=subprocess.STDOUT)
+def build():
+    """Proves and builds target/awaqlla where it is missing or old."""
+    done = subprocess.run([os.path.join(TOP, "tools", "program")], stdout=subprocess.PIPE, stderr=subprocess.STDOUT)
     if done.returncode != 0:
         sys.stdout.write(done.stdout.decode("utf-8", "replace"))
         sys.exit(2)
+
+
+def unexplained(said):
+    """What a command says on standard error, without the lines that put its verdict into words; these are tests/programs-check's."""
+    return b"".join(line for line in said.splitlines(True) if not re.match(rb"awaqlla: (\d+: |from byte \d+ on |head -c \d+ )", line))
+
+
+def status_of(out):
+    """The exit status of what a command printed: 2 where it printed nothing."""
+    last = out.splitlines()[-1:]
+    return 2 if not last else 1 if last[0].split(b" ")[0] in (b"declined", b"log", b"damaged", b"torn", b"refused") and last[0].count(b" ") < 4 else 0
 
 
 def read(path):
@@ -82,8 +94,8 @@ def write(path, data):
 
 
 def run(program, data):
-    done = subprocess.run([os.path.join(PROGRAMS, program)], input=data, capture_output=True, timeout=WAIT)
-    expect(f"{program}: standard error", done.stderr, b"")
+    done = subprocess.run([PROGRAM, program], input=data, capture_output=True, timeout=WAIT)
+    expect(f"{program}: standard error", unexplained(done.stderr), b"")
     return done.stdout.decode("ascii")
 
 
@@ -99,9 +111,9 @@ def limited(largest):
 
 def called(program, *words, **options):
     """What a program prints, and what it says on standard error."""
-    done = subprocess.run([os.path.join(PROGRAMS, program), *words], stdin=subprocess.DEVNULL, capture_output=True, timeout=WAIT, **options)
-    expect(f"{program} {words}: exit status", done.returncode, 0)
-    return done.stdout.decode("ascii"), done.stderr.decode("ascii", "replace")
+    done = subprocess.run([PROGRAM, program, *words], stdin=subprocess.DEVNULL, capture_output=True, timeout=WAIT, **options)
+    expect(f"{program} {words}: exit status", done.returncode, status_of(done.stdout))
+    return done.stdout.decode("ascii"), unexplained(done.stderr).decode("ascii", "replace")
 
 
 def piped(command, data, pieces=None):
@@ -115,11 +127,11 @@ def piped(command, data, pieces=None):
     except BrokenPipeError:
         pass  # it stops reading at a line that is refused
     try:
-        return process.communicate(timeout=WAIT)
+        out, err = process.communicate(timeout=WAIT)
     except BrokenPipeError:
-        said = process.stdout.read(), process.stderr.read()
+        out, err = process.stdout.read(), process.stderr.read()
         process.wait()
-        return said
+    return out, unexplained(err)
 
 
 def answered(tool, *words, given=b""):
@@ -187,8 +199,8 @@ def close_all(closed):
         os.close(number)
 
 
-def closed_streams(folder, command, status):
-    """command is what stands before FILE. With a stream closed nothing may change; status is the exit status then, and 0 or 1 else."""
+def closed_streams(folder, command):
+    """command is what stands before FILE. With a stream closed nothing may change, and the exit status is 2."""
     path = os.path.join(folder, "volume")
     base = Leaf(day=5)
     data = base.bytes()
@@ -207,7 +219,7 @@ def closed_streams(folder, command, status):
             )
         said = read(names[2])
         if closed:
-            verdict, after, wanted = b"", before, status
+            verdict, after, wanted = b"", before, 2
             if 2 not in closed:
                 expect(f"{what}: standard error", said.count(b"\n"), 1)
         elif kind == "damaged":
@@ -219,5 +231,5 @@ def closed_streams(folder, command, status):
             verdict, wanted = b"extended %d\n" % len(after), 0
         expect(f"{what}: standard output", read(names[1]), verdict)
         expect(f"{what}: file", read(path), after)
-        expect(f"{what}: exit status", done.returncode, wanted if status else 0)
+        expect(f"{what}: exit status", done.returncode, wanted)
         count("sets of streams closed, over missing, whole, torn and damaged files")
