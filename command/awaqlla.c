@@ -12,6 +12,7 @@
 #include <string.h>
 #include <sys/file.h>
 #include <sys/stat.h>
+#include <sys/time.h>
 #include <unistd.h>
 #include <xmmintrin.h>
 
@@ -26,7 +27,7 @@ uint32_t awaqlla_told(uint32_t what, const uint8_t *path, size_t size);
 
 enum guard { NO_LOCK, LOCK_BOTH, LOCK_VOLUME, LOCK_NAME };
 enum kind { MISSING, PLAIN, FOLDER, OTHER, DANGLING, UNREADABLE = 8, PRINTED_TO = 16, TOLD_TO = 32, GUARDED = 64 };
-enum told { WAITING, NO_FOLDER, NO_PLAIN_LOCK, NOT_MADE, NOT_LOCKED, WAITED, NO_NAME };
+enum told { WAITING, NO_FOLDER, NO_PLAIN_LOCK, NOT_MADE, NOT_LOCKED, WAITED, NO_NAME, HIDDEN };
 
 /* MXCSR as a process starts with it: every exception masked, no flush to zero, to nearest even. */
 #define DEFAULT_ENVIRONMENT 0x1f80u
@@ -65,18 +66,25 @@ static int full_path(const char *path, char out[PATH_MAX])
     return size >= 0 && size < PATH_MAX;
 }
 
-/* What stands at a name, and which of our streams and of our files it is. */
-static uint8_t kind_of(const char *path, const char *guarded)
+/* Whether the last call failed since there is no such file; any other error says nothing of the file. */
+static int is_missing(void)
+{
+    return errno == ENOENT || errno == ENOTDIR;
+}
+
+/* What stands at a name, and which of our streams and of our files it is; -1 where an error hides it. */
+static int kind_of(const char *path, const char *guarded)
 {
     struct stat found, other;
     unsigned kind;
     if (stat(path, &found) != 0) {
         char here[PATH_MAX], there[PATH_MAX];
-        int away = errno == ENOENT || errno == ENOTDIR;
-        kind = lstat(path, &found) == 0 ? (away ? DANGLING : OTHER | UNREADABLE) : MISSING;
+        if (!is_missing())
+            return -1;
+        kind = lstat(path, &found) == 0 ? DANGLING : MISSING;
         if (kind == MISSING && guarded != NULL && full_path(path, here) && full_path(guarded, there) && strcmp(here, there) == 0)
             kind |= GUARDED;
-        return (uint8_t)kind;
+        return (int)kind;
     }
     kind = S_ISREG(found.st_mode) ? PLAIN : S_ISDIR(found.st_mode) ? FOLDER : OTHER;
     if (access(path, R_OK) != 0)
@@ -85,14 +93,35 @@ static uint8_t kind_of(const char *path, const char *guarded)
         kind |= PRINTED_TO;
     if ((kind & PLAIN) != 0 && fstat(2, &other) == 0 && same_file(&found, &other))
         kind |= TOLD_TO;
-    if (guarded != NULL && stat(guarded, &other) == 0 && same_file(&found, &other))
-        kind |= GUARDED;
-    return (uint8_t)kind;
+    if (guarded != NULL && stat(guarded, &other) == 0)
+        kind |= same_file(&found, &other) ? GUARDED : 0;
+    else if (guarded != NULL && !is_missing())
+        return -1;
+    return (int)kind;
+}
+
+/* Puts what stands at a file's name, or says that an error hides it. */
+static uint32_t look(const char *path, const char *guarded, uint8_t *kind)
+{
+    int found = kind_of(path, guarded);
+    if (found < 0)
+        return told(HIDDEN, path);
+    *kind = (uint8_t)found;
+    return 0;
 }
 
 static void heed(int number)
 {
     (void)number;
+}
+
+/* A signal every second, or none, so that a wait is looked at again. */
+static int tick(int on)
+{
+    struct itimerval every;
+    memset(&every, 0, sizeof every);
+    every.it_interval.tv_sec = every.it_value.tv_sec = on;
+    return setitimer(ITIMER_REAL, &every, NULL);
 }
 
 /* Takes the lock of an open file; says so where it waits, and gives up after --wait's seconds. */
@@ -104,18 +133,17 @@ static uint32_t hold(int fd, const char *path)
     struct sigaction action;
     memset(&action, 0, sizeof action);
     action.sa_handler = heed;
-    if (sigaction(SIGALRM, &action, NULL) != 0)
+    if (sigaction(SIGALRM, &action, NULL) != 0 || tick(1) != 0)
         return told(NOT_LOCKED, path);
-    for (uint64_t waited = 0;; waited += SECONDS_BEFORE_WORDS) {
+    for (uint64_t waited = 0;; waited++) {
         if (waited >= patience)
             return told(WAITED, path);
         if (waited == SECONDS_BEFORE_WORDS)
             (void)told(WAITING, path);
-        alarm(patience - waited < SECONDS_BEFORE_WORDS ? (unsigned)(patience - waited) : SECONDS_BEFORE_WORDS);
-        int held = flock(fd, LOCK_EX);
-        alarm(0);
-        if (held == 0)
+        if (flock(fd, LOCK_EX) == 0) {
+            (void)tick(0);
             return 0;
+        }
         if (errno != EINTR)
             return told(NOT_LOCKED, path);
     }
@@ -135,6 +163,8 @@ static int open_lock(const char *volume)
     lock_made = 1;
     if (stat(volume, &found) == 0)
         (void)!fchmod(fd, found.st_mode & 0666);
+    else if (!is_missing())
+        return -1;
     return fd;
 }
 
@@ -143,7 +173,7 @@ static uint32_t lock_name(const char *volume)
 {
     struct stat held, found;
     char full[PATH_MAX];
-    if (realpath(volume, full) == NULL && stat(volume, &found) == 0)
+    if (realpath(volume, full) == NULL && (stat(volume, &found) == 0 || !is_missing()))
         return told(NO_NAME, volume);
     if (!full_path(volume, full))
         return told(NO_FOLDER, volume);
@@ -157,8 +187,12 @@ static uint32_t lock_name(const char *volume)
         uint32_t status = hold(fd, lock_path);
         if (status != 0)
             return status;
-        if (lstat(lock_path, &found) == 0 && same_file(&held, &found))
+        if (lstat(lock_path, &found) != 0) {
+            if (!is_missing())
+                return told(NOT_LOCKED, lock_path);
+        } else if (same_file(&held, &found)) {
             return 0;
+        }
         close(fd);
     }
 }
@@ -169,8 +203,10 @@ static uint32_t lock_volume(const char *volume)
     struct stat found;
     int fd = open(volume, O_RDONLY | O_CLOEXEC | O_NONBLOCK);
     if (fd < 0)
-        return 0;
-    if (fstat(fd, &found) != 0 || !S_ISREG(found.st_mode)) {
+        return is_missing() || errno == EACCES ? 0 : told(NOT_LOCKED, volume);
+    if (fstat(fd, &found) != 0)
+        return told(NOT_LOCKED, volume);
+    if (!S_ISREG(found.st_mode)) {
         close(fd);
         return 0;
     }
@@ -213,10 +249,11 @@ int main(int argc, char **argv)
         return say_version();
     size_t at = awaqlla_guarded(), count = argc < ARGUMENTS ? (size_t)argc : ARGUMENTS;
     const char *guarded = at != 0 && at < (size_t)argc ? argv[at] : NULL;
-    kinds[0] = kind_of("/dev/fd/0", NULL);
+    int input = kind_of("/dev/fd/0", NULL);
+    kinds[0] = input < 0 ? OTHER : (uint8_t)input;
     for (size_t i = 1; i < count; i++)
-        if (awaqlla_is_file(i) != 0)
-            kinds[i] = kind_of(argv[i], i == at ? NULL : guarded);
+        if (awaqlla_is_file(i) != 0 && look(argv[i], i == at ? NULL : guarded, &kinds[i]) != 0)
+            return 2;
     uint64_t taken = awaqlla_take(kinds, count, ticks, sizeof ticks / sizeof ticks[0]);
     if (taken > UINT32_MAX)
         return (int)(taken & 3);
@@ -225,11 +262,10 @@ int main(int argc, char **argv)
         status = lock_name(guarded);
     if (status == 0 && (guard == LOCK_BOTH || guard == LOCK_VOLUME))
         status = lock_volume(guarded);
-    if (status == 0) {
-        if (guard == LOCK_NAME && at < count)
-            kinds[at] = kind_of(guarded, NULL);
+    if (status == 0 && guard == LOCK_NAME && at < count)
+        status = look(guarded, NULL, &kinds[at]);
+    if (status == 0)
         status = awaqlla_run(kinds, count, ticks, (size_t)taken);
-    }
     if (lock_made && guarded != NULL && (guard == LOCK_NAME || access(guarded, F_OK) != 0))
         (void)!unlink(lock_path);
     return (int)status;

@@ -95,6 +95,7 @@ pub(crate) fn told(what: u32, path: &[u8]) -> Status {
         3 => fail_of(path, b"it cannot be made, and an append locks it"),
         4 => fail_of(path, b"it cannot be locked"),
         5 => fail_of(path, b"another command holds it, and --wait is over"),
+        7 => fail_of(path, b"an error hides what stands there"),
         _ => fail_of(path, b"a file without a name of its own cannot be locked"),
     }
 }

@@ -14,11 +14,10 @@ pub(crate) fn run(a: Asked, kinds: &[u8], ticks: &[u32]) -> Status {
     let command = a.command;
     let options = a.options;
     match command {
-        // writers: the four that write, or read a log
-        Command::Append => fail(b"append: not built yet"),
-        Command::Merge => fail(b"merge: not built yet"),
-        Command::Index => fail(b"index: not built yet"),
-        Command::Trial => fail(b"trial: not built yet"),
+        Command::Append => command_append::append(options, kinds, ticks),
+        Command::Merge => command_merge::merge(options, kinds),
+        Command::Index => command_index::index(options, kinds),
+        Command::Trial => command_trial::trial(options, kinds),
         Command::List => list(options, kinds),
         Command::Survey => survey(options, kinds),
         Command::Slots => command_report::slots(options, kinds),

@@ -2,8 +2,8 @@
 // The answer is the number of ticks, or 2^32 and the exit status of a command that is over.
 use crate::asked::Asked;
 use crate::asked::Trouble;
+use command_append::Taken;
 use command_io::Command;
-use command_io::Options;
 use command_io::Status;
 use command_io::fail;
 use command_io::status_number;
@@ -73,12 +73,26 @@ fn take_command(a: Asked, kinds: &[u8], ticks: &mut [u32]) -> u64 {
     let command = a.command;
     let options = a.options;
     match command {
-        // writers: append's ticks or log; index and merge judged before the lock
-        Command::Append => take_append(options, kinds, ticks),
+        Command::Append => taken(command_append::take(options, kinds, ticks)),
+        Command::Merge => judged(command_merge::judge(options, kinds)),
+        Command::Index => judged(command_index::judge(options, kinds)),
         _ => 0,
     }
 }
 
-fn take_append(o: Options, kinds: &[u8], ticks: &mut [u32]) -> u64 {
-    over(fail(b"append: not built yet"))
+// The ticks that were taken, or that the command is over.
+fn taken(t: Taken) -> u64 {
+    match t {
+        Taken::Ticks(count) => count as u64,
+        Taken::Over(s) => over(s),
+    }
+}
+
+// Whether a command goes on.
+fn judged(s: Status) -> u64 {
+    match s {
+        Status::Done => 0,
+        Status::Refused => over(s),
+        Status::Failed => over(s),
+    }
 }

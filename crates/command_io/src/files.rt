@@ -120,7 +120,8 @@ fn sync(program: &[u8], folder: &[u8]) -> bool {
     let fd = os::open_read(folder);
     if 0 <= fd {
         if libc::fsync(fd) == 0 {
-            return libc::close(fd) == 0;
+            libc::close(fd);
+            return true;
         }
     }
     fail_file(program, folder);

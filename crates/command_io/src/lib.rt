@@ -2,6 +2,7 @@
 // they print their help, gather their output, and say where standard output or a file fails. No public function has a `requires`.
 mod digit;
 mod ending;
+mod file;
 mod files;
 mod help;
 mod input;
@@ -13,12 +14,19 @@ mod options;
 mod output;
 mod path;
 mod pieces;
+mod places;
 mod shown;
 
 pub use digit::Number;
 pub use ending::Status;
 pub use ending::if_written;
 pub use ending::status_number;
+pub use file::File;
+pub use file::Held;
+pub use file::made;
+pub use file::open_held;
+pub use file::path_at;
+pub use file::write_synced;
 pub use files::complain;
 pub use files::fail_file;
 pub use files::read_argument;
@@ -70,4 +78,7 @@ pub use path::folder_end;
 pub use pieces::Gathered;
 pub use pieces::flush;
 pub use pieces::gather;
+pub use places::behind;
+pub use places::inside;
+pub use places::words_from;
 pub use shown::put_shown;

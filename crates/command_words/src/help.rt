@@ -38,7 +38,7 @@ fn print_part2() -> bool {
 
 fn print_part3() -> bool {
     write_output(
-        b"\x20      awaqlla band SHARE TICKS..                            the shortest and the longest time with a share of links inside\n\
+        b"\x20      awaqlla band SHARE TICKS..                            the shortest and the longest time with a share of links inside; needs cc\n\
         \x20      awaqlla day DATE                                      the day of a date, as a record holds it\n\
         \x20      awaqlla date DAY [LAST]                               the date of a day, or of each day to LAST, a line each\n\
         \x20      awaqlla refusal [NUMBER]                              what a refusal's number means; all of them\n\

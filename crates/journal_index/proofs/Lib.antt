@@ -5,6 +5,8 @@ mod Comparing
 mod Latest
 pub mod OwnPass
 pub mod Checking
+pub mod IndexShort
+mod Beginning
 mod Making
 mod Answered
 mod Appending

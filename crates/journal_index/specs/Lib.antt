@@ -3,6 +3,7 @@
 pub mod Outcome
 pub mod Checked
 pub mod Made
+pub mod Begun
 -- for private contracts: what stands in bytes, and the entries of records at places
 pub mod Standing
 pub mod Places

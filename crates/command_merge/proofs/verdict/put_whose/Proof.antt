@@ -1,0 +1,54 @@
+-- `put_whose` puts one of two words and the line end.
+-- Assumes nothing.
+use borrow.Author.Needs.{needs}
+use Rattle.journal_merge.specs.Answers.{whoseOf}
+use Rattle.command_merge.specs.Verdict.{whoseWord}
+use Rattle.command_merge.proofs.verdict.put_whose.Statement.{statement}
+use Rattle.command_merge.proofs.verdict.put_whose.Tie as tie
+
+enum-told : tie.Need-enum-told
+enum-told c = search needs
+
+slice-aggregate-put : tie.Need-slice-aggregate-put
+slice-aggregate-put c = search needs
+
+put-requires : tie.Need-put-requires
+put-requires c κs = search needs
+
+enum-told-2 : tie.Need-enum-told-2
+enum-told-2 c = search needs
+
+slice-aggregate-put-2 : tie.Need-slice-aggregate-put-2
+slice-aggregate-put-2 c = search needs
+
+put-requires-2 : tie.Need-put-requires-2
+put-requires-2 c κs = search needs
+
+same-length : tie.Need-same-length
+same-length c = search needs
+
+same-length-2 : tie.Need-same-length-2
+same-length-2 c = search needs
+
+returns : tie.Need-returns
+unfolding whoseWord whoseOf
+returns c = rw (c .before .before .before .before .before .enum-told .given .1) (c .before .before .put .ensures)
+
+returns-2 : tie.Need-returns-2
+unfolding whoseWord whoseOf
+returns-2 c = rw (c .before .before .before .before .before .enum-told2 .given .1) (c .before .before .put2 .ensures)
+
+pub put-whose-spec : {M : Type 1} → statement M
+put-whose-spec =
+    tie.close
+    (tie.spec
+    enum-told
+    slice-aggregate-put
+    put-requires
+    enum-told-2
+    slice-aggregate-put-2
+    put-requires-2
+    same-length
+    returns
+    same-length-2
+    returns-2)
