@@ -5,7 +5,6 @@ pub mod Counted
 pub mod LowestChance
 pub mod Padded
 pub mod Indexed
-pub mod Found
 pub mod Answered
 pub mod Owned
 pub mod Deciding

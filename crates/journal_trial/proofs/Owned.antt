@@ -13,10 +13,10 @@ use Rattle.journal_spec.specs.Ranges.{RecordRanges}
 use Rattle.journal_spec.specs.Profile.{plain}
 use Rattle.journal_spec.specs.Scan.{Placed, recordsOf, standing, contentsOf}
 use Rattle.journal_spec.specs.Index.{IndexEntry, indexOf}
-use Rattle.journal_spec.proofs.Pieces.{RecordHere, record-here}
 use Rattle.journal_spec.specs.Indexed.{standingAt}
 use Rattle.journal_spec.proofs.Standing.{noEntry}
 use Rattle.journal_spec.proofs.StandingBytes.{standing-bytes, standing-there}
+use Rattle.journal_parts.proofs.Parts.{Parts, parts-are}
 
 module _ (v : List ℕ) (len : ℕ) (ps : List Placed) (committed : ℕ) (b : AreBytes v) (s : contentsOf plain v len ≡ standing ps committed) where
   abbrev entries : List IndexEntry
@@ -27,7 +27,7 @@ module _ (v : List ℕ) (len : ℕ) (ps : List Placed) (committed : ℕ) (b : Ar
     pub shown : Record
     pub last : Last
     pub ranges : RecordRanges last shown
-    pub here : RecordHere v (getD entries i noEntry .start) shown
+    pub here : Parts v (getD entries i noEntry .start) shown
     pub is : standingAt (recordsOf ps) entries i ≡ some shown
     pub named : shown .name ≡ getD entries i noEntry .name
 
@@ -44,7 +44,7 @@ module _ (v : List ℕ) (len : ℕ) (ps : List Placed) (committed : ℕ) (b : Ar
         shown = x .shown;
         last = x .last;
         ranges = x .ranges;
-        here = record-here v start (x .last) (x .shown) (x .back) (omega (arith, x .place, all)) (x .ranges) there;
+        here = parts-are v start (x .last) (x .shown) (x .back) (omega (arith, x .place, all)) (x .ranges) there;
         is = standing-there v len ps committed b s i h;
         named = x .named;
       }

@@ -9,7 +9,8 @@ use crate::counting::Counts;
 use crate::counting::count_links;
 use crate::lowest::lowest;
 use journal::Fault;
-use journal_parts::number_in;
+use journal_parts::part_of;
+use journal_parts::spans_at;
 
 // Document 02's number for a line of the log that is refused.
 pub(crate) const LINE_REFUSAL: u32 = 11;
@@ -38,17 +39,13 @@ pub(crate) fn try_record(log: &[u8], v: &[u8], at: usize) -> Trial
     requires { ⌜ Tryable (now v) at ⌝ }
     ensures { λ r. ⌜ r ≡ recordTried (now (v .entry)) at (logOf (now (log .entry))) ⌝ }
 {
-    let name = at + 6;
-    let names = number_in(v, at + 4, 2) as usize;
-    let name_end = name + names;
-    let count = number_in(v, name_end, 2) as usize;
-    let chances = name_end + 2;
-    let chances_end = chances + 4 * count;
-    let times = number_in(v, chances_end, 2) as usize;
-    let limits = chances_end + 4 + 4 * times;
-    let limits_end = limits + 8 * count;
-    let c = count_links(log, &v[name..name_end], &v[limits..limits_end]);
-    finish(c, count, &v[chances..chances_end])
+    let s = spans_at(v, at);
+    let name = part_of(v, s.name);
+    let limits = part_of(v, s.limits);
+    let chances = part_of(v, s.chances);
+    let count = s.chances.count;
+    let c = count_links(log, name, limits);
+    finish(c, count, chances)
 }
 
 // What the counts come to, with the bytes of the chances.

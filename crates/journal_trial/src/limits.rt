@@ -5,10 +5,11 @@ ghost use Prim.Native.Nat.{ℕ, _+_, _*_, _≤_, _<_};
 ghost use lib.ListN.{length, getD};
 ghost use Rattle.journal_entries.specs.Entries.{startIn};
 ghost use Rattle.journal_trial.specs.Counting.{overAt};
-ghost use Rattle.journal_trial.specs.Answers.{Tryable};
 ghost use Rattle.journal_trial.specs.Together.{overBits, limitBytes, LimitsOf, LimitsPut};
 use journal_entries::start_at;
 use journal_parts::number_in;
+use journal_parts::part_of;
+use journal_parts::spans_at;
 
 // The limits of a position, and the pattern that stands for none.
 const MAX_LIMITS: usize = 8;
@@ -17,7 +18,6 @@ const NONE: u64 = 0x7ff8_0000_0000_0000;
 
 // The limits of the records whose entries stand at some places of the index.
 pub(crate) fn read_limits(v: &[u8], index: &[u8], places: &[usize], limits: &mut [u64])
-    requires { ⌜ ((k : ℕ) → k < length (now places) → Tryable (now v) (startIn (now index) (getD (now places) k 0))) ⌝ }
     requires { ⌜ 8 * length (now places) ≤ length (now limits) ⌝ }
     ensures { λ r. ⌜ LimitsOf (now (limits .exit)) (λ k. limitBytes (now (v .entry)) (startIn (now (index .entry)) (getD (now (places .entry)) k 0)))
         (length (now (places .entry))) ⌝ }
@@ -58,15 +58,8 @@ fn limit_at(bytes: &[u8], j: usize) -> u64
 
 // The bytes of the limits of the record at a place.
 fn limits_of<'a>(v: &'a [u8], at: usize) -> &'a [u8]
-    requires { ⌜ Tryable (now v) at ⌝ }
     ensures { λ r. ⌜ now r ≡ limitBytes (now (v .entry)) at ⌝ }
 {
-    let names = number_in(v, at + 4, 2) as usize;
-    let name_end = at + 6 + names;
-    let count = number_in(v, name_end, 2) as usize;
-    let chances_end = name_end + 2 + 4 * count;
-    let times = number_in(v, chances_end, 2) as usize;
-    let limits = chances_end + 4 + 4 * times;
-    let limits_end = limits + 8 * count;
-    &v[limits..limits_end]
+    let s = spans_at(v, at);
+    part_of(v, s.limits)
 }

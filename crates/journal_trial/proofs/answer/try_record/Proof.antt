@@ -1,66 +1,28 @@
 -- `try_record` finds the record's parts by its counts.
 -- Assumes nothing.
-use native.Mathlib.Omega.{arith}
-use denote.Ref.{now}
 use borrow.Author.Needs.{needs}
-use Rattle.journal_trial.proofs.Found.{early, Named, named, Offered, offered, Timed, timed, handed, handed-chances}
+use Rattle.journal_trial.specs.Answers.{recordTried}
 use Rattle.journal_trial.proofs.answer.try_record.Statement.{statement}
 use Rattle.journal_trial.proofs.answer.try_record.Tie as tie
 
-first : (c : tie.After-number-in)
-    → let start = c .before .before .before in
-    Named (now (start .args .v)) (start .args .at) (start .pre) (c .number-in .result)
-first c = named _ _ (c .before .before .before .pre) _ (c .number-in .ensures)
-
-second : (c : tie.After-number-in2)
-    → let start = c .before .before .before .before in
-    Offered (now (start .args .v)) (start .args .at) (start .pre) (c .before .number-in .result) (c .number-in2 .result)
-second c = offered _ _ (c .before .before .before .before .pre) _ _ (c .before .number-in .ensures) (c .number-in2 .ensures)
-
-third : (c : tie.After-number-in3)
-    → let start = c .before .before .before .before .before in
-    Timed (now (start .args .v)) (start .args .at) (start .pre) (c .before .before .number-in .result) (c .before .number-in2 .result) (c .number-in3 .result)
-third c =
-    timed _ _ (c .before .before .before .before .before .pre) _ _ _
-    (c .before .before .number-in .ensures) (c .before .number-in2 .ensures) (c .number-in3 .ensures)
-
 finish-requires : tie.Need-finish-requires
 finish-requires c κs =
-    let k = c .before .before .before .before in
-    handed-chances _ _ (k .before .before .before .before .before .pre) _ _ _ (third k)
+    let parts = c .before in
+    let spans = parts .before .before .before in
+    rw (parts .part-of3 .ensures, spans .spans-at .ensures) (spans .before .before .before .pre .chances)
 
 returns : tie.Need-returns
-returns c =
-    let k = c .before .before .before .before .before in
-    handed _ _ (k .before .before .before .before .before .pre) _ _ _ _ _ _ (third k) (c .before .before .count-links .ensures) (c .finish .ensures)
+unfolding recordTried
+returns c = cc
 
 pub try-record-spec : {M : Type 1} → statement M
 try-record-spec =
     tie.close
     (tie.spec
-    (λ c. omega (arith, early _ _ (c .before .before .pre)))
-    (λ c. omega (arith, early _ _ (c .before .before .pre)))
     (λ c κs. search needs)
-    (λ c. omega (arith, first c .inside))
     (λ c κs. search needs)
-    (λ c. omega (arith, second c .inside))
-    (λ c. omega (arith, second c .inside))
-    (λ c. omega (arith, second c .inside))
     (λ c κs. search needs)
-    (λ c. omega (arith, third c .inside))
-    (λ c. omega (arith, third c .inside))
-    (λ c. omega (arith, third c .inside))
-    (λ c. omega (arith, third c .inside))
-    (λ c. omega (arith, third c .inside))
-    (λ c. omega arith)
-    (λ c. omega (arith, third c .inside))
-    (λ c. omega (arith, third c .inside))
-    (λ c. omega arith)
-    (λ c. omega (arith, third (c .before) .inside))
-    (λ c. omega (arith, third (c .before) .inside))
     (λ c κs. search needs)
-    (λ c. omega arith)
-    (λ c. omega (arith, third (c .before .before .before) .inside))
-    (λ c. omega (arith, third (c .before .before .before) .inside))
+    (λ c κs. search needs)
     finish-requires
     returns)
