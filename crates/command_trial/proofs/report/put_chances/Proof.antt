@@ -9,10 +9,10 @@ use Rattle.command_trial.proofs.report.put_chances.Statement.{statement
 use Rattle.command_trial.proofs.report.put_chances.Tie as tie
 
 abbrev Inv-loop : tie.InvT-loop
-Inv-loop out₀ from v place table k count first end₀ j₀ out end j = (count ≤ 8) × (length out ≡ length out₀)
+Inv-loop out₀ from v table k place count first end₀ j₀ out end j = (count ≤ 8) × (length out ≡ length out₀)
 
 abbrev μ-loop : tie.MeasureT-loop
-μ-loop out₀ from v place table k count first end₀ j₀ out end j = count - j
+μ-loop out₀ from v table k place count first end₀ j₀ out end j = count - j
 
 pub put-chances-spec : {M : Type 1} → statement M
 put-chances-spec =
@@ -20,7 +20,6 @@ put-chances-spec =
     (tie.spec
     Inv-loop
     μ-loop
-    (λ c κs. search needs)
     (λ c κs. search needs)
     (λ c κs. omega arith)
     (λ c. (omega arith, refl))
