@@ -1,7 +1,5 @@
-/* awaqlla: what Rattle lacks, and no more. It has the floating-point environment that the proofs are of, since no contract says how a process starts;
-   what stands at a file's name and whose it is (stat), the locks (flock) and the signal that ends a wait, since the kit has none of these; the
-   version, which the compiler is told; and the exit status. All else is crate command's: which argument is locked and which are files, how long a lock
-   is waited for, every word, and the command. */
+/* awaqlla: what Rattle lacks. The floating-point environment that the proofs are of, closed standard streams, what stands at a file's name, the
+   locks, and the exit status. Everything else is crate command's: C asks it which argument is locked, and it says every word. */
 #define _DEFAULT_SOURCE
 #define _XOPEN_SOURCE 700
 #include <errno.h>
@@ -18,29 +16,27 @@
 #include <unistd.h>
 #include <xmmintrin.h>
 
-/* Crate command's. `told` says what is wrong with a lock, and answers the exit status 2; `wait` answers 0 where it is waited for. */
-uint32_t awaqlla_streams(void);
-uint32_t awaqlla_version(const uint8_t *text, size_t size);
+/* Crate command's. `told` says what is wrong with a lock, and answers the exit status 2. */
 size_t awaqlla_guarded(void);
 uint32_t awaqlla_guard(void);
+uint64_t awaqlla_patience(void);
 uint32_t awaqlla_is_file(size_t i);
 uint64_t awaqlla_take(const uint8_t *kinds, size_t n, uint32_t *ticks, size_t room);
 uint32_t awaqlla_run(const uint8_t *kinds, size_t n, const uint32_t *ticks, size_t count);
-uint32_t awaqlla_wait(uint64_t waited, const uint8_t *path, size_t size);
 uint32_t awaqlla_told(uint32_t what, const uint8_t *path, size_t size);
 
 enum guard { NO_LOCK, LOCK_BOTH, LOCK_VOLUME, LOCK_NAME };
 enum kind { MISSING, PLAIN, FOLDER, OTHER, DANGLING, UNREADABLE = 8, PRINTED_TO = 16, TOLD_TO = 32, GUARDED = 64 };
-enum told { NO_FOLDER, NO_PLAIN_LOCK, NOT_MADE, NOT_LOCKED, HIDDEN, NO_NAME };
+enum told { WAITING, NO_FOLDER, NO_PLAIN_LOCK, NOT_MADE, NOT_LOCKED, WAITED, NO_NAME, HIDDEN };
 
 /* MXCSR as a process starts with it: every exception masked, no flush to zero, to nearest even. */
 #define DEFAULT_ENVIRONMENT 0x1f80u
-#define ARGUMENTS 1024
-#define TICKS 32768
+#define ARGUMENTS 64
 /* tools/program says the version, the commit and the kit. */
 #ifndef AWAQLLA_VERSION
 #define AWAQLLA_VERSION "of an unknown version"
 #endif
+#define SECONDS_BEFORE_WORDS 2
 
 static char lock_path[PATH_MAX + 8];
 static int lock_made;
@@ -55,20 +51,14 @@ static int same_file(const struct stat *a, const struct stat *b)
     return a->st_dev == b->st_dev && a->st_ino == b->st_ino;
 }
 
-/* Whether the last call failed since there is no such file; any other error says nothing of the file. */
-static int is_missing(void)
-{
-    return errno == ENOENT || errno == ENOTDIR;
-}
-
 /* The path of a file without links, which need not be there; its folder must. */
 static int full_path(const char *path, char out[PATH_MAX])
 {
-    char folder[PATH_MAX], full[PATH_MAX];
-    const char *slash = strrchr(path, '/');
-    int front = slash == NULL ? 0 : (int)(slash - path) + 1;
     if (realpath(path, out) != NULL)
         return 1;
+    const char *slash = strrchr(path, '/');
+    int front = slash == NULL ? 0 : (int)(slash - path) + 1;
+    char folder[PATH_MAX], full[PATH_MAX];
     int size = snprintf(folder, sizeof folder, "%.*s.", front, path);
     if (size < 0 || (size_t)size >= sizeof folder || realpath(folder, full) == NULL)
         return 0;
@@ -76,19 +66,27 @@ static int full_path(const char *path, char out[PATH_MAX])
     return size >= 0 && size < PATH_MAX;
 }
 
+/* Whether the last call failed since there is no such file; any other error says nothing of the file. */
+static int is_missing(void)
+{
+    return errno == ENOENT || errno == ENOTDIR;
+}
+
 /* What stands at a name, and which of our streams and of our files it is; -1 where an error hides it. */
 static int kind_of(const char *path, const char *guarded)
 {
     struct stat found, other;
-    char here[PATH_MAX], there[PATH_MAX];
+    unsigned kind;
     if (stat(path, &found) != 0) {
+        char here[PATH_MAX], there[PATH_MAX];
         if (!is_missing())
             return -1;
-        if (lstat(path, &found) == 0) /* a link to nothing, or made meanwhile */
-            return S_ISLNK(found.st_mode) && stat(path, &found) != 0 ? DANGLING : kind_of(path, guarded);
-        return guarded != NULL && full_path(path, here) && full_path(guarded, there) && strcmp(here, there) == 0 ? MISSING | GUARDED : MISSING;
+        kind = lstat(path, &found) == 0 ? DANGLING : MISSING;
+        if (kind == MISSING && guarded != NULL && full_path(path, here) && full_path(guarded, there) && strcmp(here, there) == 0)
+            kind |= GUARDED;
+        return (int)kind;
     }
-    int kind = S_ISREG(found.st_mode) ? PLAIN : S_ISDIR(found.st_mode) ? FOLDER : OTHER;
+    kind = S_ISREG(found.st_mode) ? PLAIN : S_ISDIR(found.st_mode) ? FOLDER : OTHER;
     if (access(path, R_OK) != 0)
         kind |= UNREADABLE;
     if (kind == PLAIN && fstat(1, &other) == 0 && same_file(&found, &other))
@@ -96,16 +94,20 @@ static int kind_of(const char *path, const char *guarded)
     if ((kind & PLAIN) != 0 && fstat(2, &other) == 0 && same_file(&found, &other))
         kind |= TOLD_TO;
     if (guarded != NULL && stat(guarded, &other) == 0)
-        return same_file(&found, &other) ? kind | GUARDED : kind;
-    return guarded == NULL || is_missing() ? kind : -1;
+        kind |= same_file(&found, &other) ? GUARDED : 0;
+    else if (guarded != NULL && !is_missing())
+        return -1;
+    return (int)kind;
 }
 
 /* Puts what stands at a file's name, or says that an error hides it. */
 static uint32_t look(const char *path, const char *guarded, uint8_t *kind)
 {
     int found = kind_of(path, guarded);
+    if (found < 0)
+        return told(HIDDEN, path);
     *kind = (uint8_t)found;
-    return found < 0 ? told(HIDDEN, path) : 0;
+    return 0;
 }
 
 static void heed(int number)
@@ -113,23 +115,33 @@ static void heed(int number)
     (void)number;
 }
 
-/* Takes the lock of an open file. Where another holds it, a signal every second lets the wait be looked at again. */
+/* A signal every second, or none, so that a wait is looked at again. */
+static int tick(int on)
+{
+    struct itimerval every;
+    memset(&every, 0, sizeof every);
+    every.it_interval.tv_sec = every.it_value.tv_sec = on;
+    return setitimer(ITIMER_REAL, &every, NULL);
+}
+
+/* Takes the lock of an open file; says so where it waits, and gives up after --wait's seconds. */
 static uint32_t hold(int fd, const char *path)
 {
-    const struct itimerval second = {{1, 0}, {1, 0}}, never = {{0, 0}, {0, 0}};
-    struct sigaction action;
     if (flock(fd, LOCK_EX | LOCK_NB) == 0)
         return 0;
+    uint64_t patience = awaqlla_patience();
+    struct sigaction action;
     memset(&action, 0, sizeof action);
     action.sa_handler = heed;
-    if (sigaction(SIGALRM, &action, NULL) != 0 || setitimer(ITIMER_REAL, &second, NULL) != 0)
+    if (sigaction(SIGALRM, &action, NULL) != 0 || tick(1) != 0)
         return told(NOT_LOCKED, path);
     for (uint64_t waited = 0;; waited++) {
-        uint32_t status = awaqlla_wait(waited, (const uint8_t *)path, strlen(path));
-        if (status != 0)
-            return status;
+        if (waited >= patience)
+            return told(WAITED, path);
+        if (waited == SECONDS_BEFORE_WORDS)
+            (void)told(WAITING, path);
         if (flock(fd, LOCK_EX) == 0) {
-            (void)setitimer(ITIMER_REAL, &never, NULL);
+            (void)tick(0);
             return 0;
         }
         if (errno != EINTR)
@@ -156,12 +168,12 @@ static int open_lock(const char *volume)
     return fd;
 }
 
-/* Locks FILE.lock; one that was removed meanwhile is locked again, and a volume that was made meanwhile has a name. */
+/* Locks FILE.lock; one that was removed meanwhile is locked again. */
 static uint32_t lock_name(const char *volume)
 {
     struct stat held, found;
     char full[PATH_MAX];
-    if (realpath(volume, full) == NULL && (stat(volume, &found) == 0 ? realpath(volume, full) == NULL : !is_missing()))
+    if (realpath(volume, full) == NULL && (stat(volume, &found) == 0 || !is_missing()))
         return told(NO_NAME, volume);
     if (!full_path(volume, full))
         return told(NO_FOLDER, volume);
@@ -175,11 +187,12 @@ static uint32_t lock_name(const char *volume)
         uint32_t status = hold(fd, lock_path);
         if (status != 0)
             return status;
-        int gone = lstat(lock_path, &found) != 0;
-        if (gone && !is_missing())
-            return told(NOT_LOCKED, lock_path);
-        if (!gone && same_file(&held, &found))
+        if (lstat(lock_path, &found) != 0) {
+            if (!is_missing())
+                return told(NOT_LOCKED, lock_path);
+        } else if (same_file(&held, &found)) {
             return 0;
+        }
         close(fd);
     }
 }
@@ -193,23 +206,47 @@ static uint32_t lock_volume(const char *volume)
         return is_missing() || errno == EACCES ? 0 : told(NOT_LOCKED, volume);
     if (fstat(fd, &found) != 0)
         return told(NOT_LOCKED, volume);
-    if (S_ISREG(found.st_mode))
-        return hold(fd, volume);
-    close(fd);
-    return 0;
+    if (!S_ISREG(found.st_mode)) {
+        close(fd);
+        return 0;
+    }
+    return hold(fd, volume);
+}
+
+/* No stream is closed: a file that is opened would take its number. */
+static int streams_are_open(void)
+{
+    static const char *const closed[] = {"awaqlla: standard input: it is closed\n", "awaqlla: standard output: it is closed\n"};
+    if (fcntl(2, F_GETFD) < 0)
+        return 0;
+    for (int fd = 0; fd < 2; fd++)
+        if (fcntl(fd, F_GETFD) < 0) {
+            (void)!write(2, closed[fd], strlen(closed[fd]));
+            return 0;
+        }
+    return 1;
+}
+
+/* --version: what this program was made of. */
+static int say_version(void)
+{
+    static const char text[] = "awaqlla " AWAQLLA_VERSION "\n", failed[] = "awaqlla: standard output: it cannot be written\n";
+    if (write(1, text, sizeof text - 1) == (ssize_t)(sizeof text - 1))
+        return 0;
+    (void)!write(2, failed, sizeof failed - 1);
+    return 2;
 }
 
 int main(int argc, char **argv)
 {
-    static const char version[] = "awaqlla " AWAQLLA_VERSION "\n";
     static uint8_t kinds[ARGUMENTS];
-    static uint32_t ticks[TICKS];
+    static uint32_t ticks[32768];
     _mm_setcsr(DEFAULT_ENVIRONMENT);
     (void)signal(SIGPIPE, SIG_IGN);
-    if (awaqlla_streams() == 0)
+    if (!streams_are_open())
         return 2;
     if (argc > 1 && strcmp(argv[1], "--version") == 0)
-        return (int)awaqlla_version((const uint8_t *)version, sizeof version - 1);
+        return say_version();
     size_t at = awaqlla_guarded(), count = argc < ARGUMENTS ? (size_t)argc : ARGUMENTS;
     const char *guarded = at != 0 && at < (size_t)argc ? argv[at] : NULL;
     int input = kind_of("/dev/fd/0", NULL);
@@ -217,7 +254,7 @@ int main(int argc, char **argv)
     for (size_t i = 1; i < count; i++)
         if (awaqlla_is_file(i) != 0 && look(argv[i], i == at ? NULL : guarded, &kinds[i]) != 0)
             return 2;
-    uint64_t taken = awaqlla_take(kinds, count, ticks, TICKS);
+    uint64_t taken = awaqlla_take(kinds, count, ticks, sizeof ticks / sizeof ticks[0]);
     if (taken > UINT32_MAX)
         return (int)(taken & 3);
     uint32_t guard = guarded == NULL ? NO_LOCK : awaqlla_guard(), status = 0;

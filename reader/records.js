@@ -10,7 +10,7 @@ function drawName(seen, name) {
     made("p", { class: "controls row" }, button("\u2190 All names", () => openView("slots"))),
     made("h3", { id: "opened", tabindex: -1 }, code(name), ` \u2014 ${many(leaves.length, "record")}`),
     made("div", { class: "wide" }, picture(name, leaves)),
-    made("p", { class: "note" }, "A dot for each time, in the order in which they stand; a green bar for the mean; a line for the limit at each chance, in its colour and dashes. "
+    made("p", { class: "note" }, "A dot for each time, in the order in which they stand; a green bar for the mean; a line for the limit at each chance. "
       + "Places are those of the exact values."),
     ...leaves.map((leaf) => recordDetails(seen, leaf, leaves.length === 1)).reverse(),
   ];
@@ -18,7 +18,7 @@ function drawName(seen, name) {
 function picture(name, leaves) {
   const marks = pictureOf(name, leaves).map(([tag, attributes, text]) => drawn(tag, attributes, ...(text === undefined ? [] : [text])));
   const label = `times, means and limits of ${name} over ${many(leaves.length, "record")}; the figures stand in the records below`;
-  return drawn("svg", { viewBox: `0 0 ${PLOT.width} ${plotHeight(leaves)}`, class: "picture", role: "img", "aria-label": label }, ...marks);
+  return drawn("svg", { viewBox: `0 0 ${PLOT.width} ${PLOT.height}`, class: "picture", role: "img", "aria-label": label }, ...marks);
 }
 
 // ---- One record, filled when it is opened

@@ -13,10 +13,9 @@ import sys
 import tempfile
 
 TOP = os.path.dirname(os.path.dirname(os.path.abspath(__file__)))
-TRIED = os.environ.get("AWAQLLA_TRIED")  # another program to be tried in its place: tools/mutants makes one, and a package has one
-PROGRAM = TRIED or os.path.join(TOP, "target", "awaqlla")
+PROGRAM = os.path.join(TOP, "target", "awaqlla")
 sys.path.insert(0, os.path.join(TOP, "tools"))
-from leaf import EIGHT, OFFERED, OLD, Leaf, leaves_of  # noqa: E402, F401 (the path is set above; the checks import these from here)
+from leaf import EIGHT, OFFERED, OLD, Leaf  # noqa: E402, F401 (the path is set above; the checks import these from here)
 
 WAIT = 60  # seconds after which a program that should end by itself counts as hanging
 counts = {}
@@ -46,14 +45,6 @@ def takes_no_words(doc):
         sys.exit(0 if sys.argv[1:] == ["--help"] else 2)
 
 
-def kills_alone(doc):
-    """Whether the one word is --kills: then only what stops a command, or its streams, is tried. Any other word is wrong usage."""
-    if sys.argv[1:] == ["--kills"]:
-        return True
-    takes_no_words(doc)
-    return False
-
-
 def report(name):
     """Prints what was tried and what was wrong; the exit status."""
     for what, number in counts.items():
@@ -68,35 +59,16 @@ def report(name):
 
 
 def build():
-    """Proves and builds target/awaqlla where it is missing or old; nothing where another is tried."""
-    if TRIED:
-        return
+    """Proves and builds target/awaqlla where it is missing or old."""
     done = subprocess.run([os.path.join(TOP, "tools", "program")], stdout=subprocess.PIPE, stderr=subprocess.STDOUT)
     if done.returncode != 0:
         sys.stdout.write(done.stdout.decode("utf-8", "replace"))
         sys.exit(2)
 
 
-# What a verdict means, what an append understood, that a record stood already, and the names that two merged volumes both have.
-EXPLAINED = rb"awaqlla: (\d+: |from byte \d+ on |list --upto-fault shows |the same record stands |names in both volumes, )|(first |second|stands) |[!-~]{1,32} \d{4}-\d\d-\d\d: \d+ times, "
-
-
 def unexplained(said):
-    """What a command says on standard error, without the lines that put its verdict into words; these are programs- and mistakes-check's."""
-    return b"".join(line for line in said.splitlines(True) if not re.match(EXPLAINED, line))
-
-
-def fault_record(volume, place):
-    """The words of the record at which a fault's place stands: its position, by the records' counts, and its name where its bytes are one."""
-    i = at = 0
-    for start, leaf in leaves_of(volume):
-        if start + len(leaf.bytes()) > place:
-            break
-        i, at = i + 1, start + len(leaf.bytes())
-    size = int.from_bytes(volume[at + 4 : at + 6], "little")
-    name = volume[at + 6 : at + 6 + size]
-    good = 1 <= size <= 32 and len(name) == size and all(0x21 <= byte <= 0x7E for byte in name)
-    return f", in record {i}" + (f" ({name.decode()})" if good else "")
+    """What a command says on standard error, without the lines that put its verdict into words; these are tests/programs-check's."""
+    return b"".join(line for line in said.splitlines(True) if not re.match(rb"awaqlla: (\d+: |from byte \d+ on |head -c \d+ )", line))
 
 
 def status_of(out):

@@ -141,7 +141,7 @@ def cases():
         "worked": worked(),
         "ways": ways(),
         "volumes": stored,
-        "journal": text("crates/replay_journal/stdin"),
+        "journal": text("crates/replay_cases/stdin"),
         "steps": steps(),
         "pictures": pictures(),
         "indexes": indexes(),

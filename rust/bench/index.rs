@@ -1,10 +1,9 @@
-// Appends that are handed an index beside the plain ones on the same journal, and indexes made afresh: beside the reference's, with its own scan, and
-// less the scan beside a map of the names in the same bytes; in microseconds, the least of some turns. Each call finds journal and index as they were.
+// Appends that are handed an index beside the plain ones on the same journal, and indexes made afresh beside the scan, in microseconds: the
+// least of some turns. Each call finds journal and index as they were.
 
 use crate::merge::least;
 use inputs::journal::SMALLEST;
 use ours::{Offer, INDEX};
-use reference::index::{index_of, name_of, Named};
 use reference::model::make_index;
 use reference::samples::{joined, smallest, two_byte_name};
 use reference::scan::MAX_LENGTH;
@@ -18,10 +17,9 @@ const FULL: usize = MAX_LENGTH / SIZE - 1;
 
 pub fn rows() {
     println!();
-    println!("| records of 34 bytes | names | plain append, µs | with an index, µs | with / plain | index made, µs | Rust, with its scan, µs | made / Rust | scan, µs | less the scan, µs | Rust's map, µs | less the scan / map |");
-    println!("|---|---|---|---|---|---|---|---|---|---|---|---|");
+    println!("| records of 34 bytes | names | plain append, µs | with an index, µs | with / plain | index made, µs | scan, µs |");
+    println!("|---|---|---|---|---|---|---|");
     for (records, names) in [
-        (FULL / 4, 41),
         (FULL / 2, 41),
         (FULL, 41),
         (FULL / 4, FULL),
@@ -61,59 +59,14 @@ fn row(records: usize, names: usize) {
         * least(|| {
             black_box(ours::awaqlla_index(&v, len, &mut index));
         });
-    let rust = 1e3
-        * least(|| {
-            black_box(make_index(&v, len, &mut index));
-        });
     let scan = 1e3
         * least(|| {
             black_box(ours::awaqlla_scan(&v, len));
         });
-    let own = mapped(&v[..len]);
-    assert_eq!(own, right[..own.len()]);
-    let map = 1e3
-        * least(|| {
-            black_box(mapped(&v[..len]));
-        });
     let [plain, with] = times;
     println!(
-        "| {records} | {} | {plain:.1} | {with:.1} | {:.2} | {made:.1} | {rust:.1} | {:.2} | {scan:.1} | {:.1} | {map:.1} | {:.2} |",
+        "| {records} | {} | {plain:.1} | {with:.1} | {:.2} | {made:.1} | {scan:.1} |",
         names.min(records),
-        with / plain,
-        made / rust,
-        made - scan,
-        (made - scan) / map
+        with / plain
     );
-}
-
-/// The index by a map alone: names and starts are found by the counts, and nothing is judged.
-fn mapped(v: &[u8]) -> Vec<u8> {
-    index_of(Starts { v, at: 0 })
-}
-
-/// Each record's name and start.
-struct Starts<'a> {
-    v: &'a [u8],
-    at: usize,
-}
-
-impl<'a> Iterator for Starts<'a> {
-    type Item = Named<'a>;
-
-    fn next(&mut self) -> Option<Named<'a>> {
-        let record = &self.v[self.at..];
-        if record.is_empty() {
-            return None;
-        }
-        let start = self.at;
-        self.at += size_by_counts(record);
-        Some((name_of(record), start))
-    }
-}
-
-fn size_by_counts(record: &[u8]) -> usize {
-    let count = |at: usize| usize::from(u16::from_le_bytes([record[at], record[at + 1]]));
-    [1, 4, 4, 8]
-        .iter()
-        .fold(4, |at, width| at + 2 + count(at) * width)
 }

@@ -1,7 +1,6 @@
-// Times our functions beside the Rust's and prints tables in markdown: all, or those named (numbers, scan, append, log, merge, index, trial, growth, guard).
+// Times our functions beside the Rust's and prints a table in markdown.
 // Both sides are called through one driver, on bit patterns, by the C convention, and take turns.
 
-mod growth;
 mod guard;
 mod index;
 mod log;
@@ -32,45 +31,12 @@ const TURNS: usize = 200;
 const ROW: Duration = Duration::from_millis(500);
 
 fn main() {
-    let asked: Vec<String> = std::env::args().skip(1).collect();
-    let wants = |name: &str| asked.is_empty() || asked.iter().any(|word| word == name);
     let mut random = Random::new(1);
-    if wants("numbers") {
-        number_rows(&mut random);
-    }
-    if wants("scan") {
-        scan::rows(&mut random);
-    }
-    if wants("append") {
-        append_rows(&mut random);
-    }
-    if wants("log") {
-        log_rows(&mut random);
-    }
-    if wants("merge") {
-        merge::rows(&mut random);
-    }
-    if wants("index") {
-        index::rows();
-    }
-    if wants("trial") {
-        trial::rows(&mut random);
-    }
-    if wants("growth") {
-        growth::rows(&mut random);
-    }
-    if wants("guard") {
-        guard::rows(&mut random);
-    }
-}
-
-/// The quantile and the functions below it, each beside the Rust's.
-fn number_rows(random: &mut Random) {
     println!("| | ours, ns | Rust, ns | ours / Rust |");
     println!("|---|---|---|---|");
-    quantile_rows(random);
-    pair_rows(random);
-    let inputs = drawn(|| moderate(random).abs().to_bits());
+    quantile_rows(&mut random);
+    pair_rows(&mut random);
+    let inputs = drawn(|| moderate(&mut random).abs().to_bits());
     print_row(
         "sqrt",
         race(
@@ -79,6 +45,13 @@ fn number_rows(random: &mut Random) {
             call_bits,
         ),
     );
+    scan::rows(&mut random);
+    append_rows(&mut random);
+    log_rows(&mut random);
+    merge::rows(&mut random);
+    index::rows();
+    trial::rows(&mut random);
+    guard::rows(&mut random);
 }
 
 /// The append of a largest record to journals of rising length, beside the scan of the same journal: what is left is the record's own cost.

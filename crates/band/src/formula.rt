@@ -4,10 +4,13 @@ ghost use Rattle.std.specs.Prelude.{◌≡◌};
 ghost use Rattle.band.specs.Band.{ends_from, inverse_of};
 
 use crate::Ends;
-use limit::{Moments, ROOT_TWO};
+use limit::Moments;
 
 // A share of w in a million is w / 1000000, which is what f_erfinv takes.
 const MILLION: f64 = 1000000.0;
+
+// The double nearest to the root of 2.
+const ROOT_TWO: f64 = 1.4142135623730951;
 
 // The ends around a mean, at a share in a million.
 pub(crate) fn ends_at(m: Moments, share: u32) -> Ends

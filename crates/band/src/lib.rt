@@ -17,14 +17,14 @@ pub const MAX_SHARE: u32 = 999_999;
 pub const SHARE_REFUSAL: u32 = 18;
 
 // The shortest and the longest time, in ticks.
-#[derive(Drop)]
+#[derive(Clone, Copy)]
 pub struct Ends {
     pub low: f64,
     pub high: f64,
 }
 
 // Both ends, or one refusal number.
-#[derive(Drop)]
+#[derive(Clone, Copy)]
 pub enum Answer {
     Band(Ends),
     Refused(u32),

@@ -5,7 +5,7 @@ use mathlib.Core.List.{replicate}
 use Rattle.journal_trial_spec.specs.Trial.{declined_at, damaged, declined, TrialResult, tried, untried, UnknownResult, unknown, uncounted}
 use Rattle.journal_trial.specs.Counting.{eight}
 use Rattle.journal_trial.specs.Answers.{padded, refused_by, answered_by}
-use Rattle.journal_trial.specs.UnknownNames.{unknown_refused, unknown_by}
+use Rattle.journal_trial.specs.Strangers.{unknown_refused, unknown_by}
 use Rattle.capi.specs.Trial.{trial_words, unknown_words, answer_words, words_of, words_of_unknown}
 
 pub trial_words_lem : (r : TrialResult) → words_of (answered_by r) ≡ trial_words r

@@ -9,8 +9,8 @@ use Rattle.journal_trial.specs.Answers.{padded, lowest_word}
 use Rattle.journal_trial.specs.declared.answer.Answer.{Answer}
 use Rattle.journal_trial.specs.declared.answer.Answer.TheVariants as A
 use Rattle.journal_trial.specs.declared.answer.Trial.{Trial}
-use Rattle.journal_trial.specs.declared.unknown_names.Unknown.{Unknown}
-use Rattle.journal_trial.specs.declared.unknown_names.Unknown.TheVariants as U
+use Rattle.journal_trial.specs.declared.strangers.Unknown.{Unknown}
+use Rattle.journal_trial.specs.declared.strangers.Unknown.TheVariants as U
 
 -- 1 where it is declined, 2 where the journal is damaged, 3 where a line of the log is refused; with the number, and the place if it has one
 unfoldable pub refusal_words : Refusal → List ℕ

@@ -106,14 +106,11 @@ pub extern "C" fn journal_append_with(
     out: &mut [u64; 3],
 )
     ensures v_after { v.new ≡ (append_of (record { slice = v.old; len = len })
-        (request_of day name.now chances.now (Request.times times.now)
-        (up_to budget) (rule_of options) (handed_by options index.old))).journal.slice }
+        (request_of day name.now chances.now (Request.times times.now) (up_to budget) (rule_of options) (handed_by options index.old))).journal.slice }
     ensures index_after { index.new ≡ left_in index.old (append_of (record { slice = v.old; len = len })
-        (request_of day name.now chances.now (Request.times times.now)
-        (up_to budget) (rule_of options) (handed_by options index.old))).index }
+        (request_of day name.now chances.now (Request.times times.now) (up_to budget) (rule_of options) (handed_by options index.old))).index }
     ensures out_after { out.new ≡ append_words (append_of (record { slice = v.old; len = len })
-        (request_of day name.now chances.now (Request.times times.now)
-        (up_to budget) (rule_of options) (handed_by options index.old))).answer }
+        (request_of day name.now chances.now (Request.times times.now) (up_to budget) (rule_of options) (handed_by options index.old))).answer }
 {
     let asked = asked_by(day, budget, options);
     let indexed = options % 2 == 1;
@@ -135,14 +132,11 @@ pub extern "C" fn journal_append_log_with(
     out: &mut [u64; 3],
 )
     ensures v_after { v.new ≡ (append_of (record { slice = v.old; len = len })
-        (request_of day name.now chances.now (Request.log log.now)
-        (up_to budget) (rule_of options) (handed_by options index.old))).journal.slice }
+        (request_of day name.now chances.now (Request.log log.now) (up_to budget) (rule_of options) (handed_by options index.old))).journal.slice }
     ensures index_after { index.new ≡ left_in index.old (append_of (record { slice = v.old; len = len })
-        (request_of day name.now chances.now (Request.log log.now)
-        (up_to budget) (rule_of options) (handed_by options index.old))).index }
+        (request_of day name.now chances.now (Request.log log.now) (up_to budget) (rule_of options) (handed_by options index.old))).index }
     ensures out_after { out.new ≡ append_words (append_of (record { slice = v.old; len = len })
-        (request_of day name.now chances.now (Request.log log.now)
-        (up_to budget) (rule_of options) (handed_by options index.old))).answer }
+        (request_of day name.now chances.now (Request.log log.now) (up_to budget) (rule_of options) (handed_by options index.old))).answer }
 {
     let asked = asked_by(day, budget, options);
     let indexed = options % 2 == 1;

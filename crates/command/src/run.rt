@@ -1,40 +1,35 @@
 // The commands, once the options are read and the lock is held.
 // Each is a library function that answers its exit status.
-use command_asked::Asked;
-use command_io::{Command, Flag, Number, Options, Status, fail, fail_argument, if_written};
+use crate::asked::Asked;
+use command_io::{Command, Number, Options, Status, fail, fail_argument, if_written};
 
 // The command that is asked for.
 pub(crate) fn run(a: Asked, kinds: &[u8], ticks: &[u32]) -> Status {
     let command = a.command;
     let options = a.options;
     match command {
-        Command::Append => append(options, kinds, ticks),
+        Command::Append => command_append::append(options, kinds, ticks),
         Command::Merge => command_merge::merge(options, kinds),
-        Command::Take => command_take::take(options, kinds),
         Command::Index => command_index::index(options, kinds),
         Command::Trial => command_trial::trial(options, kinds),
-        Command::List => command_list::list(options, kinds),
+        Command::List => list(options, kinds),
         Command::Survey => survey(options, kinds),
         Command::Slots => command_report::slots(options, kinds),
         Command::Record => command_report::record(options, kinds),
-        Command::Table => command_table::table(options, kinds),
-        Command::Compare => command_table::compare(options, kinds),
-        Command::Find => command_find::find(options, kinds),
         _ => told(a),
     }
-}
-
-// One record, or one for each name of a log.
-fn append(o: Options, kinds: &[u8], ticks: &[u32]) -> Status {
-    if command_io::has_flag(o, Flag::Every) {
-        return command_every::every(o);
-    }
-    command_append::append(o, kinds, ticks)
 }
 
 // Whether one word more than so many stands behind the options.
 fn has_more(o: Options, words: usize) -> bool {
     std::num::wrapping_add_usize(o.first, words) < os::arg_count()
+}
+
+fn list(o: Options, kinds: &[u8]) -> Status {
+    if has_more(o, 1) {
+        return fail(b"list takes one FILE, or a volume on standard input");
+    }
+    command_list::list(o, kinds)
 }
 
 fn survey(o: Options, kinds: &[u8]) -> Status {
@@ -49,15 +44,14 @@ fn told(a: Asked) -> Status {
     let command = a.command;
     let options = a.options;
     match command {
-        Command::Band => command_band::band(options),
         Command::Day => command_date::tell_day(options),
         Command::Date => command_date::date(options),
         Command::Refusal => refusal(options),
         Command::Selftest => selftest(options),
         Command::Drawn => fail(
-            b"plot and page are tools in python3: a clone's awaqlla calls them; an installation has share/awaqlla/tools/plot NAME.. < FILE and tools/page FILE..",
+            b"plot and page are tools of the clone, in python3: its awaqlla calls them",
         ),
-        _ => fail(b"demo is a tool of the clone: its awaqlla calls it"),
+        _ => fail(b"band and demo are tools of the clone: its awaqlla calls them"),
     }
 }
 

@@ -1,4 +1,5 @@
--- Records passed one by one, until one has the bytes that are looked for; and limits put one behind another.
+-- The laws that the program's proofs cite, and in `FileAfter` what its file holds.
 -- Assumes nothing.
-mod Passing
-mod Walking
+pub mod Committed
+pub mod WrittenPart
+pub mod FileAfter

@@ -5,16 +5,16 @@ ghost use Rattle.io.specs.Counts.{IsPrefixLen};
 use command_io::{File, fail_file_of, fail_of, inside, made, open_held, say, write_synced};
 
 // Whether an index is kept; its file; and whether the file's bytes are an index or the first bytes of one, so that it may be written over.
-#[derive(Drop)]
-pub struct Beside {
-    pub kept: bool,
-    pub file: File,
-    pub begun: bool,
+#[derive(Clone, Copy)]
+pub(crate) struct Beside {
+    pub(crate) kept: bool,
+    pub(crate) file: File,
+    pub(crate) begun: bool,
 }
 
 // Opens the index's file and reads it. A missing one, and an empty one, which a stop or a full disk leaves where it was made, are the index of an
 // empty volume.
-pub fn open_index(path: &[u8], index: &mut [u8]) -> Beside {
+pub(crate) fn open_index(path: &[u8], index: &mut [u8]) -> Beside {
     let held = open_held(path, index);
     let file = held.file;
     let size = held.size;

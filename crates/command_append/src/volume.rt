@@ -1,26 +1,20 @@
 // The journal's file. It is read once; where the append extends the journal a torn tail is cut off, and then the record's bytes are written
 // behind the committed records, front to back: from then on the file is those records and a prefix of the new one.
-ghost use Rattle.std.specs.Prelude.{◌≡◌, ◌≤◌};
+ghost use Rattle.std.specs.Prelude.{◌≤◌};
 ghost use Rattle.journal_spec.specs.Scan.{max_length};
-ghost use Rattle.journal.specs.Handed.{as_rule};
-ghost use Rattle.command_append.specs.Asked.{rule_for, is_failed};
 
 use crate::beside::{Beside, open_index, ready_index, write_index};
-use crate::explain::say_declined;
-use crate::output::{ended, printed};
-use crate::repeated::stands_before;
-use crate::told::say_understood;
+use crate::extend::{Given, extend};
+use crate::output::answered;
 use crate::words::chances;
 use command_date::{Chosen, day_or_date};
-use command_extend::{Extension, Given, extend};
 use command_io::{
-    File, Flag, Options, Status, argument, behind, fail_file_of, has_flag, inside, made, open_held,
-    path_at, place_of, say, write_synced,
+    File, Options, Status, argument, behind, fail_file_of, made, open_held, path_at, write_synced,
 };
-use journal::{Appended, Rule};
+use journal::Rule;
 
 // Where a record goes: the volume's file, its length before, and the record's place in it.
-#[derive(Drop)]
+#[derive(Clone, Copy)]
 struct Place {
     file: File,
     len: usize,
@@ -44,16 +38,14 @@ fn append_on(o: Options, day: u16, ticks: &[u32]) -> Status {
     let count = read.count;
     let given = Given {
         day,
-        rule: rule_of(has_flag(o, Flag::Profile)),
-        indexed: has_flag(o, Flag::Index),
+        rule: rule_of(o.profile),
+        indexed: 0 < o.index,
     };
     append_named(o, given, &name[..name_size], &room[..count], ticks)
 }
 
 // The rule that is asked for.
-pub fn rule_of(profile: bool) -> Rule
-    ensures { as_rule result ≡ rule_for profile }
-{
+fn rule_of(profile: bool) -> Rule {
     if profile {
         return Rule::Profile;
     }
@@ -67,8 +59,7 @@ fn append_named(o: Options, given: Given, name: &[u8], chances: &[u32], ticks: &
     if size == 0 {
         return Status::Failed;
     }
-    let index = place_of(o, Flag::Index);
-    if index == 0 {
+    if o.index == 0 {
         let mut none = [0u8; 2];
         let alone = Beside {
             kept: false,
@@ -76,7 +67,6 @@ fn append_named(o: Options, given: Given, name: &[u8], chances: &[u32], ticks: &
             begun: true,
         };
         return append_at(
-            o,
             &path[..size],
             given,
             name,
@@ -87,12 +77,11 @@ fn append_named(o: Options, given: Given, name: &[u8], chances: &[u32], ticks: &
             &mut none,
         );
     }
-    append_beside(o, index, &path[..size], given, name, chances, ticks)
+    append_beside(o.index, &path[..size], given, name, chances, ticks)
 }
 
 // The same with the index that the argument at a place names.
 fn append_beside(
-    o: Options,
     at: usize,
     path: &[u8],
     given: Given,
@@ -112,7 +101,6 @@ fn append_beside(
         return Status::Failed;
     }
     append_at(
-        o,
         path,
         given,
         name,
@@ -125,9 +113,7 @@ fn append_beside(
 }
 
 // Whether something failed.
-pub fn is_failed(file: File) -> bool
-    ensures { result ≡ is_failed file }
-{
+fn is_failed(file: File) -> bool {
     match file {
         File::Open(_) => false,
         File::Missing => false,
@@ -137,7 +123,6 @@ pub fn is_failed(file: File) -> bool
 
 // Reads the volume's file, or takes a missing one as empty; extends the journal, gives the file the record and then the index's file the index.
 fn append_at(
-    o: Options,
     path: &[u8],
     given: Given,
     name: &[u8],
@@ -157,74 +142,14 @@ fn append_at(
     let e = extend(&mut room, len, given, name, chances, ticks, index);
     let start = e.start;
     let end = e.end;
-    if start < end && !has_flag(o, Flag::DryRun) {
+    let answer = e.answer;
+    if start < end {
         let place = Place { file, len, start };
         if !write_both(path, place, &room[start..end], index_path, beside, index) {
             return Status::Failed;
         }
     }
-    answer_all(o, &room, len, e, given, name, chances, ticks)
-}
-
-// The verdict; then in words what was understood, or why it was declined.
-fn answer_all(
-    o: Options,
-    room: &[u8],
-    len: usize,
-    e: Extension,
-    given: Given,
-    name: &[u8],
-    chances: &[u32],
-    ticks: &[u32],
-) -> Status {
-    let answer = e.answer;
-    let rule = given.rule;
-    let written = printed(answer);
-    if !written {
-        return ended(answer, written);
-    }
-    match answer {
-        Appended::Extended(_) => say_extended(o, room, e, given.day, name, chances, ticks),
-        Appended::Declined(n) => {
-            let size = inside(len, room);
-            say_declined(
-                n,
-                &room[..size],
-                rule,
-                name,
-                chances,
-                ticks,
-                has_flag(o, Flag::Log),
-            )
-        }
-        Appended::DeclinedAt(f) => command_words::refused_log(f.number as u64, f.place as u64),
-        Appended::Damaged(f) => {
-            let size = inside(len, room);
-            command_words::damaged(&room[..size], f)
-        }
-    }
-}
-
-// What was understood, unless --quiet; whether the record stood already, and whether anything is written.
-fn say_extended(
-    o: Options,
-    room: &[u8],
-    e: Extension,
-    day: u16,
-    name: &[u8],
-    chances: &[u32],
-    ticks: &[u32],
-) -> Status {
-    if !has_flag(o, Flag::Quiet) {
-        say_understood(room, e.start, name, day, chances, ticks);
-    }
-    if stands_before(room, e.start, e.end) {
-        say(b"the same record stands in the volume already, and now once more");
-    }
-    if has_flag(o, Flag::DryRun) {
-        say(b"--dry-run: nothing is written");
-    }
-    Status::Done
+    answered(answer)
 }
 
 // The record to the volume's file, then the index to its own, where one is kept. The index's file is made before the volume is written, so that
@@ -252,24 +177,6 @@ fn write_both(
         File::Missing => false,
         File::Failed => false,
     }
-}
-
-// Whole records to the volume's file from a start on, and the index to its own, as `write_both` writes one.
-pub fn write_part(
-    path: &[u8],
-    file: File,
-    len: usize,
-    start: usize,
-    part: &[u8],
-    index_path: &[u8],
-    beside: Beside,
-    index: &[u8],
-) -> bool {
-    if 65_536 < start {
-        return false;
-    }
-    let place = Place { file, len, start };
-    write_both(path, place, part, index_path, beside, index)
 }
 
 // Makes a missing file, and gives the file the record. Where that fails, what failed is said.

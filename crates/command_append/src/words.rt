@@ -4,29 +4,15 @@ ghost use Rattle.std.specs.Prelude.{◌≤◌, length};
 ghost use Rattle.io.specs.Counts.{IsPrefixLen};
 
 use command_io::{
-    DANGLING, Flag, MISSING, Number, Options, PLAIN, apart, fail, fail_argument, has_flag,
-    input_apart, is_guarded, place_of, stands, words_from,
+    DANGLING, MISSING, Number, Options, PLAIN, apart, behind, fail, fail_argument, input_apart,
+    is_guarded, stands, words_from,
 };
 
 // How many chances are stored, and which argument is no chance, counted from 1, or 0.
-#[derive(Drop)]
-pub struct Counted {
-    pub count: usize,
-    pub wrong: usize,
-}
-
-// Whether a log is not taken for decimals: its lines have ticks; if it is, that is said.
-pub fn is_one_input(o: Options) -> bool {
-    if !has_flag(o, Flag::Log) {
-        return true;
-    }
-    if has_flag(o, Flag::Seconds) || has_flag(o, Flag::Milliseconds) {
-        fail(
-            b"append: a log's lines have ticks; --seconds and --ms are of times on standard input, without --log",
-        );
-        return false;
-    }
-    true
+#[derive(Clone, Copy)]
+pub(crate) struct Counted {
+    pub(crate) count: usize,
+    pub(crate) wrong: usize,
 }
 
 // Whether there are enough words, and nothing is printed into a file that is read or written; if not, that is said.
@@ -40,9 +26,8 @@ pub(crate) fn are_apart(o: Options, kinds: &[u8]) -> bool {
     if !apart(kinds, o.first) {
         return false;
     }
-    let index = place_of(o, Flag::Index);
-    if 0 < index {
-        if !apart(kinds, index) {
+    if 0 < o.index {
+        if !apart(kinds, o.index) {
             return false;
         }
     }
@@ -50,7 +35,7 @@ pub(crate) fn are_apart(o: Options, kinds: &[u8]) -> bool {
 }
 
 // Whether FILE is a plain file or missing, and INDEX another one; if not, what is wrong is said.
-pub fn are_files(o: Options, kinds: &[u8]) -> bool {
+pub(crate) fn are_files(o: Options, kinds: &[u8]) -> bool {
     let mut word = [0u8; 2];
     if command_io::argument(o.first, &mut word) == 0 {
         fail(b"FILE: an empty name");
@@ -67,7 +52,7 @@ pub fn are_files(o: Options, kinds: &[u8]) -> bool {
             return false;
         }
     }
-    is_another(place_of(o, Flag::Index), kinds)
+    is_another(o.index, kinds)
 }
 
 // Whether the index, where one is kept, is not the volume.
@@ -82,10 +67,10 @@ fn is_another(index: usize, kinds: &[u8]) -> bool {
     true
 }
 
-// Whether the chances from a place on are numbers; if not, which is none is said.
-pub fn are_chances(from: usize) -> bool {
+// Whether the chances are numbers; if not, which is none is said.
+pub(crate) fn are_chances(o: Options) -> bool {
     let mut room = [0u32; 9];
-    let read = chances(from, &mut room);
+    let read = chances(behind(o.first, 3), &mut room);
     if read.wrong == 0 {
         return true;
     }
@@ -94,7 +79,7 @@ pub fn are_chances(from: usize) -> bool {
 }
 
 // The chances from a place on, as many as there is room for. All are read, so that one that is no number is found.
-pub fn chances(from: usize, out: &mut [u32]) -> Counted
+pub(crate) fn chances(from: usize, out: &mut [u32]) -> Counted
     ensures { IsPrefixLen result.count out.new }
 {
     let end = os::arg_count();

@@ -3,14 +3,14 @@
 ghost use Rattle.std.specs.Prelude.{◌≡◌, ℕ, ◌^◌, ◌<◌};
 ghost use Rattle.command_io.specs.declared.digit.Number.TheVariants as N;
 
+use crate::day::{Day, day_of};
 use command_io::{Number, Status, argument, fail, fail_argument};
-use text_dates::{Day, day_in};
 
 // The largest day.
 const MAX_DAY: u32 = 65_535;
 
 // A day, or that the command is over: what is wrong is said.
-#[derive(Drop)]
+#[derive(Clone, Copy)]
 pub enum Chosen {
     Day(u16),
     Over(Status),
@@ -30,7 +30,7 @@ pub fn day_or_date(at: usize) -> Chosen {
     let mut word = [0u8; 32];
     let size = argument(at, &mut word);
     if has_dash(&word) {
-        return of_date(at, day_in(&word[..size]));
+        return of_date(at, day_of(&word[..size]));
     }
     if size == 0 {
         return of_word(at);

@@ -18,7 +18,7 @@ pub(crate) const MAX_LENGTH: usize = 65_536;
 
 // The record of the name, its bytes so many; or that the index has no such name; or that no record of the name stands at its start, so that the
 // index is not the volume's; or a fault in the record, by its place in the volume.
-#[derive(Drop)]
+#[derive(Clone, Copy)]
 pub enum Looked {
     Shown(usize),
     Absent,

@@ -7,8 +7,8 @@ mod output;
 mod verdict;
 
 use command_io::{
-    Flag, Options, Status, apart, behind, fail, fail_argument, has_flag, input_room, is_guarded,
-    read_named, readable, words_from,
+    Options, Status, apart, behind, fail, fail_argument, input_room, is_guarded, read_named,
+    readable, words_from,
 };
 pub use found::{Looked, look, looked_line};
 use journal_entries::Start;
@@ -24,7 +24,7 @@ pub fn judge(o: Options, kinds: &[u8]) -> Status {
         return Status::Failed;
     }
     let index = behind(o.first, 1);
-    if has_flag(o, Flag::Make) {
+    if o.make {
         return judge_made(index, kinds);
     }
     if readable(kinds, index) {
@@ -36,14 +36,14 @@ pub fn judge(o: Options, kinds: &[u8]) -> Status {
 // Whether there are as many words as the options ask for; if not, that is said.
 fn has_words(o: Options) -> bool {
     let count = words_from(o.first);
-    if has_flag(o, Flag::Make) {
+    if o.make {
         return is_count(
             count,
             2,
             b"index takes --make FILE INDEX; awaqlla --help says more",
         );
     }
-    if has_flag(o, Flag::Check) {
+    if o.check {
         return is_count(
             count,
             2,
@@ -79,10 +79,10 @@ fn judge_made(index: usize, kinds: &[u8]) -> Status {
 
 // The index made, checked, or a name looked up in it.
 pub fn index(o: Options, kinds: &[u8]) -> Status {
-    if has_flag(o, Flag::Make) {
+    if o.make {
         return make(o.first);
     }
-    if has_flag(o, Flag::Check) {
+    if o.check {
         return check(o.first);
     }
     look_up(o.first)
@@ -110,7 +110,7 @@ fn make_of(v: &[u8], at: usize) -> Status {
             return Status::Failed;
         }
     }
-    output::answered_made(v, answer)
+    output::answered_made(answer)
 }
 
 // `--check`: the volume is read, then the index.

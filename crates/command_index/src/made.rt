@@ -8,7 +8,7 @@ ghost use Rattle.command_index.specs.Made.{size_of};
 use journal_index::IndexMade;
 
 // The answer, and how many bytes the index takes at the buffer's front, 0 where none is made.
-#[derive(Drop)]
+#[derive(Clone, Copy)]
 pub struct Made {
     pub answer: IndexMade,
     pub size: usize,

@@ -6,24 +6,24 @@ use command_io::{Status, if_written, print_verdict};
 use journal_index::{Checked, IndexMade};
 
 // An index that is made, or not.
-pub(crate) fn answered_made(v: &[u8], answer: IndexMade) -> Status {
+pub(crate) fn answered_made(answer: IndexMade) -> Status {
     let mut out = [0u8; journal_listing::MAX_LINE];
     let size = made_line(answer, &mut out);
     let written = print_verdict(&out[..size]);
     if written {
-        explain_made(v, answer);
+        explain_made(answer);
     }
     if_written(written, made_status(answer))
 }
 
-fn explain_made(v: &[u8], answer: IndexMade) {
+fn explain_made(answer: IndexMade) {
     match answer {
         IndexMade::Length(_) => {}
         IndexMade::Declined(n) => {
             command_words::refused(n as u64);
         }
         IndexMade::Damaged(f) => {
-            command_words::damaged(v, f);
+            command_words::damaged(f.number as u64, f.place as u64);
         }
     }
 }
@@ -36,19 +36,19 @@ pub(crate) fn answered_checked(v: &[u8], index: &[u8]) -> Status {
     let size = checked_line(answer, end.place, &mut out);
     let written = print_verdict(&out[..size]);
     if written {
-        explain_checked(v, answer);
+        explain_checked(answer);
     }
     if_written(written, checked_status(answer))
 }
 
-fn explain_checked(v: &[u8], answer: Checked) {
+fn explain_checked(answer: Checked) {
     match answer {
         Checked::Own => {}
         Checked::Declined(n) => {
             command_words::refused(n as u64);
         }
         Checked::Damaged(f) => {
-            command_words::damaged(v, f);
+            command_words::damaged(f.number as u64, f.place as u64);
         }
     }
 }
@@ -74,7 +74,7 @@ fn explain_found(answer: Looked) {
             command_words::refused(14);
         }
         Looked::Damaged(f) => {
-            command_words::damaged_at(f);
+            command_words::damaged(f.number as u64, f.place as u64);
         }
     }
 }

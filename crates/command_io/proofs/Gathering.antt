@@ -1,12 +1,11 @@
 -- Output gathered in a room: the cases of one text, and that no byte is lost or moved: the pieces that are written, and what waits behind them,
 -- are the texts in their order. Assumes nothing.
-use Rattle.std.proofs.Common.{◌≡◌, ℕ, ◌+◌, ◌-◌, ◌<◌, ◌≤◌, min, Bool, true, false, List, [], ◌∷◌, ◌++◌, length, take, drop, sym, refl, ap, ◌∙◌, subst, append_assoc, append-nil, arith, take-append-drop, length-take, length-take-le, le-leb, leb-true}
+use Rattle.std.proofs.Common.{◌≡◌, ℕ, ◌+◌, ◌-◌, ◌<◌, ◌≤◌, Bool, true, false, List, [], ◌∷◌, ◌++◌, length, take, sym, refl, ap, ◌∙◌, append_assoc, append-nil, arith, length-take-le, le-leb, leb-true}
 use borrow.Author.Tests.{lt-leb}
-use lib.Seq.{paste, length-paste, take-paste, take-length, take-append_seam}
+use lib.Seq.{paste, length-paste, take-paste, take-length}
 use Rattle.facts.proofs.Tests.{true_not_false}
 use Rattle.text_digits.specs.Text.{room_for, Put}
 use Rattle.io.specs.Counts.{IsPrefixLen}
-use Rattle.command_io.specs.declared.pieces.Gathered.{Gathered}
 use Rattle.command_io.specs.Gather.{Gather, fits_behind, placed, gather_of, Gathers, gather_all, in_order}
 
 -- ---- one text: what the code's tests and `put` give
@@ -56,17 +55,6 @@ pub gathers_none : (room text : List ℕ) (n : ℕ) (w : Bool) → fits_behind r
 unfolding gather_of
 gathers_none room text n true f g = record { bytes = rw (f, g); end = rw (f, g); kept = λ h. refl }
 gathers_none room text n false f g = record { bytes = rw f; end = rw f; kept = no_place f }
-
--- as many of a line's first bytes as are asked for, or as there are
-take_counted : (line : List ℕ) (n k : ℕ) → k ≡ min n (length line) → take k line ≡ take n line
-take_counted line n k e =
-    ap (λ (j : ℕ). take j line) (e ∙ sym (length-take n line))
-    ∙ ap (take (length (take n line))) (sym (take-append-drop n line))
-    ∙ take-append_seam (take n line) (drop n line)
-
-pub gathers_front : (room line after : List ℕ) (waiting n k : ℕ) (r : Gathered) → k ≡ min n (length line)
-    → Gathers room waiting (take k line) r after → Gathers room waiting (take n line) r after
-gathers_front room line after waiting n k r e h = subst (λ (t : List ℕ). Gathers room waiting t r after) (take_counted line n k e) h
 
 -- ---- the order
 

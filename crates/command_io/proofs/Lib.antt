@@ -6,5 +6,3 @@ pub mod Folders
 pub mod Gathering
 pub mod Examples
 pub mod Showing
-pub mod Among
-pub mod Standing

@@ -1,20 +1,12 @@
 -- What a command may read, by the number that C gives of a file's name: its lowest three bits say what stands there, 8 that it cannot be read,
 -- 16 and 32 that standard output or standard error goes into it, 64 that it is the volume that is locked. Assumes nothing.
-use Rattle.std.specs.Prelude.{ℕ, ◌/◌, ◌%◌, Bool, cond, List, ◌==◌, slice_index}
+use Rattle.std.specs.Prelude.{ℕ, ◌/◌, ◌%◌, Bool, cond, ◌==◌}
 use Rattle.command_io.specs.declared.kinds.Access.{Access}
 use Rattle.command_io.specs.declared.kinds.Access.TheVariants as A
 
 -- whether a number has a bit, given as a power of two
 unfoldable pub has_bit : ℕ → ℕ → Bool
 has_bit k bit = k / bit % 2 == 1
-
--- what stands at a place; nothing where C has told of none
-unfoldable pub stands_at : List ℕ → ℕ → ℕ
-stands_at kinds at = slice_index kinds at % 8
-
--- whether the volume that is locked stands there
-unfoldable pub is_guarded : List ℕ → ℕ → Bool
-is_guarded kinds at = has_bit (slice_index kinds at) 64
 
 -- nothing into which standard error or standard output goes
 unfoldable pub apart_of : ℕ → Access

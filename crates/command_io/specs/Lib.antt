@@ -7,5 +7,4 @@ pub mod Words
 pub mod Status
 pub mod Shown
 pub mod Options
-pub mod Flags
 pub mod Kinds

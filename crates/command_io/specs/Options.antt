@@ -13,18 +13,8 @@ unfoldable pub asked_of : List ℕ → Command
 asked_of w =
     cond (same_bytes w (bytes_of "-h")) C.Help
     (cond (same_bytes w (bytes_of "--help")) C.Help
-    (cond (same_bytes w (bytes_of "help")) C.Help
     (cond (same_bytes w (bytes_of "selftest")) C.Selftest
-    C.Nothing)))
-
--- commands that make a volume or a table of others
-unfoldable pub later_of : List ℕ → Command
-later_of w =
-    cond (same_bytes w (bytes_of "take")) C.Take
-    (cond (same_bytes w (bytes_of "find")) C.Find
-    (cond (same_bytes w (bytes_of "table")) C.Table
-    (cond (same_bytes w (bytes_of "compare")) C.Compare
-    (asked_of w))))
+    C.Nothing))
 
 -- commands that need no volume; pictures and pages are drawn by tools of the clone
 unfoldable pub told_of : List ℕ → Command
@@ -36,7 +26,7 @@ told_of w =
     (cond (same_bytes w (bytes_of "demo")) C.Demo
     (cond (same_bytes w (bytes_of "plot")) C.Drawn
     (cond (same_bytes w (bytes_of "page")) C.Drawn
-    (later_of w)))))))
+    (asked_of w)))))))
 
 -- the command
 unfoldable pub command_of : List ℕ → Command
@@ -63,30 +53,6 @@ end_of w =
     (cond (same_bytes w (bytes_of "--")) F.End
     (dash_of w)))
 
--- options of what is shown
-unfoldable pub shown_flag_of : List ℕ → Flag
-shown_flag_of w =
-    cond (same_bytes w (bytes_of "--limits")) F.Limits
-    (cond (same_bytes w (bytes_of "--at")) F.At
-    (cond (same_bytes w (bytes_of "--upto-fault")) F.UptoFault
-    (cond (same_bytes w (bytes_of "--csv")) F.Csv
-    (cond (same_bytes w (bytes_of "--jsonl")) F.Jsonl
-    (cond (same_bytes w (bytes_of "--by")) F.By
-    (cond (same_bytes w (bytes_of "--head")) F.Head
-    (end_of w)))))))
-
--- options of what is offered: how it is read, and how carefully it is taken
-unfoldable pub offer_flag_of : List ℕ → Flag
-offer_flag_of w =
-    cond (same_bytes w (bytes_of "--quiet")) F.Quiet
-    (cond (same_bytes w (bytes_of "--future")) F.Future
-    (cond (same_bytes w (bytes_of "--dry-run")) F.DryRun
-    (cond (same_bytes w (bytes_of "--every")) F.Every
-    (cond (same_bytes w (bytes_of "--names")) F.Names
-    (cond (same_bytes w (bytes_of "--seconds")) F.Seconds
-    (cond (same_bytes w (bytes_of "--ms")) F.Milliseconds
-    (shown_flag_of w)))))))
-
 -- the option
 unfoldable pub flag_of : List ℕ → Flag
 flag_of w =
@@ -98,4 +64,4 @@ flag_of w =
     (cond (same_bytes w (bytes_of "--ticks")) F.Ticks
     (cond (same_bytes w (bytes_of "--make")) F.Make
     (cond (same_bytes w (bytes_of "--check")) F.Check
-    (offer_flag_of w))))))))
+    (end_of w))))))))

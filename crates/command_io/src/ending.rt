@@ -4,7 +4,7 @@ ghost use Rattle.std.specs.Prelude.{◌≡◌, ◌≤◌};
 ghost use Rattle.command_io.specs.Status.{status_number, if_written};
 
 // Done; refused: declined, damaged, torn or refused; failed: wrong usage, or something cannot be read or written.
-#[derive(Drop)]
+#[derive(Clone, Copy)]
 pub enum Status {
     Done,
     Refused,

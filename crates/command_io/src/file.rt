@@ -6,7 +6,7 @@ use crate::input::read_input;
 use crate::message::{fail, fail_file_of, fail_of};
 
 // A file's descriptor; or that there is no such file; or that something failed, which is said.
-#[derive(Drop)]
+#[derive(Clone, Copy)]
 pub enum File {
     Open(i32),
     Missing,
@@ -14,7 +14,7 @@ pub enum File {
 }
 
 // A file that is opened, and how many bytes of it were read.
-#[derive(Drop)]
+#[derive(Clone, Copy)]
 pub struct Held {
     pub file: File,
     pub size: usize,

@@ -1,7 +1,7 @@
 // What stands at a file's name, as command/awaqlla.c finds it before a command runs, and whether a command may read it.
 // Nothing is printed into a file that is read or written.
 ghost use Rattle.std.specs.Prelude.{◌≡◌, if◌then◌else◌, slice_index};
-ghost use Rattle.command_io.specs.Kinds.{has_bit, stands_at, is_guarded, apart_of, readable_of};
+ghost use Rattle.command_io.specs.Kinds.{has_bit, apart_of, readable_of};
 
 use crate::message::{argument, fail, fail_argument};
 
@@ -15,7 +15,7 @@ pub const FOLDER: u8 = 2;
 pub const DANGLING: u8 = 4;
 
 // Whether a command may read what stands there, or the first reason why not; Quiet where standard error goes into it.
-#[derive(Drop)]
+#[derive(Clone, Copy)]
 pub enum Access {
     Free,
     Missing,
@@ -36,16 +36,12 @@ pub fn kind_at(kinds: &[u8], at: usize) -> u8
 }
 
 // What stands there, of the kinds above.
-pub fn stands(kinds: &[u8], at: usize) -> u8
-    ensures { result ≡ stands_at kinds.now at }
-{
+pub fn stands(kinds: &[u8], at: usize) -> u8 {
     kind_at(kinds, at) % 8
 }
 
 // Whether it is the volume that is locked.
-pub fn is_guarded(kinds: &[u8], at: usize) -> bool
-    ensures { result ≡ is_guarded kinds.now at }
-{
+pub fn is_guarded(kinds: &[u8], at: usize) -> bool {
     has_guard(kind_at(kinds, at))
 }
 

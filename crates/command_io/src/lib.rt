@@ -4,7 +4,6 @@ mod digit;
 mod ending;
 mod file;
 mod files;
-mod flags;
 mod help;
 mod input;
 mod kinds;
@@ -22,10 +21,6 @@ pub use digit::Number;
 pub use ending::{Status, if_written, status_number};
 pub use file::{File, Held, made, open_held, path_at, write_synced};
 pub use files::{complain, fail_file, read_argument, read_named, streams_are_open, sync_folder};
-pub use flags::{
-    AT, BY, CHECK, CSV, END, HELP, INDEX, JSONL, LIMITS, MAKE, MILLISECONDS, Options, SECONDS,
-    TABS, TICKS, WAIT, WORD, has_flag, is_one, no_options, place_of, takes, with_flag,
-};
 pub use help::{is_argument, is_help};
 pub use input::{Input, input_room, read_input};
 pub use kinds::{
@@ -37,10 +32,10 @@ pub use message::{
     say, say_last, write_output, write_shown,
 };
 pub use number::read_number;
-pub use numbers::{Reading, is_space, read_numbers};
-pub use options::{Command, Flag, command_of, flag_of};
+pub use numbers::{Reading, read_numbers};
+pub use options::{Command, Flag, Options, command_of, flag_of, has_flag, takes, with_flag};
 pub use output::{print, usage};
 pub use path::folder_end;
-pub use pieces::{Gathered, flush, gather, gather_front};
+pub use pieces::{Gathered, flush, gather};
 pub use places::{behind, inside, words_from};
 pub use shown::put_shown;

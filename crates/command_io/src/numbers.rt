@@ -9,7 +9,7 @@ use crate::digit::{Number, digit_after};
 
 // How many numbers are stored, whether a word is being read, and what its bytes so far have come to. `pending` is nothing
 // from the first word on that is no number.
-#[derive(Drop)]
+#[derive(Clone, Copy)]
 pub struct Reading {
     pub count: usize,
     pub inside: bool,
@@ -91,7 +91,7 @@ fn store_if(wanted: bool, out: &mut [u32], at: usize, n: u32) -> usize
 }
 
 // Whether a byte is a space or one of tab, line feed, vertical tab, form feed and carriage return.
-pub fn is_space(c: u8) -> bool
+fn is_space(c: u8) -> bool
     ensures { result ≡ is_space c }
 {
     if c == 32 {

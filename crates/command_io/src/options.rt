@@ -1,14 +1,13 @@
-// The words of a command line: which command is asked for, and which option a word is.
-// A chain of words is made from its last row to its first.
+// The words of a command line: which command is asked for, and which options stand before its other words.
+// Options stand in any order, each once; `--` ends them. A chain of words is made from its last row to its first.
 ghost use Rattle.std.specs.Prelude.{◌≡◌, if◌then◌else◌};
 ghost use Rattle.text_digits.specs.Same.{same_bytes};
-ghost use Rattle.command_io.specs.Options.{command_of, told_of, later_of, asked_of};
-ghost use Rattle.command_io.specs.Options.{flag_of, offer_flag_of, shown_flag_of, end_of, dash_of};
+ghost use Rattle.command_io.specs.Options.{command_of, told_of, asked_of, flag_of, end_of, dash_of};
 
 use text_digits::same;
 
 // What awaqlla is asked to do; nothing where the word is none of these.
-#[derive(Drop)]
+#[derive(Clone, Copy)]
 pub enum Command {
     Append,
     List,
@@ -18,10 +17,6 @@ pub enum Command {
     Merge,
     Index,
     Trial,
-    Take,
-    Find,
-    Table,
-    Compare,
     Band,
     Day,
     Date,
@@ -34,7 +29,7 @@ pub enum Command {
 }
 
 // An option, the word that asks for help, the one that ends the options, a word that starts with a dash and is no option, or any other.
-#[derive(Drop)]
+#[derive(Clone, Copy)]
 pub enum Flag {
     Profile,
     Log,
@@ -44,24 +39,25 @@ pub enum Flag {
     Ticks,
     Make,
     Check,
-    Quiet,
-    Future,
-    DryRun,
-    Every,
-    Names,
-    Seconds,
-    Milliseconds,
-    Limits,
-    At,
-    UptoFault,
-    Csv,
-    Jsonl,
-    By,
-    Head,
     Help,
     End,
     Dash,
     Word,
+}
+
+// What the options of a command line came to. `index` and `wait` are the places of INDEX and SECONDS among the arguments, or 0;
+// `first` is the place of the first word behind the options.
+#[derive(Clone, Copy)]
+pub struct Options {
+    pub profile: bool,
+    pub log: bool,
+    pub tabs: bool,
+    pub ticks: bool,
+    pub make: bool,
+    pub check: bool,
+    pub index: usize,
+    pub wait: usize,
+    pub first: usize,
 }
 
 // The command that a word asks for.
@@ -79,11 +75,11 @@ pub fn command_of(word: &[u8]) -> Command
     command_if(word, b"append", Command::Append, rest1)
 }
 
-// The same of those that need no volume, and of pictures and pages.
+// The same of those that need no volume.
 fn told_of(word: &[u8]) -> Command
     ensures { result ≡ told_of word.now }
 {
-    let rest7 = later_of(word);
+    let rest7 = asked_of(word);
     let rest6 = command_if(word, b"page", Command::Drawn, rest7);
     let rest5 = command_if(word, b"plot", Command::Drawn, rest6);
     let rest4 = command_if(word, b"demo", Command::Demo, rest5);
@@ -93,24 +89,12 @@ fn told_of(word: &[u8]) -> Command
     command_if(word, b"band", Command::Band, rest1)
 }
 
-// The same of those that make a volume or a table of others.
-fn later_of(word: &[u8]) -> Command
-    ensures { result ≡ later_of word.now }
-{
-    let rest4 = asked_of(word);
-    let rest3 = command_if(word, b"compare", Command::Compare, rest4);
-    let rest2 = command_if(word, b"table", Command::Table, rest3);
-    let rest1 = command_if(word, b"find", Command::Find, rest2);
-    command_if(word, b"take", Command::Take, rest1)
-}
-
 // The same of what is asked of the program itself.
 fn asked_of(word: &[u8]) -> Command
     ensures { result ≡ asked_of word.now }
 {
-    let rest4 = Command::Nothing;
-    let rest3 = command_if(word, b"selftest", Command::Selftest, rest4);
-    let rest2 = command_if(word, b"help", Command::Help, rest3);
+    let rest3 = Command::Nothing;
+    let rest2 = command_if(word, b"selftest", Command::Selftest, rest3);
     let rest1 = command_if(word, b"--help", Command::Help, rest2);
     command_if(word, b"-h", Command::Help, rest1)
 }
@@ -129,7 +113,7 @@ fn command_if(word: &[u8], row: &[u8], yes: Command, no: Command) -> Command
 pub fn flag_of(word: &[u8]) -> Flag
     ensures { result ≡ flag_of word.now }
 {
-    let rest8 = offer_flag_of(word);
+    let rest8 = end_of(word);
     let rest7 = flag_if(word, b"--check", Flag::Check, rest8);
     let rest6 = flag_if(word, b"--make", Flag::Make, rest7);
     let rest5 = flag_if(word, b"--ticks", Flag::Ticks, rest6);
@@ -138,34 +122,6 @@ pub fn flag_of(word: &[u8]) -> Flag
     let rest2 = flag_if(word, b"--index", Flag::Index, rest3);
     let rest1 = flag_if(word, b"--log", Flag::Log, rest2);
     flag_if(word, b"--profile", Flag::Profile, rest1)
-}
-
-// The same of the options of what is offered.
-fn offer_flag_of(word: &[u8]) -> Flag
-    ensures { result ≡ offer_flag_of word.now }
-{
-    let rest7 = shown_flag_of(word);
-    let rest6 = flag_if(word, b"--ms", Flag::Milliseconds, rest7);
-    let rest5 = flag_if(word, b"--seconds", Flag::Seconds, rest6);
-    let rest4 = flag_if(word, b"--names", Flag::Names, rest5);
-    let rest3 = flag_if(word, b"--every", Flag::Every, rest4);
-    let rest2 = flag_if(word, b"--dry-run", Flag::DryRun, rest3);
-    let rest1 = flag_if(word, b"--future", Flag::Future, rest2);
-    flag_if(word, b"--quiet", Flag::Quiet, rest1)
-}
-
-// The same of the options of what is shown.
-fn shown_flag_of(word: &[u8]) -> Flag
-    ensures { result ≡ shown_flag_of word.now }
-{
-    let rest7 = end_of(word);
-    let rest6 = flag_if(word, b"--head", Flag::Head, rest7);
-    let rest5 = flag_if(word, b"--by", Flag::By, rest6);
-    let rest4 = flag_if(word, b"--jsonl", Flag::Jsonl, rest5);
-    let rest3 = flag_if(word, b"--csv", Flag::Csv, rest4);
-    let rest2 = flag_if(word, b"--upto-fault", Flag::UptoFault, rest3);
-    let rest1 = flag_if(word, b"--at", Flag::At, rest2);
-    flag_if(word, b"--limits", Flag::Limits, rest1)
 }
 
 // The same of the words behind which no option stands.
@@ -199,4 +155,108 @@ fn dash_of(word: &[u8]) -> Flag
         return Flag::Dash;
     }
     Flag::Word
+}
+
+// Whether a command takes an option.
+pub fn takes(command: Command, flag: Flag) -> bool {
+    match flag {
+        Flag::Profile => takes_profile(command),
+        Flag::Log => is_append(command),
+        Flag::Index => is_append(command),
+        Flag::Wait => writes(command),
+        Flag::Tabs => is_slots(command),
+        Flag::Ticks => is_record(command),
+        Flag::Make => is_index(command),
+        Flag::Check => is_index(command),
+        _ => false,
+    }
+}
+
+fn takes_profile(command: Command) -> bool {
+    match command {
+        Command::Append => true,
+        Command::List => true,
+        Command::Survey => true,
+        _ => false,
+    }
+}
+
+fn writes(command: Command) -> bool {
+    match command {
+        Command::Append => true,
+        Command::Merge => true,
+        Command::Index => true,
+        _ => false,
+    }
+}
+
+fn is_append(command: Command) -> bool {
+    match command {
+        Command::Append => true,
+        _ => false,
+    }
+}
+
+fn is_slots(command: Command) -> bool {
+    match command {
+        Command::Slots => true,
+        _ => false,
+    }
+}
+
+fn is_record(command: Command) -> bool {
+    match command {
+        Command::Record => true,
+        _ => false,
+    }
+}
+
+fn is_index(command: Command) -> bool {
+    match command {
+        Command::Index => true,
+        _ => false,
+    }
+}
+
+// Whether an option stands already; of --make and --check one stands.
+pub fn has_flag(o: Options, flag: Flag) -> bool {
+    match flag {
+        Flag::Profile => o.profile,
+        Flag::Log => o.log,
+        Flag::Index => o.index > 0,
+        Flag::Wait => o.wait > 0,
+        Flag::Tabs => o.tabs,
+        Flag::Ticks => o.ticks,
+        Flag::Make => o.make || o.check,
+        Flag::Check => o.make || o.check,
+        _ => false,
+    }
+}
+
+// The options with one more, at a place. Behind it stands the next word; behind --index and --wait the one after that.
+pub fn with_flag(o: Options, flag: Flag, at: usize) -> Options {
+    let next = std::num::wrapping_add_usize(at, 1);
+    let mut r = o;
+    r.first = next;
+    match flag {
+        Flag::Profile => r.profile = true,
+        Flag::Log => r.log = true,
+        Flag::Index => r = with_places(r, next, r.wait),
+        Flag::Wait => r = with_places(r, r.index, next),
+        Flag::Tabs => r.tabs = true,
+        Flag::Ticks => r.ticks = true,
+        Flag::Make => r.make = true,
+        Flag::Check => r.check = true,
+        _ => (),
+    }
+    r
+}
+
+// The same with the places of INDEX and SECONDS, of which one is the word before the next.
+fn with_places(o: Options, index: usize, wait: usize) -> Options {
+    let mut r = o;
+    r.index = index;
+    r.wait = wait;
+    r.first = std::num::wrapping_add_usize(o.first, 1);
+    r
 }

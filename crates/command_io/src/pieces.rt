@@ -1,13 +1,13 @@
 // Output gathered in a lent room, so that one write takes many texts: a text waits behind the others until the next has no place.
 // Pieces so made and what still waits are the texts in their order (`gathered_whole`); that each piece is written, once, no contract sees.
-ghost use Rattle.std.specs.Prelude.{◌≡◌, min, length, take};
+ghost use Rattle.std.specs.Prelude.{◌≡◌, min, length};
 ghost use Rattle.command_io.specs.Gather.{fits_behind, Gathers};
 ghost use Rattle.io.specs.Counts.{IsPrefixLen};
 
 use crate::output::print;
 
 // How many bytes of the room wait, and whether every write took all that it was handed.
-#[derive(Drop)]
+#[derive(Clone, Copy)]
 pub struct Gathered {
     pub waiting: usize,
     pub written: bool,
@@ -45,19 +45,6 @@ pub fn gather(room: &mut [u8], waiting: usize, text: &[u8], output: &[u8]) -> Ga
     }
 }
 
-// The same of a line's first bytes, or of all where more are asked for; a command's output is standard output.
-pub fn gather_front(line: &[u8], size: usize, room: &mut [u8], waiting: usize) -> Gathered
-    ensures { Gathers room.old waiting (take size line.now) result room.new }
-{
-    let end = counted(line, size);
-    gather(
-        room,
-        waiting,
-        &line[..end],
-        b"awaqlla: standard output: it cannot be written",
-    )
-}
-
 // Writes what waits, and answers whether all of it is written; a message says so if not.
 pub fn flush(room: &[u8], waiting: usize, output: &[u8]) -> bool {
     let size = counted(room, waiting);
@@ -77,7 +64,7 @@ fn fits(room: &[u8], waiting: usize, text: &[u8]) -> bool
     true
 }
 
-// What waits, and never more than the room holds; so of a line. The second clause says what lending it asks.
+// What waits, and never more than the room holds. The second clause says what lending it asks.
 fn counted(room: &[u8], waiting: usize) -> usize
     ensures value { result ≡ min waiting (length room.now) }
     ensures prefix_len { IsPrefixLen result room.now }

@@ -1,8 +1,6 @@
 // Places among the arguments: how many words stand from one on, and the one behind it; and a place in a buffer.
 // Nothing is asked of the numbers.
-ghost use Rattle.std.specs.Prelude.{◌≡◌};
 ghost use Rattle.io.specs.Counts.{IsPrefixLen};
-ghost use Rattle.command_io.specs.Flags.{behind_of};
 
 // How many words stand from a place on.
 pub fn words_from(at: usize) -> usize {
@@ -14,9 +12,7 @@ pub fn words_from(at: usize) -> usize {
 }
 
 // The place so many words behind another.
-pub fn behind(at: usize, words: usize) -> usize
-    ensures { result ≡ behind_of at words }
-{
+pub fn behind(at: usize, words: usize) -> usize {
     std::num::wrapping_add_usize(at, words)
 }
 

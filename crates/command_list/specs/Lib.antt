@@ -1,5 +1,3 @@
--- The definitions that the contracts cite: exit statuses, the head of a file among several, and the rule that is asked for.
+-- The definition that the contracts cite: the exit status of an end state.
 -- Assumes nothing.
 pub mod Ends
-pub mod Heads
-pub mod Rules

@@ -4,13 +4,13 @@ ghost use Rattle.std.specs.Prelude.{◌≡◌};
 ghost use Rattle.journal_listing.specs.Lines.{position_of, step};
 
 use crate::state::{ended, say_state};
-use crate::volume::rule_of;
-use command_io::{Flag, Options};
+use crate::volume::{read_volume, rule_of};
+use command_io::Options;
 use journal::Rule;
 use journal_listing::Cursor;
 
 // Whether every write so far took all that it was handed, how many bytes wait in the room, and the cursor behind the line.
-#[derive(Drop)]
+#[derive(Clone, Copy)]
 struct Printed {
     written: bool,
     waiting: usize,
@@ -18,60 +18,40 @@ struct Printed {
 }
 
 // Whether the listing was written, and the end state.
-#[derive(Drop)]
+#[derive(Clone, Copy)]
 pub struct Listed {
     pub written: bool,
     pub status: journal::Status,
 }
 
-// The listing of a journal as the options ask for it.
-pub(crate) fn list_volume(v: &[u8], o: Options) -> Listed {
-    print_records(
-        v,
-        first_line(v, o),
-        b"awaqlla: standard output: it cannot be written",
-    )
+// The command.
+pub fn list(o: Options, kinds: &[u8]) -> command_io::Status {
+    let mut room = command_io::input_room();
+    let read = read_volume(o.first, kinds, &mut room);
+    if read.failed {
+        return command_io::Status::Failed;
+    }
+    let size = read.size;
+    list_volume(&room[..size], rule_of(o))
 }
 
-// What is said of the end state of a listing; how the records before a fault are shown is said where they were not.
-pub(crate) fn told(v: &[u8], listed: Listed, o: Options) -> command_io::Status {
+// The listing of a journal, and what is said of its end state.
+fn list_volume(v: &[u8], rule: Rule) -> command_io::Status {
+    let listed = print_listing(v, rule, b"awaqlla: standard output: it cannot be written");
     let status = listed.status;
-    if !listed.written {
-        return say_state(v, status);
+    if listed.written {
+        return ended(status);
     }
-    match status {
-        journal::Status::Damaged(f) => told_fault(v, f, o),
-        _ => ended(v, status),
-    }
+    say_state(v, status)
 }
 
-fn told_fault(v: &[u8], f: journal::Fault, o: Options) -> command_io::Status {
-    if command_io::has_flag(o, Flag::UptoFault) {
-        return command_words::broken(v, f);
-    }
-    command_words::damaged(v, f)
-}
-
-// The start of the listing: of the records before a fault too, where these are asked for.
-fn first_line(v: &[u8], o: Options) -> Cursor {
-    if command_io::has_flag(o, Flag::UptoFault) {
-        return journal_fault::start_upto(v, rule_of(o));
-    }
-    journal_listing::start(v, rule_of(o))
-}
-
-// The listing by a rule: document 01's.
+// The records' lines, and then that of the end state. They are gathered, so that a write takes many.
 pub fn print_listing(v: &[u8], rule: Rule, output: &[u8]) -> Listed {
-    print_records(v, journal_listing::start(v, rule), output)
-}
-
-// The lines of the records that are left, and then that of the end state. They are gathered, so that a write takes many.
-fn print_records(v: &[u8], start: Cursor, output: &[u8]) -> Listed {
     let mut space = io::large_buffer();
     let room: &mut [u8] = &mut space;
     let mut waiting: usize = 0;
-    let mut cursor = start;
-    let status = start.status;
+    let mut cursor = journal_listing::start(v, rule);
+    let status = cursor.status;
     while cursor.left > 0 {
         let printed = print_line(v, cursor, room, waiting, output);
         if !printed.written {

@@ -43,7 +43,7 @@ pub fn end_status(status: Status) -> command_io::Status
 }
 
 // Says in words what an end state is, where it is not whole, and answers its exit status.
-pub fn ended(v: &[u8], status: Status) -> command_io::Status {
+pub fn ended(status: Status) -> command_io::Status {
     match status {
         Status::Whole {
             records: _,
@@ -53,7 +53,7 @@ pub fn ended(v: &[u8], status: Status) -> command_io::Status {
             records: _,
             committed,
         } => command_words::torn(committed as u64),
-        Status::Damaged(fault) => command_words::damaged(v, fault),
+        Status::Damaged(fault) => command_words::damaged(fault.number as u64, fault.place as u64),
     }
 }
 
@@ -80,7 +80,7 @@ pub fn close_with(v: &[u8], status: Status, written: bool) -> command_io::Status
         return say_state(v, status);
     }
     if print_end(v, status) {
-        return ended(v, status);
+        return ended(status);
     }
     command_io::Status::Failed
 }

@@ -1,17 +1,13 @@
 // The volume that a command reads: the file at a place among the arguments, or standard input where there is none.
 // Nothing is printed into it.
-ghost use Rattle.std.specs.Prelude.{◌≡◌};
 ghost use Rattle.io.specs.Counts.{IsPrefixLen};
-ghost use Rattle.command_list.specs.Rules.{rule_of};
 
-use command_io::{Flag, Input, Options};
+use command_io::{Input, Options};
 use journal::Rule;
 
 // The rule that the options ask for.
-pub fn rule_of(o: Options) -> Rule
-    ensures { result ≡ rule_of o }
-{
-    if command_io::has_flag(o, Flag::Profile) {
+pub fn rule_of(o: Options) -> Rule {
+    if o.profile {
         return Rule::Profile;
     }
     Rule::Plain

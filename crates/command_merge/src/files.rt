@@ -7,7 +7,7 @@ use command_io::{fail_file_of, fail_of, inside, path_at, write_synced};
 use text_digits::put;
 
 // Writes the result to a new file, that of the argument at a place, and answers whether it stands.
-pub fn write_new(at: usize, res: &[u8]) -> bool {
+pub(crate) fn write_new(at: usize, res: &[u8]) -> bool {
     let mut path = io::buffer();
     let size = path_at(at, &mut path);
     if size == 0 {
@@ -25,7 +25,7 @@ fn part_room() -> [u8; 4_101]
     [0; 4_101]
 }
 
-// The name beside a path: the path and `.part`. OUT is locked, so that no other command uses it.
+// The name beside a path: the path and `.part`. OUT is locked, so that no other merge uses it.
 fn part_name(path: &[u8], out: &mut [u8]) -> usize
     ensures { IsPrefixLen result out.new }
 {
@@ -53,12 +53,12 @@ fn write_part(part: &[u8], path: &[u8], res: &[u8]) -> bool {
     give_name(part, path)
 }
 
-// Why it could not be made. One that is there is none of this command's, and stays.
+// Why it could not be made. One that is there is none of this merge's, and stays.
 fn not_made(part: &[u8]) -> bool {
     if os::errno() == libc::EEXIST {
         fail_of(
             part,
-            b"it exists, as a command that was stopped leaves it: delete it",
+            b"it exists, as a merge that was stopped leaves it: delete it",
         );
         return false;
     }
@@ -69,7 +69,7 @@ fn not_made(part: &[u8]) -> bool {
 // Whether nothing stands under a name; if something does, or that cannot be told, that is said.
 fn is_free(path: &[u8]) -> bool {
     if 0 <= os::open_read(path) {
-        fail_of(path, b"it exists, and no file is written over");
+        fail_of(path, b"it exists, and a merge writes over no file");
         return false;
     }
     if os::errno() == libc::ENOENT {

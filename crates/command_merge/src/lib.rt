@@ -1,18 +1,14 @@
 // `awaqlla merge FIRST SECOND OUT` (request 2026-09): two journal files, document 01's volumes, merged into a new one, which is made where the
-// verdict is `merged` alone. The last line of the output is the verdict; what is wrong with the words or a file is said on standard error, and so are
-// the names that stand in both.
-mod both;
+// verdict is `merged` alone. The last line of the output is the verdict; what is wrong with the words or a file is said on standard error.
 mod files;
 mod made;
 mod output;
 mod verdict;
 
 use command_io::{
-    Flag, MISSING, Options, Status, argument, behind, fail, fail_argument, has_flag, input_room,
-    read_named, readable, stands, words_from,
+    MISSING, Options, Status, argument, behind, fail, fail_argument, input_room, read_named,
+    readable, stands, words_from,
 };
-pub use files::write_new;
-use journal_merge::Merged;
 pub use made::{Made, merged, result_room};
 pub use verdict::{status_of, verdict_line};
 
@@ -31,13 +27,13 @@ pub fn judge(o: Options, kinds: &[u8]) -> Status {
 }
 
 // OUT has a name, and there is nothing under it.
-pub fn judge_out(at: usize, kinds: &[u8]) -> Status {
+fn judge_out(at: usize, kinds: &[u8]) -> Status {
     let mut word = [0u8; 2];
     if argument(at, &mut word) == 0 {
         return fail(b"OUT: an empty name");
     }
     if stands(kinds, at) != MISSING {
-        return fail_argument(at, b"it exists, and no file is written over");
+        return fail_argument(at, b"it exists, and a merge writes over no file");
     }
     Status::Done
 }
@@ -46,59 +42,44 @@ pub fn judge_out(at: usize, kinds: &[u8]) -> Status {
 pub fn merge(o: Options, kinds: &[u8]) -> Status {
     let first = o.first;
     match judge_out(behind(first, 2), kinds) {
-        Status::Done => merge_from(first, has_flag(o, Flag::Quiet)),
+        Status::Done => merge_from(first),
         Status::Refused => Status::Refused,
         Status::Failed => Status::Failed,
     }
 }
 
 // The first journal is read.
-fn merge_from(at: usize, quiet: bool) -> Status {
+fn merge_from(at: usize) -> Status {
     let mut room = input_room();
     let read = read_named(at, &mut room);
     let size = read.size;
     if read.failed {
         return Status::Failed;
     }
-    merge_with(&room[..size], at, quiet)
+    merge_with(&room[..size], at)
 }
 
 // The second, where the first is read.
-fn merge_with(first: &[u8], at: usize, quiet: bool) -> Status {
+fn merge_with(first: &[u8], at: usize) -> Status {
     let mut room = input_room();
     let read = read_named(behind(at, 1), &mut room);
     let size = read.size;
     if read.failed {
         return Status::Failed;
     }
-    merge_both(first, &room[..size], behind(at, 2), quiet)
+    merge_both(first, &room[..size], behind(at, 2))
 }
 
-// Both are read.
-fn merge_both(first: &[u8], second: &[u8], out: usize, quiet: bool) -> Status {
+// Both are read: the new file is made where the merge answers a length.
+fn merge_both(first: &[u8], second: &[u8], out: usize) -> Status {
     let mut room = made::result_room();
     let m = made::merged(first, second, &mut room);
     let size = m.size;
     let answer = m.answer;
-    finished(first, second, &room[..size], answer, m.is_made, out, quiet)
-}
-
-// The new file is made where the merge answers a length; the verdict, and the names that stand in both.
-fn finished(
-    first: &[u8],
-    second: &[u8],
-    res: &[u8],
-    answer: Merged,
-    is_made: bool,
-    out: usize,
-    quiet: bool,
-) -> Status {
-    if is_made {
-        if !write_new(out, res) {
+    if m.is_made {
+        if !files::write_new(out, &room[..size]) {
             return Status::Failed;
         }
     }
-    let status = output::answered(first, second, answer);
-    both::tell(first, second, res, quiet);
-    status
+    output::answered(answer)
 }

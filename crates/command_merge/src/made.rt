@@ -8,7 +8,7 @@ ghost use Rattle.command_merge.specs.Made.{size_of, is_length};
 use journal_merge::Merged;
 
 // The answer, whether a result is made, and how many bytes it takes at the buffer's front, 0 where none is made.
-#[derive(Drop)]
+#[derive(Clone, Copy)]
 pub struct Made {
     pub answer: Merged,
     pub is_made: bool,

@@ -6,18 +6,18 @@ use journal::Fault;
 use journal_merge::{Merged, Whose};
 
 // Prints the verdict, as the last line of the output, and answers the status.
-pub(crate) fn answered(first: &[u8], second: &[u8], answer: Merged) -> Status {
+pub(crate) fn answered(answer: Merged) -> Status {
     let mut out = [0u8; journal_listing::MAX_LINE];
     let size = verdict_line(answer, &mut out);
     let written = print_verdict(&out[..size]);
     if written {
-        explain(first, second, answer);
+        explain(answer);
     }
     if_written(written, status_of(answer))
 }
 
 // What the verdict means.
-fn explain(first: &[u8], second: &[u8], answer: Merged) {
+fn explain(answer: Merged) {
     match answer {
         Merged::Length(_) => {}
         Merged::Declined(_) => {
@@ -29,16 +29,13 @@ fn explain(first: &[u8], second: &[u8], answer: Merged) {
         Merged::DeclinedOf { whose, number: _ } => {
             command_words::refused_torn(is_second(whose));
         }
-        Merged::Damaged { whose, fault } => explain_damage(first, second, fault, whose),
+        Merged::Damaged { whose, fault } => explain_damage(fault, whose),
     }
 }
 
 // The same of a fault.
-fn explain_damage(first: &[u8], second: &[u8], f: Fault, whose: Whose) {
-    match whose {
-        Whose::First => command_words::damaged_of(first, f, false),
-        Whose::Second => command_words::damaged_of(second, f, true),
-    };
+fn explain_damage(f: Fault, whose: Whose) {
+    command_words::damaged_of(f.number as u64, f.place as u64, is_second(whose));
 }
 
 // Whether it is the second volume's.

@@ -1,3 +1,2 @@
--- The laws of words, whether one is digits alone; closed cases of them.
-pub mod Words
-pub mod Cases
+-- The program's proofs need no law of its own.
+-- Assumes nothing.

@@ -1,2 +1,2 @@
--- The definitions that the contracts cite: whether a word is a chance.
-pub mod Words
+-- No definitions: the program is thin over crates journal_listing, text_dates and text_ticks.
+-- Assumes nothing.

@@ -4,7 +4,7 @@ use journal_entries::{Start, look_up};
 use journal_parts::record_size;
 
 // Where a record stands, and its position; or that there is none.
-#[derive(Drop)]
+#[derive(Clone, Copy)]
 pub(crate) struct Place {
     pub(crate) found: bool,
     pub(crate) at: usize,

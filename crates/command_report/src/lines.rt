@@ -1,9 +1,8 @@
 // The record's lines, each made in a buffer of its own and printed: every field in words, or the times alone.
 // The texts of dates, ticks and numbers are those of crates text_dates, text_ticks and text_digits. No line is longer than a limit's may be.
 use journal::marks::{Mark, mark_of};
-use journal_find::again_line;
 use journal_listing::moments::{mean_bits, moments_in, spread_bits};
-use journal_parts::{number_in, part_of, spans_at};
+use journal_parts::{number_in, spans_at};
 use journal_report::{MAX_FIGURE, limit_line, moment_line};
 use text_dates::put_date;
 use text_digits::{put, put_decimal};
@@ -51,49 +50,6 @@ fn print_moments(v: &[u8], at: usize) -> bool {
         return false;
     }
     print_moment(b"spread bits ", spread_bits(worked))
-}
-
-// The commands that work its limits again, one a line; whether no write failed.
-pub(crate) fn print_again(v: &[u8], at: usize) -> bool {
-    let s = spans_at(v, at);
-    let form = number_in(v, at, 2);
-    let times = part_of(v, s.times);
-    print_commands(
-        v,
-        form,
-        times,
-        s.chances.first,
-        s.limits.first,
-        s.limits.count,
-    )
-}
-
-// Those of so many limits.
-fn print_commands(
-    v: &[u8],
-    form: u64,
-    times: &[u8],
-    chances: usize,
-    limits: usize,
-    count: usize,
-) -> bool {
-    let mut i = 0;
-    while i < count {
-        let chance = time_at(v, chances, i);
-        let limit = limit_at(v, limits, i);
-        if !print_command(form, chance, limit, times) {
-            return false;
-        }
-        i += 1;
-    }
-    true
-}
-
-// The command of a limit; 128 times of 7 digits have room.
-fn print_command(form: u64, chance: u64, limit: u64, times: &[u8]) -> bool {
-    let mut out = [0u8; 1_200];
-    let size = again_line(&mut out, form, chance, limit, times);
-    print_text(&out, size)
 }
 
 // The times alone, one a line; whether no write failed.

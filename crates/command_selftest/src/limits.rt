@@ -7,7 +7,7 @@ use crate::quantiles::other_bits;
 use double_bits::bits_of;
 use limit::{Answer, Figures};
 
-#[derive(Drop)]
+#[derive(Clone, Copy)]
 pub(crate) struct Row {
     pub form: u64,
     pub chance: u32,

@@ -17,7 +17,7 @@ use text_digits::{put, same};
 const LINES: usize = 14;
 
 // The place behind a line, and the cursor there.
-#[derive(Drop)]
+#[derive(Clone, Copy)]
 struct Placed {
     at: usize,
     cursor: Cursor,

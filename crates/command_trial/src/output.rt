@@ -33,11 +33,11 @@ pub(crate) fn print_unknown(room: &mut [u8], waiting: usize, lines: u64) -> Stat
 }
 
 // A refusal and its place, as the only line; then what it means.
-pub(crate) fn refuse(v: &[u8], answer: Unknown) -> Status {
+pub(crate) fn refuse(answer: Unknown) -> Status {
     match answer {
         Unknown::Lines(_) => Status::Done,
         Unknown::Declined(n) => refuse_call(n),
-        Unknown::Damaged(f) => refuse_volume(v, f),
+        Unknown::Damaged(f) => refuse_volume(f),
         Unknown::DeclinedAt(f) => refuse_log(f),
     }
 }
@@ -49,11 +49,11 @@ fn refuse_call(n: u32) -> Status {
     command_words::refused(n as u64)
 }
 
-fn refuse_volume(v: &[u8], f: Fault) -> Status {
+fn refuse_volume(f: Fault) -> Status {
     if !print_refusal(b"damaged", f.number, f.place) {
         return Status::Failed;
     }
-    command_words::damaged(v, f)
+    command_words::damaged(f.number as u64, f.place as u64)
 }
 
 fn refuse_log(f: Fault) -> Status {

@@ -2,13 +2,14 @@
 // The program makes the index itself, so that 14 and 10 are no answers here.
 ghost use Rattle.std.specs.Prelude.{◌≡◌, ◌≤◌, length};
 
-use crate::line::{one_exceeded, put_line, put_rows};
 use crate::output::{gather_line, print_unknown, refuse};
 use crate::passes::try_pieces;
-use crate::table::table_room;
-use command_io::{Gathered, Status, say};
-use journal_parts::{number_in, spans_at};
+use crate::table::{count_at, table_room};
+use crate::text::{put_chance, put_head};
+use command_io::{Gathered, Status};
+use journal_parts::{Span, number_in, spans_at};
 use journal_trial::Unknown;
+use text_digits::put;
 
 // Room for a line.
 fn line_room() -> [u8; 1_024]
@@ -18,7 +19,7 @@ fn line_room() -> [u8; 1_024]
 }
 
 // Tries the log of a descriptor on the journal that is all of a slice.
-pub(crate) fn try_log(fd: i32, v: &[u8], tabs: bool, check: bool) -> Status {
+pub(crate) fn try_log(fd: i32, v: &[u8]) -> Status {
     let mut index = journal_index::index_room();
     journal_index::make_index(v, v.len(), &mut index);
     let mut table = table_room();
@@ -29,40 +30,22 @@ pub(crate) fn try_log(fd: i32, v: &[u8], tabs: bool, check: bool) -> Status {
     }
     let answer = p.answer;
     match answer {
-        Unknown::Lines(n) => {
-            let status = print_all(v, &index, &table, n, tabs);
-            let over = check && some_exceeded(v, &index, &table);
-            checked(status, over)
-        }
-        Unknown::Declined(_) => refuse(v, answer),
-        Unknown::Damaged(_) => refuse(v, answer),
-        Unknown::DeclinedAt(_) => refuse(v, answer),
-    }
-}
-
-// The status of a trial: that of its print, and with --check a refusal where a chance was exceeded.
-pub(crate) fn checked(status: Status, over: bool) -> Status {
-    match status {
-        Status::Done => {
-            if over {
-                say(b"more links were over than promised");
-                return Status::Refused;
-            }
-            Status::Done
-        }
-        _ => status,
+        Unknown::Lines(n) => print_all(v, &index, &table, n),
+        Unknown::Declined(_) => refuse(answer),
+        Unknown::Damaged(_) => refuse(answer),
+        Unknown::DeclinedAt(_) => refuse(answer),
     }
 }
 
 // The lines of all names, then the lines with unknown names. They are gathered, so that a write takes many.
-pub(crate) fn print_all(v: &[u8], index: &[u8], table: &[u64], unknown: u64, tabs: bool) -> Status {
+fn print_all(v: &[u8], index: &[u8], table: &[u64], unknown: u64) -> Status {
     let mut space = io::large_buffer();
     let room: &mut [u8] = &mut space;
     let count = number_in(index, 0, 2) as usize;
     let mut waiting: usize = 0;
     let mut k: usize = 0;
     while k < count {
-        let printed = print_name(v, index, table, k, tabs, room, waiting);
+        let printed = print_name(v, index, table, k, room, waiting);
         if !printed.written {
             return Status::Failed;
         }
@@ -72,109 +55,88 @@ pub(crate) fn print_all(v: &[u8], index: &[u8], table: &[u64], unknown: u64, tab
     print_unknown(room, waiting, unknown)
 }
 
-// The line or the rows of the name at a position, behind what waits in the room.
+// The line of the name at a position, behind what waits in the room.
 fn print_name(
     v: &[u8],
     index: &[u8],
     table: &[u64],
     k: usize,
-    tabs: bool,
     room: &mut [u8],
     waiting: usize,
 ) -> Gathered {
     let mut out = line_room();
-    let size = put_name(&mut out, v, index, table, k, tabs);
+    let size = put_name(&mut out, v, index, table, k);
     gather_line(room, waiting, &out, size)
 }
 
-// Puts them, and answers their size; none where the index has no such entry.
-fn put_name(out: &mut [u8], v: &[u8], index: &[u8], table: &[u64], k: usize, tabs: bool) -> usize {
-    let at = entry_of(v, index, k);
-    let from = at.from;
-    let to = at.to;
-    let place = at.place;
-    let behind = at.end;
-    let count = at.count;
-    if to == 0 {
-        return 0;
-    }
-    if tabs {
-        return put_rows(out, &index[from..to], &v[place..behind], count, table, k);
-    }
-    put_line(out, &index[from..to], &v[place..behind], count, table, k)
-}
-
-// Whether a chance of some name was exceeded.
-pub(crate) fn some_exceeded(v: &[u8], index: &[u8], table: &[u64]) -> bool {
-    let names = number_in(index, 0, 2) as usize;
-    let mut k: usize = 0;
-    while k < names {
-        let at = entry_of(v, index, k);
-        let place = at.place;
-        let behind = at.end;
-        let count = at.count;
-        if one_exceeded(&v[place..behind], count, table, k) {
-            return true;
-        }
-        k += 1;
-    }
-    false
-}
-
-// Where the name of an entry stands in the index, and the chances of its record in the volume; nowhere where there is no such entry.
-#[derive(Drop)]
-struct Entry {
-    from: usize,
-    to: usize,
-    place: usize,
-    end: usize,
-    count: usize,
-}
-
-fn entry_of(v: &[u8], index: &[u8], k: usize) -> Entry
-    ensures { (result.from ≤ result.to) × (result.to ≤ length index.now) × (result.place ≤ result.end) × (result.end ≤ length v.now)
-        × (result.count ≤ 8) }
-{
+// Puts the line of the name at a position, and answers its size; none where the index has no such entry.
+fn put_name(out: &mut [u8], v: &[u8], index: &[u8], table: &[u64], k: usize) -> usize {
     let at = journal_entries::entry_place(index, k);
     let size = journal_entries::size_at(index, at);
     if size < 6 {
-        return no_entry();
+        return 0;
     }
     if index.len() < size {
-        return no_entry();
+        return 0;
     }
     if index.len() - size < at {
-        return no_entry();
+        return 0;
     }
+    let names = size - 6;
     let start = journal_entries::start_at(index, at);
+    let from = at + 2;
+    let to = from + names;
+    let head = put_head(out, &index[from..to], count_at(table, k, 0));
     let chances = spans_at(v, start).chances;
-    let place = chances.first;
-    let count = eight_at_most(chances.count);
-    if v.len() < 4 * count {
-        return no_entry();
-    }
-    if v.len() - 4 * count < place {
-        return no_entry();
-    }
-    Entry {
-        from: at + 2,
-        to: at + (size - 4),
-        place: place,
-        end: place + 4 * count,
-        count: count,
-    }
+    let end = put_chances(out, head, v, chances, table, k);
+    put(out, end, b"\n")
 }
 
-fn no_entry() -> Entry
-    ensures { (result.from ≡ 0) × (result.to ≡ 0) × (result.place ≡ 0) × (result.end ≡ 0) × (result.count ≡ 0) }
-{
-    Entry {
-        from: 0,
-        to: 0,
-        place: 0,
-        end: 0,
-        count: 0,
+// Puts the overs at each chance of a record's chances; the lowest chance that was exceeded is marked.
+fn put_chances(
+    out: &mut [u8],
+    from: usize,
+    v: &[u8],
+    chances: Span,
+    table: &[u64],
+    k: usize,
+) -> usize {
+    let place = chances.first;
+    let count = eight_at_most(chances.count);
+    let first = first_exceeded(v, place, count, table, k);
+    let mut end = from;
+    let mut j: usize = 0;
+    while j < count {
+        let chance = chance_at(v, place, j);
+        let overs = count_at(table, k, j + 1);
+        end = put_chance(out, end, chance, overs, j == first);
+        j += 1;
     }
+    end
+}
+
+// Which of the chances is the first that was exceeded, or their count.
+fn first_exceeded(v: &[u8], place: usize, count: usize, table: &[u64], k: usize) -> usize
+    requires { count ≤ 8 }
+{
+    let links = count_at(table, k, 0);
+    let mut j: usize = 0;
+    while j < count {
+        let chance = chance_at(v, place, j);
+        let overs = count_at(table, k, j + 1);
+        if journal_trial::exceeds(links, chance, overs) {
+            return j;
+        }
+        j += 1;
+    }
+    count
+}
+
+// A chance of the record whose chances stand from a place on.
+fn chance_at(v: &[u8], place: usize, j: usize) -> u64
+    requires { j ≤ 8 }
+{
+    number_in(v, std::num::wrapping_add_usize(place, 4 * j), 4)
 }
 
 // A count of chances: a record has no more than eight.

@@ -1,7 +1,6 @@
 // The counts so far: nine numbers for each position of the index, its links and the overs at each of eight chances.
 // A volume has at most 1,985 names, since the smallest record has 33 bytes.
 ghost use Rattle.std.specs.Prelude.{◌≡◌, length};
-ghost use Rattle.command_trial.specs.Line.{count_at};
 
 use journal_trial::NUMBERS;
 
@@ -13,9 +12,7 @@ pub(crate) fn table_room() -> [u64; 17_874]
 }
 
 // A number of a position, 0 where there is none.
-pub(crate) fn count_at(table: &[u64], position: usize, which: usize) -> u64
-    ensures { result ≡ count_at table.now position which }
-{
+pub(crate) fn count_at(table: &[u64], position: usize, which: usize) -> u64 {
     if table.len() / NUMBERS <= position {
         return 0;
     }

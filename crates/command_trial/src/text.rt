@@ -1,5 +1,5 @@
 // The text of a name's line, put into a lent buffer from a place on: its links, then the overs at each chance.
-// A chance is marked where more links were over than its limit promises.
+// The chance that is marked is the lowest at which more links were over than its limit promises.
 ghost use Rattle.text_digits.specs.Hex.{decimal_digits};
 ghost use Rattle.text_digits.specs.Text.{Put};
 ghost use Rattle.command_trial.specs.Text.{head_text, chance_text, mark_text, unknown_text};
@@ -46,7 +46,7 @@ fn put_mark(out: &mut [u8], at: usize, marked: bool) -> usize
 }
 
 // Puts a number.
-pub(crate) fn put_decimal(out: &mut [u8], at: usize, n: u64) -> usize
+fn put_decimal(out: &mut [u8], at: usize, n: u64) -> usize
     ensures { Put out.old at (decimal_digits n) out.new result }
 {
     let d = text_digits::decimal_of(n);

@@ -1,3 +1,2 @@
--- The law of a line of one byte; the table of refusals needs none of its own.
+-- The table of refusals needs no law of its own.
 -- Assumes nothing.
-pub mod Counting

@@ -1,6 +1,6 @@
 -- What each refusal's number means, in words (docs/DEFINITION.md, section 10); 8 is not used (document 02, 2026-06). A row for each.
 -- Assumes nothing.
-use Rattle.std.specs.Prelude.{ℕ, Bool, cond, List, [], eqb, ltb, length}
+use Rattle.std.specs.Prelude.{ℕ, cond, List, [], eqb}
 use Rattle.command_io.specs.Words.{bytes_of}
 
 unfoldable pub refusal_words : ℕ → List ℕ
@@ -24,7 +24,3 @@ refusal_words n =
     (cond (eqb n 18) (bytes_of "a share of links inside a band is 1 to 999,999 in a million")
     (cond (eqb n 19) (bytes_of "a record of the profile for safety controllers has form 2, the chances 1, 10, 100 and 1,000, and at least 32 times")
     [])))))))))))))))))
-
--- whether a refusal has a number: it then has words
-unfoldable pub is_refusal : ℕ → Bool
-is_refusal n = ltb 0 (length (refusal_words n))

@@ -1,12 +1,7 @@
 // What follows a verdict on standard error: the refusal in words, and where it was found.
 // Each answers the exit status of a refusal.
-ghost use Rattle.std.specs.Prelude.{◌≡◌};
-ghost use Rattle.command_words.specs.Refusals.{is_refusal};
-
 use crate::refusal::put_refusal;
-use command_io::{Status, inside};
-use journal::Fault;
-use journal_fault::{Broken, broken_of, put_broken};
+use command_io::Status;
 use text_digits::{put, put_decimal};
 
 // The refusals' numbers that are in use, and how many they are.
@@ -20,7 +15,7 @@ fn write(text: &[u8]) {
 }
 
 // The number, and what it means; the line goes on.
-pub fn row(number: u64) {
+fn write_row(number: u64) {
     let mut line = [0u8; 256];
     let size = put_refusal(&mut line, 0, number);
     write(b"awaqlla: ");
@@ -37,89 +32,56 @@ fn write_place(before: &[u8], place: u64) {
 
 // What was declined or refused.
 pub fn refused(number: u64) -> Status {
-    row(number);
+    write_row(number);
     write(b"\n");
     Status::Refused
 }
 
 // A line of the log.
 pub fn refused_log(number: u64, place: u64) -> Status {
-    row(number);
-    place_of_line(place);
-    write(b"\n");
-    Status::Refused
-}
-
-// Where the line of the log starts; the line goes on.
-pub fn place_of_line(place: u64) {
+    write_row(number);
     write_place(
         b"; not so in the line of the log that starts at byte ",
         place,
     );
-}
-
-// A fault of a volume, with the record at which it stands, and how the records before that are shown.
-pub fn damaged(v: &[u8], f: Fault) -> Status {
-    broken(v, f);
-    say_before(v, f);
-    Status::Refused
-}
-
-// A fault of a volume, with the record at which it stands.
-pub fn broken(v: &[u8], f: Fault) -> Status {
-    row(f.number as u64);
-    write_place(b"; not so at byte ", f.place as u64);
-    write_broken(v, f);
-    Status::Refused
-}
-
-// A fault of a volume of which no more than a record is read.
-pub fn damaged_at(f: Fault) -> Status {
-    row(f.number as u64);
-    write_place(b"; not so at byte ", f.place as u64);
     write(b"\n");
+    Status::Refused
+}
+
+// A fault of a volume.
+pub fn damaged(number: u64, place: u64) -> Status {
+    write_row(number);
+    write_place(b"; not so at byte ", place);
+    write(b"\n");
+    say_before(place);
     Status::Refused
 }
 
 // A fault of the first or the second volume of a merge.
-pub fn damaged_of(v: &[u8], f: Fault, second: bool) -> Status {
-    row(f.number as u64);
-    write_place(b"; not so at byte ", f.place as u64);
+pub fn damaged_of(number: u64, place: u64, second: bool) -> Status {
+    write_row(number);
+    write_place(b"; not so at byte ", place);
     if second {
-        write(b" of the second volume");
+        write(b" of the second volume\n");
     } else {
-        write(b" of the first volume");
+        write(b" of the first volume\n");
     }
-    write_broken(v, f);
-    say_before(v, f);
+    say_before(place);
     Status::Refused
 }
 
-// At which record a fault stands, as in `, in record 1 (mold)`, and the line's end.
-fn write_broken(v: &[u8], f: Fault) {
-    let mut line = [0u8; 80];
-    let size = inside(put_broken(&mut line, 0, v, f), &line);
-    write(&line[..size]);
-    write(b"\n");
-}
-
-// How the records before a fault are shown, where there are any.
-fn say_before(v: &[u8], f: Fault) {
-    match broken_of(v, f) {
-        Broken::Record { position, start: _ } => say_records(position),
-        Broken::Nowhere => {}
+// How the records before a fault are shown.
+fn say_before(place: u64) {
+    if place == 0 {
+        return;
     }
-}
-
-fn say_records(position: usize) {
-    if 0 < position {
-        write(b"awaqlla: list --upto-fault shows the records before it\n");
-    }
+    write_place(b"awaqlla: head -c ", place);
+    write(b" FILE | awaqlla list shows the records before it\n");
 }
 
 // A merge that would set form 1 behind form 2.
 pub fn refused_merge(number: u64, place: u64) -> Status {
-    row(number);
+    write_row(number);
     write_place(b"; not so at byte ", place);
     write(b" of the merged volume\n");
     Status::Refused
@@ -127,7 +89,7 @@ pub fn refused_merge(number: u64, place: u64) -> Status {
 
 // A merge of a volume that ends torn.
 pub fn refused_torn(second: bool) -> Status {
-    row(16);
+    write_row(16);
     if second {
         write(b"; not so in the second volume\n");
     } else {
@@ -163,9 +125,7 @@ pub fn print_refusal(number: u64) -> bool {
 }
 
 // Whether a refusal has a number.
-pub fn is_refusal(number: u64) -> bool
-    ensures { result ≡ is_refusal number }
-{
+pub fn is_refusal(number: u64) -> bool {
     let mut line = [0u8; 1];
     put_refusal(&mut line, 0, number) == 1
 }

@@ -1,10 +1,12 @@
-// What awaqlla says in words: what a refusal's number means, and what follows a verdict on standard error.
+// What awaqlla says in words: its help, what a refusal's number means, and what follows a verdict on standard error.
 // A function that says what was refused answers the exit status of a refusal.
 mod answer;
+mod help;
 mod refusal;
 
 pub use answer::{
-    broken, damaged, damaged_at, damaged_of, full_merge, is_refusal, place_of_line, print_refusal,
-    print_refusals, refused, refused_log, refused_merge, refused_torn, row, torn,
+    damaged, damaged_of, full_merge, is_refusal, print_refusal, print_refusals, refused,
+    refused_log, refused_merge, refused_torn, torn,
 };
+pub use help::print_help;
 pub use refusal::put_refusal;

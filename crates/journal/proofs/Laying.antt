@@ -4,8 +4,8 @@ use mathlib.Core.Path.{◌≡◌, refl, sym, ap, ◌∙◌}
 use Prim.Native.Nat.{ℕ, zero, suc, ◌+◌, ◌-◌, ◌/◌, ◌%◌, ◌≤◌, ◌<◌, min}
 use mathlib.Core.List.{List, [], ◌∷◌, ◌++◌, append_assoc, append-nil}
 use native.Mathlib.Omega.{arith}
-use lib.ListN.{length, take, drop, get_or, set}
-use lib.Seq.{paste, paste-zero, paste-suc, length-paste, take_at, take-length}
+use lib.ListN.{length, take, drop, get_or}
+use lib.Seq.{paste, paste-zero, length-paste, take_at, take-length}
 use Rattle.facts.proofs.Orders.{by_order}
 use Rattle.text_digits.specs.Text.{room_for, Put}
 use Rattle.text_digits.proofs.Putting.{put_nothing, put_put, put_as, put_whole}
@@ -24,30 +24,6 @@ unfolding bytes_of
 take_bytes zero n x h = refl
 take_bytes (suc w) zero x h = absurd (omega arith)
 take_bytes (suc w) (suc n) x h = ap (λ (bs : List ℕ). x % 256 ∷ bs) (take_bytes w n (x / 256) (omega arith))
-
--- four bytes stored one behind another, where they have room
-pub put_four : (d : List ℕ) (at x : ℕ) → at + 4 ≤ length d
-    → Put d at (bytes_of 4 x) (set (set (set (set d at (x % 256)) (at + 1) (x / 256 % 256)) (at + 2) (x / 256 / 256 % 256))
-    (at + 3) (x / 256 / 256 / 256 % 256)) (at + 4)
-unfolding room_for bytes_of
-put_four d at x h =
-    let s = bytes_of 4 x in
-    let room : min 4 (length d - at) ≡ 4 = omega arith in
-    let start : at + 0 ≡ at = omega arith in
-    let one : set d at (x % 256) ≡ paste d at s 1
-    = ap (λ (ys : List ℕ). set ys at (x % 256)) (paste-zero d at s) ∙ ap (λ (k : ℕ). set (paste d at s 0) k (x % 256)) (sym start)
-    ∙ paste-suc d at s 0 0 (omega arith) (omega arith) in
-    let two = paste-suc d at s 1 0 (omega arith) (omega arith) in
-    let three = paste-suc d at s 2 0 (omega arith) (omega arith) in
-    let four = paste-suc d at s 3 0 (omega arith) (omega arith) in
-    record { bytes = rw (room, one, two, three, four) refl; end = rw room refl }
-
--- a number's eight bytes are those of its halves
-pub bytes_halves : (x : ℕ) → bytes_of 4 x ++ bytes_of 4 (x / 0x100000000) ≡ bytes_of 8 x
-unfolding bytes_of
-bytes_halves x =
-    let upper : x / 256 / 256 / 256 / 256 ≡ x / 0x100000000 = omega arith in
-    rw upper refl
 
 -- what is put changes no length
 pub put_length : (d : List ℕ) (p : ℕ) (s d₁ : List ℕ) (q : ℕ) → Put d p s d₁ q → length d₁ ≡ length d
@@ -72,8 +48,7 @@ unfolding number_bytes
 numbers_next w [] i h = absurd (omega arith)
 numbers_next w (x ∷ xs) zero h = sym (append-nil (bytes_of w x))
 numbers_next w (x ∷ xs) (suc i) h =
-    append_assoc (bytes_of w x) (number_bytes w (take i xs)) (bytes_of w (get_or xs i 0))
-    ∙ ap (λ (bs : List ℕ). bytes_of w x ++ bs) (numbers_next w xs i (omega arith))
+    append_assoc (bytes_of w x) (number_bytes w (take i xs)) (bytes_of w (get_or xs i 0)) ∙ ap (λ (bs : List ℕ). bytes_of w x ++ bs) (numbers_next w xs i (omega arith))
 
 module _ (d : List ℕ) (at w : ℕ) (xs : List ℕ) where
   pub laid_none : Laid d at w xs 0 d at

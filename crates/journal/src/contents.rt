@@ -21,7 +21,7 @@ const LENGTH_FAULT: Fault = Fault {
 
 // What is asked of record i: its first byte's place and its bytes' number, whether its times are all equal, and how many they are.
 // Where there is no such record all of it is 0.
-#[derive(Drop)]
+#[derive(Clone, Copy)]
 pub struct Shown {
     pub start: usize,
     pub size: usize,
@@ -31,7 +31,7 @@ pub struct Shown {
 
 // The number of the records that stand, the committed length, the last record's form and day, and what is asked of record i;
 // or the first fault.
-#[derive(Drop)]
+#[derive(Clone, Copy)]
 pub enum Contents {
     Stands {
         records: usize,

@@ -26,14 +26,14 @@ pub const ROOM_REFUSAL: u32 = 9;
 pub const FIXED_SIZE: usize = 12;
 
 // How much of the record a call may write: all of it, or document 01's k bytes.
-#[derive(Drop)]
+#[derive(Clone, Copy)]
 pub enum Budget {
     All,
     UpTo(usize),
 }
 
 // What a call asks besides what it is lent: the record's day, how much of the record may be written, and the rule.
-#[derive(Drop)]
+#[derive(Clone, Copy)]
 pub struct Asked {
     pub day: u16,
     pub budget: Budget,

@@ -1,14 +1,13 @@
 // One field of a record: a number of some bytes that has to lie in a range.
 // It is judged when its last byte stands; a refusal's place is its first byte.
-ghost use Rattle.std.specs.Prelude.{◌≡◌, ◌+◌, ◌^◌, ◌≤◌, ◌<◌, length};
-ghost use Rattle.journal_spec.specs.Bytes.{number_at};
+ghost use Rattle.std.specs.Prelude.{◌≡◌, ◌≤◌, ◌<◌, length};
 ghost use Rattle.journal.specs.Found.{field_at};
 
 use crate::Fault;
-use journal_parts::number_of;
+use journal_parts::number_at;
 
 // The field's value; that the bytes run out before its last; or its refusal.
-#[derive(Drop)]
+#[derive(Clone, Copy)]
 pub(crate) enum FieldRead {
     Value(u64),
     Short,
@@ -44,13 +43,4 @@ pub(crate) fn field_at(
         });
     }
     FieldRead::Value(x)
-}
-
-// The number in the w bytes at a place, which all stand.
-pub(crate) fn number_at(b: &[u8], at: usize, w: usize) -> u64
-    requires { (at + w ≤ length b.now) × (w ≤ 8) }
-    ensures { (result ≡ number_at w at b.now) × (result < 256 ^ w) }
-{
-    let end = at + w;
-    number_of(&b[at..end])
 }

@@ -1,6 +1,6 @@
 // A record's bytes laid out in an array, as document 01's leaf has them: form, day, and four sections, each after its count.
 // As with text_digits' `put`, what has no room is left out, so that any array is fine; one of `MAX_RECORD` bytes has room for every record.
-ghost use Rattle.std.specs.Prelude.{◌≡◌, ◌++◌, ◌+◌, ◌≤◌, leb, length};
+ghost use Rattle.std.specs.Prelude.{◌≡◌, ◌++◌, ◌≤◌};
 ghost use Rattle.text_digits.specs.Text.{Put};
 ghost use Rattle.limit.specs.Formula.{sample_form};
 ghost use Rattle.journal_spec.specs.Bytes.{bytes_of};
@@ -56,7 +56,7 @@ fn lay_numbers(out: &mut [u8], at: usize, numbers: &[u32]) -> usize
     let mut p = lay_number(out, at, 2, n as u64);
     let mut i: usize = 0;
     while i < n {
-        p = lay_four(out, p, numbers[i] as u64);
+        p = lay_number(out, p, 4, numbers[i] as u64);
         i += 1;
     }
     p
@@ -70,53 +70,10 @@ fn lay_bits(out: &mut [u8], at: usize, limits: &[u64]) -> usize
     let mut p = lay_number(out, at, 2, n as u64);
     let mut i: usize = 0;
     while i < n {
-        p = lay_eight(out, p, limits[i]);
+        p = lay_number(out, p, 8, limits[i]);
         i += 1;
     }
     p
-}
-
-// A number in eight bytes: its lower half, then its upper half.
-fn lay_eight(out: &mut [u8], at: usize, x: u64) -> usize
-    ensures { Put out.old at (bytes_of 8 x) out.new result }
-{
-    let p = lay_four(out, at, x);
-    lay_four(out, p, x / 0x100000000)
-}
-
-// A number in four bytes.
-fn lay_four(out: &mut [u8], at: usize, x: u64) -> usize
-    ensures { Put out.old at (bytes_of 4 x) out.new result }
-{
-    if fits(out.len(), at, 4) {
-        return store_four(out, at, x);
-    }
-    lay_number(out, at, 4, x)
-}
-
-// The four bytes stored, each by itself and none copied, where they have room.
-fn store_four(out: &mut [u8], at: usize, x: u64) -> usize
-    requires { at + 4 ≤ length out.old }
-    ensures { Put out.old at (bytes_of 4 x) out.new result }
-{
-    let second = x / 256;
-    let third = second / 256;
-    let fourth = third / 256;
-    out[at] = (x % 256) as u8;
-    out[at + 1] = (second % 256) as u8;
-    out[at + 2] = (third % 256) as u8;
-    out[at + 3] = (fourth % 256) as u8;
-    at + 4
-}
-
-// Whether w bytes from a place on end inside an array of that size.
-fn fits(size: usize, at: usize, w: usize) -> bool
-    ensures { result ≡ leb (at + w) size }
-{
-    if size < w {
-        return false;
-    }
-    at <= size - w
 }
 
 // A number in w bytes, the lowest first.

@@ -37,7 +37,7 @@ pub use reading::{ABSENT_REFUSAL, mark_by, part_place_by, read_by, scan_by, stat
 pub use record::{Head, MAX_CHANCES, MAX_DAY, OLD_FORM_REFUSAL};
 
 // A refusal's number, and the place of what is refused: a field's first byte in the journal, or a line's in the log.
-#[derive(Drop)]
+#[derive(Clone, Copy)]
 pub struct Fault {
     pub number: u32,
     pub place: usize,
@@ -45,7 +45,7 @@ pub struct Fault {
 
 // Whole if the records take all of the length, torn if bytes of a record that is not whole follow them; with the number of the records
 // and the committed length. Or damaged, with the first fault.
-#[derive(Drop)]
+#[derive(Clone, Copy)]
 pub enum Status {
     Whole { records: usize, committed: usize },
     Torn { records: usize, committed: usize },
@@ -53,14 +53,14 @@ pub enum Status {
 }
 
 // A record's part of the slice: the place of its first byte and its bytes' number, both 0 where reading is refused.
-#[derive(Drop)]
+#[derive(Clone, Copy)]
 pub struct Part {
     pub start: usize,
     pub size: usize,
 }
 
 // A record's mark, or the refusal's number.
-#[derive(Drop)]
+#[derive(Clone, Copy)]
 pub enum Marked {
     As(Mark),
     Refused(u32),
@@ -68,7 +68,7 @@ pub enum Marked {
 
 // The journal's length after an append; or declined, with the refusal's number; or declined for a line of the log, with the refusal's number
 // and the place in the log of that line's first byte; or damaged, with the journal's first fault.
-#[derive(Drop)]
+#[derive(Clone, Copy)]
 pub enum Appended {
     Extended(usize),
     Declined(u32),

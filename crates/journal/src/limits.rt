@@ -6,16 +6,17 @@ ghost use Rattle.journal.specs.Remembered.{Remembered};
 ghost use Rattle.journal.specs.Found.{field_by, limit_refusal_at, limits_at, limit_section_at};
 
 use crate::Fault;
-use crate::field::{FieldRead, field_at, number_at};
+use crate::field::{FieldRead, field_at};
 use crate::quantiles::quantile_at;
 use crate::record::MAX_CHANCES;
+use journal_parts::number_at;
 use limit::{Answer, Worked};
 
 // Document 01's number for a count of limits or the bits of a limit that are not the record's own.
 pub(crate) const LIMIT_REFUSAL: u32 = 7;
 
 // The place after the limits; that the bytes run out in them; or their refusal.
-#[derive(Drop)]
+#[derive(Clone, Copy)]
 pub(crate) enum LimitsRead {
     Next(usize),
     Short,

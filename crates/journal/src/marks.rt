@@ -5,14 +5,13 @@ ghost use Rattle.journal_spec.specs.Bytes.{numbers_in};
 ghost use Rattle.journal_spec.specs.Read.{letter_of, are_equal, mark_from, mark_of, times_in};
 ghost use Rattle.journal.specs.Answers.{as_mark};
 
-use crate::field::number_at;
-use journal_parts::number_in;
+use journal_parts::{number_at, number_in};
 
 // Below so many times the mark is S.
 const FEW_TIMES: u64 = 8;
 
 // Document 01's marks F, S and N.
-#[derive(Drop)]
+#[derive(Clone, Copy)]
 pub enum Mark {
     Flat,
     Few,

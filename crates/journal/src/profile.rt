@@ -7,11 +7,11 @@ ghost use Rattle.journal_spec.specs.Profile.{profile_chances, profile_times};
 ghost use Rattle.journal.specs.Handed.{as_rule, kept_by};
 ghost use Rattle.journal.specs.Records.{Stands};
 
-use crate::field::number_at;
+use journal_parts::number_at;
 use limit::SAMPLE_FORM;
 
 // Any record may stand, or the profile's alone.
-#[derive(Drop)]
+#[derive(Clone, Copy)]
 pub enum Rule {
     Plain,
     Profile,

@@ -60,7 +60,7 @@ const TIMES: SectionRule = SectionRule {
 };
 
 // Form and day of a record: what the reader of the next record knows of it.
-#[derive(Drop)]
+#[derive(Clone, Copy)]
 pub struct Head {
     pub form: u64,
     pub day: u64,
@@ -68,7 +68,7 @@ pub struct Head {
 
 // A record that was read: the place after it, its form and day, whether its times are all equal, how many they are, and whether it is one
 // of the profile's.
-#[derive(Drop)]
+#[derive(Clone, Copy)]
 pub(crate) struct Entry {
     pub next: usize,
     pub form: u64,
@@ -79,7 +79,7 @@ pub(crate) struct Entry {
 }
 
 // The record; that the bytes run out in it; or its first refusal.
-#[derive(Drop)]
+#[derive(Clone, Copy)]
 pub(crate) enum RecordRead {
     Read(Entry),
     Short,

@@ -10,7 +10,7 @@ use crate::field::{FieldRead, field_at};
 use limit::sums::Sums;
 
 // How many numbers there are, least and most; the range of a number; whether each is above the one before it; and the number of the refusal.
-#[derive(Drop)]
+#[derive(Clone, Copy)]
 pub(crate) struct SectionRule {
     pub least: u64,
     pub most: u64,
@@ -21,7 +21,7 @@ pub(crate) struct SectionRule {
 }
 
 // The place after the section and the sums of its numbers; that the bytes run out in it; or its refusal.
-#[derive(Drop)]
+#[derive(Clone, Copy)]
 pub(crate) enum SectionRead {
     Read { next: usize, sums: Sums },
     Short,

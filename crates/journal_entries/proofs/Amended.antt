@@ -90,8 +90,8 @@ module _ (h f x : List ℕ) (place : ℕ) (e : place ≡ length h + length f) wh
   front_of : take place (h ++ (f ++ x)) ≡ h ++ f
   front_of = ap (take place) (sym (append_assoc h f x)) ∙ take_at (h ++ f) x place (length-append h f ∙ sym e)
 
-  back_of_lem : drop place (h ++ (f ++ x)) ≡ x
-  back_of_lem = ap (drop place) (sym (append_assoc h f x)) ∙ drop_at (h ++ f) x place (length-append h f ∙ sym e)
+  back_of : drop place (h ++ (f ++ x)) ≡ x
+  back_of = ap (drop place) (sym (append_assoc h f x)) ∙ drop_at (h ++ f) x place (length-append h f ∙ sym e)
 
 -- the entry written at the place, and the count in front
 laid : (after h f e x t c : List ℕ) (place k : ℕ) → length h ≡ 2 → length c ≡ 2 → length e ≡ k → take place after ≡ h ++ f → drop (place + k) after ≡ x ++ t
@@ -116,7 +116,7 @@ ready_there : (b h f o x rest : List ℕ) (place k : ℕ) → b ≡ h ++ (f ++ (
     → Ready b h f x place k b
 ready_there b h f o x rest place k e p n =
     let s : drop (place + k) b ≡ x ++ rest =
-    sym (drop-drop k place b) ∙ ap (drop k) (ap (drop place) e ∙ back_of_lem h f (o ++ (x ++ rest)) place p) ∙ drop_at o (x ++ rest) k n in
+    sym (drop-drop k place b) ∙ ap (drop k) (ap (drop place) e ∙ back_of h f (o ++ (x ++ rest)) place p) ∙ drop_at o (x ++ rest) k n in
     let t : drop (place + k + length x) b ≡ rest =
     sym (drop-drop (length x) (place + k) b) ∙ ap (drop (length x)) s ∙ drop_at x rest (length x) refl in
     record {
@@ -129,7 +129,7 @@ ready_moved : (b h f x rest after : List ℕ) (place k m : ℕ) → b ≡ h ++ (
     → after ≡ written b (place + k) (take m (drop place b)) → Ready b h f x place k after
 unfolding written
 ready_moved b h f x rest after place k m e p n room a =
-    let part : take m (drop place b) ≡ x = ap (take m) (ap (drop place) e ∙ back_of_lem h f (x ++ rest) place p) ∙ take_at x rest m n in
+    let part : take m (drop place b) ≡ x = ap (take m) (ap (drop place) e ∙ back_of h f (x ++ rest) place p) ∙ take_at x rest m n in
     let w : after ≡ take (place + k) b ++ (x ++ drop (place + k + length x) b) =
     a ∙ ap (λ (l : List ℕ). take (place + k) b ++ (l ++ drop (place + k + length l) b)) part in
     let long : length (take (place + k) b) ≡ place + k = length-take-le (place + k) b room in
@@ -161,9 +161,9 @@ module _ (b : List ℕ) (new : IndexEntry) (f : Found) (end : End) (found : f �
 
   -- ---- sizes
 
-  next_size_lem : length (next_bytes new b) ≡ 2 + (entries_size parts.front + (6 + length new.name + entries_size parts.back))
+  next_size : length (next_bytes new b) ≡ 2 + (entries_size parts.front + (6 + length new.name + entries_size parts.back))
   unfolding next_bytes entries_size
-  next_size_lem =
+  next_size =
       index_size (amend new (entries_in b)) ∙ ap (λ (l : List IndexEntry). 2 + entries_size l) parts.is
       ∙ ap (λ (n : ℕ). 2 + n) (size_append parts.front (new ∷ parts.back))
 
@@ -174,20 +174,20 @@ module _ (b : List ℕ) (new : IndexEntry) (f : Found) (end : End) (found : f �
       let old : IndexEntry = record { name = new.name; start = x.0 } in
       let s : entries_size (entries_in b) ≡ entries_size parts.front + (6 + length new.name + entries_size parts.back) =
       ap entries_size x.1 ∙ size_append parts.front (old ∷ parts.back) in
-      omega (arith, s, next_size_lem, end_place)
+      omega (arith, s, next_size, end_place)
 
   pub size_lacked : f.there ≡ false → length (next_bytes new b) ≡ end.place + (length new.name + 6)
   size_lacked t =
       let s : entries_size (entries_in b) ≡ entries_size parts.front + entries_size parts.back =
       ap entries_size (parts.lacked t) ∙ size_append parts.front parts.back in
-      omega (arith, s, next_size_lem, end_place)
+      omega (arith, s, next_size, end_place)
 
   -- the place is among the entries
   pub place_among : f.place ≤ end.place
   place_among =
       by_test_lem f.there
-      (λ t. omega (arith, parts.place, size_there t, next_size_lem))
-      (λ t. omega (arith, parts.place, size_lacked t, next_size_lem))
+      (λ t. omega (arith, parts.place, size_there t, next_size))
+      (λ t. omega (arith, parts.place, size_lacked t, next_size))
 
   -- ---- room
 
@@ -213,7 +213,7 @@ module _ (b : List ℕ) (new : IndexEntry) (f : Found) (end : End) (found : f �
 
   module _ (bytes : AreBytes b) (room : length (next_bytes new b) ≤ length b) where
     two : 2 ≤ length b
-    two = omega (arith, next_size_lem)
+    two = omega (arith, next_size)
 
     entries : Entries b 2 (entries_in b)
     unfolding entries_in
@@ -232,7 +232,7 @@ module _ (b : List ℕ) (new : IndexEntry) (f : Found) (end : End) (found : f �
 
     -- the entry fits at the place
     pub entry_room : f.place + length new.name + 6 ≤ length b
-    entry_room = omega (arith, parts.place, next_size_lem, room)
+    entry_room = omega (arith, parts.place, next_size, room)
 
     -- ---- the buffer with room for the entry
 
@@ -268,7 +268,7 @@ module _ (b : List ℕ) (new : IndexEntry) (f : Found) (end : End) (found : f �
       lacked t =
           let e = halves (bytes_in parts.back) (ap bytes_in (parts.lacked t) ∙ entries_append parts.front parts.back) in
           let n : length (bytes_in parts.back) ≡ end.place - f.place =
-          omega (arith, entries_size_lem parts.back, parts.place, size_lacked t, next_size_lem) in
+          omega (arith, entries_size_lem parts.back, parts.place, size_lacked t, next_size) in
           ready_moved b head (bytes_in parts.front) (bytes_in parts.back) entries.rest after f.place size (end.place - f.place) e place_is n
           (omega (arith, entry_room, sized)) (o.moved t).0
 
@@ -309,7 +309,7 @@ module _ (b : List ℕ) (new : IndexEntry) (f : Found) (end : End) (found : f �
           put_written l 0 (bytes_of 2 count) m q c
           (omega (arith, length_bytes 2 count, two, long, (put_whole after f.place (entry_bytes new) l p e fits).size)) in
           let n : f.place + size + length (bytes_in parts.back) ≡ length (next_bytes new b) =
-          omega (arith, parts.place, sized, entries_size_lem parts.back, next_size_lem) in
+          omega (arith, parts.place, sized, entries_size_lem parts.back, next_size) in
           y ∙ ap (λ (z : List ℕ). written z 0 (bytes_of 2 count)) x
           ∙ laid after head (bytes_in parts.front) (entry_bytes new) (bytes_in parts.back) (drop (f.place + size + length (bytes_in parts.back)) b)
           (bytes_of 2 count) f.place size head_long (length_bytes 2 count) (omega (arith, entry_size new, sized)) r.front r.back

@@ -65,7 +65,7 @@ module _ (b : List ℕ) (at : ℕ) where
       })
       (λ t. let z : size ≡ 0 = e ∙ rw t refl in absurd (omega (arith, z)))
 
-  pub size_gone : 0 ≡ size_at b at → leb (behind_entry b at) (length b) ≡ false
+  size_gone : 0 ≡ size_at b at → leb (behind_entry b at) (length b) ≡ false
   unfolding size_at
   size_gone e =
       by_test_lem (leb (behind_entry b at) (length b))

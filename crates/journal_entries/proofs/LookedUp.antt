@@ -19,10 +19,10 @@ use Rattle.journal_spec.proofs.NameOrder.{order_equal}
 use Rattle.journal_spec.specs.Indexed.{look_up}
 use Rattle.journal_spec.proofs.Indexes.{own, other}
 use Rattle.journal_parts.specs.Numbers.{number_in}
-use Rattle.journal_entries.specs.Entries.{name_at, start_at, size_at, start_in, is_entry, entries_from, entries_in}
+use Rattle.journal_entries.specs.Entries.{name_at, start_at, size_at, start_in, entries_from, entries_in}
 use Rattle.journal_entries.specs.Answers.{start_meaning}
 use Rattle.journal_entries.specs.declared.finding.Start.TheVariants as S
-use Rattle.journal_entries.proofs.ByCounts.{Here, size_gone, size_here, start_stands, entries_end, entries_none, entries_more, count_read}
+use Rattle.journal_entries.proofs.ByCounts.{Here, size_here, start_stands, entries_end, entries_none, entries_more, count_read}
 
 -- ---- the name of an entry
 
@@ -63,26 +63,15 @@ module _ (b name : List ℕ) (at size : ℕ) (e : size ≡ size_at b at) (k : 0 
 
 -- ---- its name and its start
 
--- where none stands
-pub entry_none : (b name : List ℕ) (at start size : ℕ) → size ≡ size_at b at → size ≡ 0 → false ≡ is_entry b at name start
-unfolding is_entry
-entry_none b name at start size e z = rw (size_gone b at (sym z ∙ e)) refl
+module _ (b name : List ℕ) (at start : ℕ) (t : Bool) (told : t ≡ same_bytes (name_at b at) name) where
+  pub entry_other : t ≡ false → false ≡ (same_bytes (name_at b at) name && eqb (start_at b at) start)
+  entry_other f = rw (sym told ∙ f) refl
 
--- where one does
-module _ (b name : List ℕ) (at start size : ℕ) (e : size ≡ size_at b at) (k : 0 < size) where
-  pub entry_there_lem : is_entry b at name start ≡ (same_bytes (name_at b at) name && eqb (start_at b at) start)
-  unfolding is_entry
-  entry_there_lem = rw (size_here b at size e k).stands refl
-
-  module _ (t : Bool) (told : t ≡ same_bytes (name_at b at) name) where
-    pub entry_other : t ≡ false → false ≡ is_entry b at name start
-    entry_other f = sym (entry_there_lem ∙ rw (sym told ∙ f) refl)
-
-    pub entry_own : (n : ℕ) → t ≡ true → n ≡ start_in b at → eqb n start ≡ is_entry b at name start
-    entry_own n h s =
-        let i : n ≡ start_at b at = s ∙ start_stands b at (size_here b at size e k).stands in
-        let f : eqb n start ≡ (same_bytes (name_at b at) name && eqb (start_at b at) start) = rw (sym told ∙ h, i) refl in
-        f ∙ sym entry_there_lem
+  pub entry_own : (size n : ℕ) → size ≡ size_at b at → 0 < size → t ≡ true → n ≡ start_in b at
+      → eqb n start ≡ (same_bytes (name_at b at) name && eqb (start_at b at) start)
+  entry_own size n e k h s =
+      let i : n ≡ start_at b at = s ∙ start_stands b at (size_here b at size e k).stands in
+      rw (sym told ∙ h, i) refl
 
 -- ---- one entry a turn
 

@@ -1,7 +1,6 @@
 -- The entries of an index in a buffer of any bytes, read by their counts: a u16 count, then entries of a u16 name count, the name and a u32 start.
 -- Where an entry does not stand whole in the buffer, the entries end.
-use Rattle.std.specs.Prelude.{ℕ, zero, suc, ◌+◌, List, [], ◌∷◌, Bool, cond, ◌&&◌, length, take, drop, leb, eqb}
-use Rattle.text_digits.specs.Same.{same_bytes}
+use Rattle.std.specs.Prelude.{ℕ, zero, suc, ◌+◌, List, [], ◌∷◌, cond, length, take, drop, leb}
 use Rattle.journal_spec.specs.Bytes.{number_at}
 use Rattle.journal_spec.specs.Index.{IndexEntry}
 
@@ -24,10 +23,6 @@ size_at b at = cond (leb (behind_entry b at) (length b)) (number_at 2 at b + 6) 
 -- its start, 0 where it does not stand whole
 unfoldable pub start_in : List ℕ → ℕ → ℕ
 start_in b at = cond (leb (behind_entry b at) (length b)) (start_at b at) 0
-
--- whether it stands whole and has the name and the start
-unfoldable pub is_entry : List ℕ → ℕ → List ℕ → ℕ → Bool
-is_entry b at name start = leb (behind_entry b at) (length b) && (same_bytes (name_at b at) name && eqb (start_at b at) start)
 
 -- ---- the entries
 

@@ -1,10 +1,10 @@
 // A name among the entries: the place of its entry, or where it would be; and the start that its entry has.
 // Names rise, so that the search for a place ends at the first entry above the name.
-ghost use Rattle.std.specs.Prelude.{◌≡◌, ◌<◌};
+ghost use Rattle.std.specs.Prelude.{◌≡◌, ◌&&◌, eqb, ◌<◌};
 ghost use Rattle.text_digits.specs.Same.{same_bytes};
 ghost use Rattle.journal_spec.specs.Index.{order_of};
 ghost use Rattle.journal_spec.specs.Indexed.{look_up};
-ghost use Rattle.journal_entries.specs.Entries.{name_at, size_at, is_entry, entries_in};
+ghost use Rattle.journal_entries.specs.Entries.{name_at, start_at, size_at, entries_in};
 ghost use Rattle.journal_entries.specs.Places.{find_in};
 ghost use Rattle.journal_entries.specs.Answers.{order_meaning, start_meaning};
 
@@ -14,14 +14,14 @@ use journal_parts::number_in;
 use text_digits::same;
 
 // The place of the name's entry; or, where it has none, of the first entry above it, or behind the last.
-#[derive(Drop)]
+#[derive(Clone, Copy)]
 pub struct Found {
     pub place: usize,
     pub there: bool,
 }
 
 // A start, or that the name has no entry.
-#[derive(Drop)]
+#[derive(Clone, Copy)]
 pub enum Start {
     At(usize),
     Absent,
@@ -109,14 +109,11 @@ fn is_name(index: &[u8], at: usize, size: usize, name: &[u8]) -> bool
     same(&index[first..end], name)
 }
 
-// Whether an entry stands at a place and has the name and the start.
-pub fn is_entry(index: &[u8], at: usize, name: &[u8], start: usize) -> bool
-    ensures { result ≡ is_entry index.now at name.now start }
+// Whether the entry at a place, which has so many bytes, has the name and the start.
+pub fn is_entry(index: &[u8], at: usize, size: usize, name: &[u8], start: usize) -> bool
+    requires { (size ≡ size_at index.now at) × (0 < size) }
+    ensures { result ≡ (same_bytes (name_at index.now at) name.now && eqb (start_at index.now at) start) }
 {
-    let size = size_at(index, at);
-    if size == 0 {
-        return false;
-    }
     if !is_name(index, at, size, name) {
         return false;
     }

@@ -4,7 +4,7 @@ ghost use Rattle.journal_spec.specs.Index.{order_of};
 ghost use Rattle.journal_entries.specs.Answers.{order_meaning};
 
 // How the first of two names stands to the second.
-#[derive(Drop)]
+#[derive(Clone, Copy)]
 pub enum NameOrder {
     Lower,
     Equal,

@@ -8,7 +8,7 @@ ghost use Rattle.journal_entries.specs.Places.{end_of};
 use journal_parts::number_in;
 
 // The place behind entries, and how many they are.
-#[derive(Drop)]
+#[derive(Clone, Copy)]
 pub struct End {
     pub place: usize,
     pub count: usize,

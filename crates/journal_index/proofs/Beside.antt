@@ -21,8 +21,7 @@ module _ (indexed : Bool) (len : ℕ) (r : Appended) (after : List ℕ) (j : Jou
       (outcome_with len r after (handed indexed b) ≡ append_of j (request_of day name chances source budget rule (handed indexed index)))
       × (indexed ≡ false → b ≡ index)
 
-  pub with_index : indexed ≡ true → (left : List ℕ)
-      → indexed_outcome len r after left ≡ append_of j (request_of day name chances source budget rule (some index)) → Beside left
+  pub with_index : indexed ≡ true → (left : List ℕ) → indexed_outcome len r after left ≡ append_of j (request_of day name chances source budget rule (some index)) → Beside left
   unfolding handed
   with_index t left e = (rw t e, λ unset. not_both _ t unset)
 

@@ -82,8 +82,7 @@ ends_placed v committed last s = s.ends ∙ ap last_of (sym (records_of_placed 0
 -- ---- after the call with a budget of nothing
 
 module _ {v : List ℕ} {committed len day : ℕ} {name chances ts : List ℕ} {budget : Budget} {rule : Rule} {b : List ℕ} {r : Appended} {after : List ℕ}
-    (t : Judged (record { slice = v; len = len }) (placed_in (take committed v)) committed
-    (request_of day name chances (times ts) budget rule (some b)) b refl r after) where
+    (t : Judged (record { slice = v; len = len }) (placed_in (take committed v)) committed (request_of day name chances (times ts) budget rule (some b)) b refl r after) where
   abbrev asked : Request
   asked = request_of day name chances (times ts) budget rule (some b)
 
@@ -136,8 +135,8 @@ module _ (v : List ℕ) (committed len : ℕ) (day : ℕ) (name chances ts : Lis
   q = request_of day name chances (times ts) budget rule (some b)
 
   module _ (last : Last) (s : Stands v committed last) (z : first_of (append_refusals (length v) (placed_in (take committed v)) committed q) ≡ 0) where
-    abbrev own : List ℕ
-    own = record_bytes (offered (offer_of q))
+    abbrev leaf : List ℕ
+    leaf = record_bytes (offered (offer_of q))
 
     few : Few (offer_of q)
     few = offer_few rule _ (offer_of q) (offer_none (record { slice = v; len = len }) (placed_in (take committed v)) committed q b refl z)
@@ -147,17 +146,17 @@ module _ (v : List ℕ) (committed len : ℕ) (day : ℕ) (name chances ts : Lis
     counts = (few.name, few.chances, few.times)
 
     -- the record's size by its counts
-    sized : 12 + length name + 12 * length chances + 4 * length ts ≡ length own
+    sized : 12 + length name + 12 * length chances + 4 * length ts ≡ length leaf
     unfolding offered limits_of offer_of gathered_times times_of gather_by
     sized = sym (length_record (offered (offer_of q)) ∙ rw length-map (omega arith))
 
     -- the index's buffer after the call, by whether the record is finished
     abbrev after : List ℕ
-    after = cond (leb (length own) (allowed budget (length own))) (written b 0 (index_bytes (next_index (placed_in (take committed v)) committed (offer_of q)))) b
+    after = cond (leb (length leaf) (allowed budget (length leaf))) (written b 0 (index_bytes (next_index (placed_in (take committed v)) committed (offer_of q)))) b
 
     module _ (size : ℕ) (by : size ≡ 12 + length name + 12 * length chances + 4 * length ts) (finished : Bool)
         (is : finished ≡ leb size (allowed budget size)) where
-      told : (t : Bool) → finished ≡ t → leb (length own) (allowed budget (length own)) ≡ t
+      told : (t : Bool) → finished ≡ t → leb (length leaf) (allowed budget (length leaf)) ≡ t
       told t e = sym (ap (λ (n : ℕ). leb n (allowed budget n)) (by ∙ sized)) ∙ sym is ∙ e
 
       pub index_left : not finished ≡ true → b ≡ after

@@ -21,7 +21,7 @@ use journal_order::{Key, MOST, key_at, latest_of, wide};
 pub const INDEX_ROOM_REFUSAL: u32 = 15;
 
 // The index's length; or declined, with the refusal's number; or damaged, with the journal's first fault.
-#[derive(Drop)]
+#[derive(Clone, Copy)]
 pub enum IndexMade {
     Length(usize),
     Declined(u32),
@@ -29,7 +29,7 @@ pub enum IndexMade {
 }
 
 // What a scan answers, and what making the index does.
-#[derive(Drop)]
+#[derive(Clone, Copy)]
 pub struct Scanned {
     pub status: Status,
     pub made: IndexMade,

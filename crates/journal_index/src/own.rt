@@ -18,7 +18,7 @@ use journal_parts::number_in;
 pub const INDEX_REFUSAL: u32 = 14;
 
 // The buffer begins with the journal's index; or declined, with the refusal's number; or damaged, with the journal's first fault.
-#[derive(Drop)]
+#[derive(Clone, Copy)]
 pub enum Checked {
     Own,
     Declined(u32),
@@ -76,7 +76,7 @@ fn has_entries(b: &[u8], places: &[u16], index: &[u8]) -> bool
         }
         let at = wide(places[i]);
         let name = key_at(b, Key::Name, at);
-        if !is_entry(index, place, name, at) {
+        if !is_entry(index, place, size, name, at) {
             return false;
         }
         place += size;

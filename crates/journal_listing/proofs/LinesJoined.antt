@@ -42,7 +42,7 @@ lines_end zero p b = refl
 lines_end (suc k) p b = refl
 
 -- the records that are left, and then the end state
-pub lines_left : (rs : List Record) (earlier : List Record) (pre tail b : List ℕ) (state : ScanResult) (k : ℕ)
+lines_left : (rs : List Record) (earlier : List Record) (pre tail b : List ℕ) (state : ScanResult) (k : ℕ)
     → AllRanges earlier rs → b ≡ pre ++ (records_bytes rs ++ tail) → length rs < k
     → lines_from k (leaving pre rs state) b ≡ joined (map record_line rs) ++ state_line state
 unfolding records_bytes joined lines_from

@@ -21,7 +21,7 @@ pub use words::{put_number, put_word, put_words};
 pub const MAX_LINE: usize = 267;
 
 // Where a listing stands: the place of the next record, how many are left, whether the end state's line is written, and that state.
-#[derive(Drop)]
+#[derive(Clone, Copy)]
 pub struct Cursor {
     pub at: usize,
     pub left: usize,
@@ -30,7 +30,7 @@ pub struct Cursor {
 }
 
 // How many bytes of the buffer are the line, 0 where there is none, and the cursor behind it.
-#[derive(Drop)]
+#[derive(Clone, Copy)]
 pub struct Line {
     pub size: usize,
     pub cursor: Cursor,

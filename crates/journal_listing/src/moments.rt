@@ -9,9 +9,11 @@ ghost use Rattle.journal_listing.specs.Listing.{mean_bits, spread_bits};
 ghost use Rattle.journal_listing.specs.MomentsIn.{moments_in};
 ghost use Rattle.journal_parts.specs.Spans.{Inside, numbers_of};
 
-use journal_log::MAX_TIMES;
 use journal_parts::{Span, number_in, spans_at};
 use limit::{TIMES_REFUSAL, Worked};
+
+// The most times of a record.
+const MAX_TIMES: usize = 128;
 
 // Mean and spread of the record that stands at a place, whatever the bytes are; 6 where none does.
 pub fn moments_in(b: &[u8], at: usize) -> Worked

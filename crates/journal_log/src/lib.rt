@@ -8,4 +8,4 @@ mod whole;
 
 pub use lines::{Line, next};
 pub use reading::{LineRead, line_at};
-pub use times::{Cursor, Gathering, LINE_REFUSAL, MAX_TIMES, begin, end, gather, read};
+pub use times::{Cursor, Gathering, begin, end, gather, read};

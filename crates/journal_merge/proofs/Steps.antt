@@ -108,9 +108,9 @@ module _ (a b : List ℕ) (i j : ℕ) where
       let k = (next_second a b i j h (inside a i x xs c)).1 in
       record { y = y; rest = ys; is = refl; head = omega (arith, k, (cursor_parts a i x xs c).day, (cursor_parts b j y ys d).day) }
 
-  is_none_lem : (xs ys : List Record) → Cursor a i xs → Cursor b j ys → first_next a b i j ≡ false → length b ≤ j → (xs ≡ []) × (ys ≡ [])
-  is_none_lem [] ys c d h l = (refl, cursor_none b j ys d l)
-  is_none_lem (x ∷ xs) ys c d h l = absurd (omega (arith, (next_second a b i j h (inside a i x xs c)).0))
+  is_none : (xs ys : List Record) → Cursor a i xs → Cursor b j ys → first_next a b i j ≡ false → length b ≤ j → (xs ≡ []) × (ys ≡ [])
+  is_none [] ys c d h l = (refl, cursor_none b j ys d l)
+  is_none (x ∷ xs) ys c d h l = absurd (omega (arith, (next_second a b i j h (inside a i x xs c)).0))
 
 -- ---- what the step comes to
 
@@ -140,7 +140,7 @@ module _ (a b : List ℕ) (p : Places) (made : List Record) (w : WholeBytes a) (
   -- none is left
   pub stepped_done : first_next a b p.first p.second ≡ false → length b ≤ p.second → merged_of (records_in a) (records_in b) ≡ made
   stepped_done h k =
-      let e = is_none_lem a b p.first p.second m.xs m.ys m.first m.second h k in
+      let e = is_none a b p.first p.second m.xs m.ys m.first m.second h k in
       coming_of (records_in a) m.xs m.ys [] [] made [] _ m.parts e.0 e.1 (coming_none (records_in a)) ∙ append-nil made
 
   module _ (size : ℕ) where

@@ -6,7 +6,7 @@ ghost use Rattle.journal_merge.specs.Answers.{inputs_of, second_of};
 use crate::Whose;
 use journal::{Fault, Status};
 
-#[derive(Drop)]
+#[derive(Clone, Copy)]
 pub(crate) enum Inputs {
     Whole,
     Damaged { whose: Whose, fault: Fault },

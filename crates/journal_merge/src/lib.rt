@@ -27,7 +27,7 @@ mod stepping;
 const TORN_REFUSAL: u32 = 16;
 
 // Whose: the first journal's or the second's.
-#[derive(Drop)]
+#[derive(Clone, Copy)]
 pub enum Whose {
     First,
     Second,
@@ -35,7 +35,7 @@ pub enum Whose {
 
 // The result's length; a journal's fault, as scan's; or declined, with the refusal's number: 16 and whose end is torn, 13 and its place in the
 // result, or 9.
-#[derive(Drop)]
+#[derive(Clone, Copy)]
 pub enum Merged {
     Length(usize),
     Damaged { whose: Whose, fault: Fault },

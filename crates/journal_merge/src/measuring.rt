@@ -10,7 +10,7 @@ ghost use Rattle.journal_merge.specs.Passes.{measured_of};
 use crate::parts::form_of;
 use crate::stepping::{Places, Step, next_step};
 
-#[derive(Drop)]
+#[derive(Clone, Copy)]
 pub(crate) enum Measured {
     Length(usize),
     Falls(usize),

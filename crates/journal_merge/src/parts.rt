@@ -12,7 +12,7 @@ use journal_parts::{number_in, record_size};
 use text_digits::put;
 
 // A record's part of the first journal, or of the second.
-#[derive(Drop)]
+#[derive(Clone, Copy)]
 pub(crate) struct Part {
     pub(crate) first: bool,
     pub(crate) start: usize,

@@ -9,14 +9,14 @@ use crate::parts::{Part, day_at, size_at};
 use crate::searching::is_among;
 
 // Where a pass stands: the places of the next records of both journals.
-#[derive(Drop)]
+#[derive(Clone, Copy)]
 pub(crate) struct Places {
     pub(crate) first: usize,
     pub(crate) second: usize,
 }
 
 // The next record of the result and the places behind it; or the places behind a dropped record.
-#[derive(Drop)]
+#[derive(Clone, Copy)]
 pub(crate) enum Step {
     Take { part: Part, after: Places },
     Drop(Places),

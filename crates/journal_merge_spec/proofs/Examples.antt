@@ -19,7 +19,7 @@ use Rattle.journal_merge_spec.proofs.Rows.{refused}
 use Rattle.journal_merge_spec.proofs.Answers.{first_fault, second_fault, first_ends_torn, second_ends_torn}
 use Rattle.journal_merge_spec.specs.Records.{is_among, select, undropped, before, from, by_day, merged_of, fall_from}
 
--- the same record as form 2
+-- the same leaf as form 2
 unfoldable pub new_record : Record
 unfolding the_record
 new_record = record {
@@ -59,7 +59,7 @@ whole_faultless n p h = let e = whole_example in let z : ◌≡◌ {A = ℕ} 0 1
 cut_faultless : (n p : ℕ) → scan_of plain the_bytes 32 ≡ Scan.damaged n p → ⊥
 cut_faultless n p h = let e = cut_example in let z : ◌≡◌ {A = ℕ} 0 1 = cc in omega arith
 
--- the record's 33 bytes, cut to 32 in the first volume, in the second, in both
+-- the leaf's 33 bytes, cut to 32 in the first volume, in the second, in both
 pub record CutInputs (buffer : List ℕ) : Type 0 where
   pub first : merge_of the_bytes 32 the_bytes 33 buffer ≡ refused (declined_of of_first 16) buffer
   pub second : merge_of the_bytes 33 the_bytes 32 buffer ≡ refused (declined_of of_second 16) buffer

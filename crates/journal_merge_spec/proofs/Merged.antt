@@ -20,7 +20,7 @@ use Rattle.journal_spec.proofs.Cursor.{AllGood, follow_good}
 use Rattle.journal_spec.specs.Ranges.{AllRanges}
 use Rattle.journal_spec.proofs.Placing.{written_length, written_take, written_drop, lengths_are}
 use Rattle.journal_spec.proofs.Demand.{Holds, agrees, plain_scan, holds_records, demand3_from}
-use Rattle.journal_merge_spec.specs.Records.{dropped, undropped, merged_of, merged_model}
+use Rattle.journal_merge_spec.specs.Records.{dropped, undropped, merged_of}
 use Rattle.journal_merge_spec.specs.Merge.{merged, MergeOutcome, merge_of}
 use Rattle.journal_merge_spec.proofs.Tally.{tally}
 use Rattle.journal_merge_spec.proofs.Dropping.{tally_undropped, length_undropped}
@@ -147,5 +147,5 @@ module _ (slice₁ : List ℕ) (len₁ : ℕ) (slice₂ : List ℕ) (len₂ : �
         }
 
     -- demand 3 holds from the merged journal, its model starting with the merged records
-    pub demand3_merged : (cs : List Call) → Demand3From operations (length buffer) (record { slice = after; len = n }) (merged_model firsts seconds) cs
+    pub demand3_merged : (cs : List Call) → Demand3From operations (length buffer) (record { slice = after; len = n }) (model_of (merged_of firsts seconds)) cs
     demand3_merged cs = demand3_from (length buffer) _ _ merged_journal.holds cs

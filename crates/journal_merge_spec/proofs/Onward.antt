@@ -27,9 +27,9 @@ use Rattle.journal_spec.proofs.Cut.{WrittenBehind, written_all_from, written_upt
 use Rattle.journal_spec.proofs.TornOrWhole.{CutLast, SaysTorn, SaysWhole, torn_exactly_from, whole_otherwise_from}
 use Rattle.journal_spec.proofs.IndexAfter.{model_made, makes, index_finished_from, index_cut_from, index_declined_from}
 use Rattle.journal_spec.proofs.Threaded.{NeverStale, never_stale_from}
-use Rattle.journal_merge_spec.specs.Records.{merged_of, merged_model}
+use Rattle.journal_merge_spec.specs.Records.{merged_of}
 use Rattle.journal_merge_spec.specs.Merge.{merged, merge_of}
-use Rattle.journal_merge_spec.proofs.Merged.{merged_journal}
+use Rattle.journal_merge_spec.proofs.Merged.{model_of, merged_journal}
 
 module _ (slice₁ : List ℕ) (len₁ : ℕ) (slice₂ : List ℕ) (len₂ : ℕ) (buffer : List ℕ) (b₁ : AreBytes slice₁) (b₂ : AreBytes slice₂)
     (n : ℕ) (h : (merge_of slice₁ len₁ slice₂ len₂ buffer).answer ≡ merged n) where
@@ -38,7 +38,7 @@ module _ (slice₁ : List ℕ) (len₁ : ℕ) (slice₂ : List ℕ) (len₂ : �
   start_records = merged_of (records_upto slice₁ len₁) (records_upto slice₂ len₂)
 
   abbrev pub start_model : Model
-  start_model = merged_model (records_upto slice₁ len₁) (records_upto slice₂ len₂)
+  start_model = model_of start_records
 
   abbrev pub start_journal : Journal
   start_journal = record { slice = (merge_of slice₁ len₁ slice₂ len₂ buffer).buffer; len = n }

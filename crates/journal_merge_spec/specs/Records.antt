@@ -4,7 +4,6 @@ use Rattle.std.specs.Prelude.{ℕ, ◌+◌, List, [], ◌∷◌, ◌++◌, Bool,
 use Rattle.std.proofs.Math.Option.{Option, none, some}
 use Rattle.text_digits.specs.Same.{same_bytes}
 use Rattle.journal_spec.specs.Record.{Record, record_bytes}
-use Rattle.journal_spec.specs.Model.{Model}
 
 -- ---- what is dropped
 
@@ -50,10 +49,6 @@ by_day (x ∷ xs) ys = before x.day ys ++ x ∷ by_day xs (from x.day ys)
 -- the records of the result
 unfoldable pub merged_of : List Record → List Record → List Record
 merged_of first second = by_day first (undropped first second)
-
--- the model, document 01's book, that demand 3 starts with from the merged journal: these records, and nothing of it torn
-abbrev pub merged_model : List Record → List Record → Model
-merged_model first second = record { records = merged_of first second; tail = [] }
 
 -- ---- form 1 after form 2
 

@@ -7,13 +7,12 @@ use mathlib.Core.Bool.{Bool, true, false}
 use native.Mathlib.Omega.{arith}
 use lib.ListN.{length, take, drop, get_or, set, length-set}
 use lib.Seq.{get_or-set_same, get_or-set_other, set_split, split_at, take-set-lt, length-take-le, get_or-take}
-use Rattle.facts.proofs.Tests.{true_not_false}
 use Rattle.facts.proofs.Orders.{by_order}
 use Rattle.journal_spec.specs.Index.{equal, order_of}
 use Rattle.journal_spec.proofs.NameOrder.{order_equal}
 use Rattle.journal_entries.specs.Shape.{is_below}
-use Rattle.journal_order.specs.Sorted.{having, last_in, last_having, Rises, Climbs, LatestOf, Split, EndsWith, Guessed, insert_at, Inserted}
-use Rattle.journal_order.proofs.Below.{by_three, below_self, below_turned, neither_below}
+use Rattle.journal_order.specs.Sorted.{having, last_in, last_having, Rises, Climbs, LatestOf, Split, EndsWith, insert_at, Inserted}
+use Rattle.journal_order.proofs.Below.{by_three, below_turned, neither_below}
 use Rattle.journal_order.proofs.Having.{having_append, having_one, having_not, last_append, last_one}
 use Rattle.journal_order.proofs.Searching.{none_above, all_lower}
 use Rattle.journal_order.proofs.Inserting.{insert_climbs, insert_having}
@@ -131,41 +130,6 @@ module _ (key : ℕ → List ℕ) (before : List ℕ) (count n p : ℕ) (k : Lis
       lower_last : 0 < n → is_below (key (get_or (take count before) (n - 1) 0)) (key p) ≡ true
       lower_last h =
           ap (λ (x : ℕ). is_below (key x) (key p)) (last_key h) ∙ ap (is_below (key (get_or before (n - 1) 0))) (sym own) ∙ e.absent f h
-
--- ---- at a position that was guessed
-
-module _ (key : ℕ → List ℕ) (before : List ℕ) (count i p : ℕ) (k : List ℕ) (inside : count < length before) (own : k ≡ key p)
-    (climbs : Climbs key (take count before)) (g : Guessed key k before count i) where
-  here : k ≡ key (get_or (take count before) i 0)
-  here = g.same ∙ ap key (sym (get_or-take count before i 0 g.within))
-
-  long : length (take count before) ≡ count
-  long = length-take-le count before (omega arith)
-
-  guessed_split : Split key k (take count before) (i + 1)
-  guessed_split = record {
-    within = omega (arith, g.within, long);
-    upto = λ j h. by_order i j
-        (λ e. rw (same_place j h e, ← here) (below_self k))
-        (λ l. rw here (below_turned (key (get_or (take count before) j 0)) (key (get_or (take count before) i 0))
-        (climbs.climbing j i l (omega (arith, g.within, long)))));
-    above = λ j h l. rw here (climbs.climbing i j (omega arith) l);
-  }
-    where
-      same_place : (j : ℕ) → j < i + 1 → i ≤ j → j ≡ i
-      same_place j h e = omega arith
-
-  back : i + 1 - 1 ≡ i
-  back = omega arith
-
-  guessed_ends : EndsWith key k before (i + 1) true
-  guessed_ends = record {
-    there = λ h. (omega arith, rw back (subst (λ (x : List ℕ). is_below x k ≡ false) g.same (below_self k)));
-    absent = λ h l. absurd (true_not_false h);
-  }
-
-  pub entered_guess : LatestOf key (take count before ++ p ∷ []) (take count (set before i p))
-  entered_guess = rw back at (entered_own key before count (i + 1) p k inside own climbs guessed_split true guessed_ends refl)
 
 -- ---- one after the other
 

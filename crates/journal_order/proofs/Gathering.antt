@@ -1,7 +1,7 @@
 -- A journal's records passed one after the other, each entered by its key.
 -- Assumes nothing.
 use mathlib.Core.Path.{◌≡◌, refl, sym, ap, subst, ◌∙◌}
-use Prim.Native.Nat.{ℕ, ◌+◌, ◌-◌, ◌*◌, ◌≤◌, ◌<◌}
+use Prim.Native.Nat.{ℕ, ◌+◌, ◌*◌, ◌≤◌, ◌<◌}
 use mathlib.Core.List.{List, [], ◌∷◌, ◌++◌, append-nil}
 use native.Mathlib.Omega.{arith}
 use lib.ListN.{length, take, drop, length-append}
@@ -13,7 +13,7 @@ use Rattle.journal_spec.proofs.Ranged.{encoding_length}
 use Rattle.journal_spec.proofs.Whole.{WholeBytes}
 use Rattle.journal_parts.specs.Front.{record_size}
 use Rattle.journal_parts.proofs.Front.{front_size}
-use Rattle.journal_order.specs.Starts.{starts_from, starts_in, most_records, Next}
+use Rattle.journal_order.specs.Starts.{starts_from, starts_in, most_records}
 use Rattle.journal_order.specs.Sorted.{LatestOf}
 use Rattle.journal_order.proofs.Entering.{latest_none, latest_more}
 
@@ -84,16 +84,11 @@ module _ (key : ℕ → List ℕ) (b before places : List ℕ) (count at : ℕ) 
     abbrev turn : Passed b at v.passed
     turn = passing_turn b at v.passed v.passing h
 
-    gathering_room : count < length places
+    pub gathering_room : count < length places
     gathering_room = omega (arith, v.count', v.passing.few, turn.inside, turn.least, v.long)
 
-    pub gathering_going : (size : ℕ) → size ≡ record_size (drop at b) → Next at size (length b - at) count (length places)
-    gathering_going size e = record {
-      some = omega (arith, turn.least, e);
-      inside = omega (arith, turn.inside, e);
-      short = omega (arith, h, short);
-      free = gathering_room;
-    }
+    pub gathering_inside : (at + record_size (drop at b) ≤ length b) × (33 ≤ record_size (drop at b))
+    gathering_inside = (turn.inside, turn.least)
 
     pub gathering_next : (after : List ℕ) (more : ℕ) → LatestOf key (take count places ++ at ∷ []) (take more after) → more ≤ count + 1
         → length after ≡ length places → Gathering key b before after more (at + record_size (drop at b))
@@ -107,3 +102,6 @@ module _ (key : ℕ → List ℕ) (b before places : List ℕ) (count at : ℕ) 
 
   pub gathering_end : length b ≤ at → LatestOf key (starts_in b) (take count places)
   gathering_end h = subst (λ (l : List ℕ). LatestOf key l (take count places)) (sym (passing_end b at v.passed v.passing h)) v.latest
+
+  pub gathering_count : count ≤ length before
+  gathering_count = omega (arith, v.count', v.passing.few, v.passing.cursor.inside)

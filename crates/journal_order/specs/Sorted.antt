@@ -57,11 +57,6 @@ pub record EndsWith (key : ℕ → List ℕ) (k ps : List ℕ) (n : ℕ) (r : Bo
   pub there : r ≡ true → (0 < n) × (is_below (key (get_or ps (n - 1) 0)) k ≡ false)
   pub absent : r ≡ false → 0 < n → is_below (key (get_or ps (n - 1) 0)) k ≡ true
 
--- a position among the first `count` has k
-pub record Guessed (key : ℕ → List ℕ) (k ps : List ℕ) (count i : ℕ) : Type 0 where
-  pub within : i < count
-  pub same : k ≡ key (get_or ps i 0)
-
 -- what the search answers
 unfoldable pub place_meaning : Place → Option ℕ
 place_meaning (P.At p) = some p

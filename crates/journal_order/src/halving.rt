@@ -7,16 +7,16 @@ use crate::keys::{Key, key_at};
 use journal_entries::is_below;
 
 // A place, or that none has the key.
-#[derive(Drop)]
+#[derive(Clone, Copy)]
 pub enum Place {
     At(usize),
     Absent,
 }
 
-// The last of the places that have the key, if they are sorted by it.
+// The last of the places that have the key.
 pub fn look_up(b: &[u8], key: Key, places: &[u16], bytes: &[u8]) -> Place
-    ensures { Rises (key_at key b.now) places.now
-        → place_meaning result ≡ last_having (key_at key b.now) bytes.now places.now }
+    requires { Rises (key_at key b.now) places.now }
+    ensures { place_meaning result ≡ last_having (key_at key b.now) bytes.now places.now }
 {
     let n = upto(b, key, places, bytes);
     if !ends_with(b, key, places, n, bytes) {
@@ -37,11 +37,10 @@ pub(crate) fn ends_with(b: &[u8], key: Key, places: &[u16], n: usize, bytes: &[u
     !is_below(key_at(b, key, at), bytes)
 }
 
-// How many places have a key that does not come after the bytes, if they are sorted by it.
+// How many places have a key that does not come after the bytes.
 pub(crate) fn upto(b: &[u8], key: Key, places: &[u16], bytes: &[u8]) -> usize
-    ensures upper_bound { result ≤ length places.now }
-    ensures split { Rises (key_at key b.now) places.now
-        → Split (key_at key b.now) bytes.now places.now result }
+    requires { Rises (key_at key b.now) places.now }
+    ensures { Split (key_at key b.now) bytes.now places.now result }
 {
     let mut low: usize = 0;
     let mut high = places.len();

@@ -9,7 +9,7 @@ use journal_parts::{record_name, record_size};
 pub const MOST: usize = 1985;
 
 // The record's name, or all its bytes.
-#[derive(Drop)]
+#[derive(Clone, Copy)]
 pub enum Key {
     Name,
     Record,

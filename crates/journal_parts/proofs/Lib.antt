@@ -5,6 +5,5 @@ pub mod Plainly
 pub mod Reached
 pub mod Insides
 pub mod Rooms
-pub mod Roomy
 pub mod Parts
 pub mod Front

@@ -1,11 +1,7 @@
--- A number in the bytes of a slice, whatever their number and wherever they are looked for.
+-- A number in the bytes of a slice, for readers that have not looked whether its bytes stand there.
 -- Assumes nothing.
 use Rattle.std.specs.Prelude.{ℕ, ◌+◌, List, cond, ◌&&◌, length, leb}
-use Rattle.journal_spec.specs.Bytes.{value_of, number_at}
-
--- the number that some bytes stand for; 0 where they are more than the 8 of a u64
-unfoldable pub number_of : List ℕ → ℕ
-number_of bs = cond (leb (length bs) 8) (value_of bs) 0
+use Rattle.journal_spec.specs.Bytes.{number_at}
 
 -- the number in the w bytes at a place; 0 where they do not all stand in the slice, or where they are more than the 8 of a u64
 unfoldable pub number_in : ℕ → ℕ → List ℕ → ℕ

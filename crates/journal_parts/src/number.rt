@@ -2,21 +2,10 @@
 // Chances and times have four bytes: without a loop the compiler reads them in one load. One loop serves every other width.
 ghost use Rattle.std.specs.Prelude.{◌≡◌, ◌+◌, ◌^◌, ◌≤◌, ◌<◌, length};
 ghost use Rattle.journal_spec.specs.Bytes.{number_at};
-ghost use Rattle.journal_parts.specs.Numbers.{number_of, number_in};
-
-// The number that some bytes stand for; 0 where they are more than a u64 has.
-pub fn number_of(bytes: &[u8]) -> u64
-    ensures { (result ≡ number_of bytes.now) × (result < 256 ^ length bytes.now) }
-{
-    let w = bytes.len();
-    if 8 < w {
-        return 0;
-    }
-    number_at(bytes, 0, w)
-}
+ghost use Rattle.journal_parts.specs.Numbers.{number_in};
 
 // The number in the w bytes at a place.
-fn number_at(b: &[u8], at: usize, w: usize) -> u64
+pub fn number_at(b: &[u8], at: usize, w: usize) -> u64
     requires { (at + w ≤ length b.now) × (w ≤ 8) }
     ensures { (result ≡ number_at w at b.now) × (result < 256 ^ w) }
 {
@@ -37,15 +26,6 @@ fn four_bytes_at(b: &[u8], at: usize) -> u64
     three * 256 + b[at] as u64
 }
 
-// The number in two bytes, as a count.
-pub(crate) fn two_bytes_at(b: &[u8], at: usize) -> usize
-    requires { at + 2 ≤ length b.now }
-    ensures { result ≡ number_at 2 at b.now }
-{
-    let top = b[at + 1] as usize;
-    top * 256 + b[at] as usize
-}
-
 // The number in any number of bytes.
 fn bytes_at(b: &[u8], at: usize, w: usize) -> u64
     requires { (at + w ≤ length b.now) × (w ≤ 8) }
@@ -60,7 +40,7 @@ fn bytes_at(b: &[u8], at: usize, w: usize) -> u64
     value
 }
 
-// The number in the w bytes at a place: 0 where they do not all stand, or where they are more than a u64 has.
+// The same for a caller that has not looked whether the bytes stand: 0 where they do not all, or where they are more than a u64 has.
 pub fn number_in(b: &[u8], at: usize, w: usize) -> u64
     ensures { result ≡ number_in w at b.now }
 {

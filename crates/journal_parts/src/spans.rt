@@ -6,7 +6,7 @@ ghost use Rattle.journal_parts.specs.Spans.{head_at, span_at, span_after, name_s
 use crate::number::number_in;
 
 // The place of a section's first number, how many numbers there are, the place after them, and whether they all stand.
-#[derive(Drop)]
+#[derive(Clone, Copy)]
 pub struct Span {
     pub first: usize,
     pub count: usize,
@@ -15,7 +15,7 @@ pub struct Span {
 }
 
 // The sections of a record; all stand if the last does.
-#[derive(Drop)]
+#[derive(Clone, Copy)]
 pub struct Spans {
     pub name: Span,
     pub chances: Span,

@@ -42,13 +42,13 @@ use Rattle.journal_report.specs.Report.{line_of, report_line, max_line, head_nam
 -- ---- columns
 
 -- a text no longer than m, in a column no wider
-pub column_most : (tabs : Bool) (width m : ℕ) (text : List ℕ) → width ≤ m → length text ≤ m → length (column tabs width text) ≤ suc m
+column_most : (tabs : Bool) (width m : ℕ) (text : List ℕ) → width ≤ m → length text ≤ m → length (column tabs width text) ≤ suc m
 unfolding column fill
 column_most true width m text w t = omega arith
 column_most false width m text w t =
     rw (length-append (replicate (width - length text) space) text, length-replicate (width - length text) space) (omega arith)
 
-pub name_most : (tabs : Bool) (width m : ℕ) (name : List ℕ) → width ≤ m → length name ≤ m → length (name_column tabs width name) ≤ m
+name_most : (tabs : Bool) (width m : ℕ) (name : List ℕ) → width ≤ m → length name ≤ m → length (name_column tabs width name) ≤ m
 unfolding name_column fill
 name_most true width m name w t = rw (length-append name []) (omega arith)
 name_most false width m name w t =

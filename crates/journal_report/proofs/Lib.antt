@@ -5,7 +5,6 @@
 pub mod Columns
 pub mod Quoting
 pub mod Slots
-pub mod SameDay
 -- the report
 pub mod Positions
 pub mod Widths

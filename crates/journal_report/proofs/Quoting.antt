@@ -14,11 +14,9 @@ use Rattle.text_digits.specs.Text.{Put}
 use Rattle.text_digits.proofs.Putting.{put_nothing, put_put}
 use Rattle.journal_spec.specs.Bytes.{number_at, numbers_in}
 use Rattle.journal_parts.specs.Numbers.{number_in}
-use Rattle.journal_parts.specs.Spans.{numbers_of, record_in}
-use Rattle.journal_parts.specs.declared.spans.Spans.{Spans}
 use Rattle.journal_parts.proofs.NumberStands.{number_stands}
 use Rattle.journal_listing.proofs.Pairs.{each_pair}
-use Rattle.journal_report.specs.Slot.{Quote, column, slot_text, quotes_of, limit_for, limit_of, no_limit, limit_width, quote_columns, asked_columns, limit_columns}
+use Rattle.journal_report.specs.Slot.{Quote, column, slot_text, quotes_of, limit_for, no_limit, limit_width, quote_columns, asked_columns, limit_columns}
 
 -- n quotes, the chances from c on and the limits from l on
 abbrev pub quotes_in : List ℕ → ℕ → ℕ → ℕ → List Quote
@@ -42,13 +40,6 @@ module _ (tabs : Bool) (asked b : List ℕ) (n m c l k : ℕ) where
       → asked_columns tabs asked (quotes_in b k c l) ≡ limit_columns tabs asked (quotes_of (numbers_in 4 n c b) (numbers_in 8 m l b))
   unfolding limit_columns
   asked_columns_lem some few = rw (few, quotes_fewer b n m c l, ne_eqb (length asked) 0 some) refl
-
--- a record's limit at a chance is looked for among its quotes
-pub limit_parts : (chance at : ℕ) (b : List ℕ) (s : Spans) (k : ℕ) → k ≡ min s.chances.count s.limits.count
-    → limit_for chance (quotes_in b k s.chances.first s.limits.first) ≡ limit_of chance (record_in at s b)
-unfolding limit_of record_in numbers_of
-limit_parts chance at b s k few =
-    rw (few, quotes_fewer b s.chances.count s.limits.count s.chances.first s.limits.first) refl
 
 -- the first, and those behind it
 quotes_next : (b : List ℕ) (k c l : ℕ) → 0 < k

@@ -37,8 +37,7 @@ same_lines f g zero h = refl
 same_lines f g (suc n) h = ap₂ (λ (x y : List ℕ). x ++ y) (h 0) (same_lines (λ k. f (suc k)) (λ k. g (suc k)) n (λ k. h (suc k)))
 
 standing_lines : (tabs : Bool) (w : ℕ) (asked : List ℕ) (rs : List Record) (es : List IndexEntry)
-    → lines_to (λ (k : ℕ). line_of tabs w asked (standing_at rs es k)) (length es)
-    ≡ joined (map (λ (e : IndexEntry). line_of tabs w asked (last_named e.name rs)) es)
+    → lines_to (λ (k : ℕ). line_of tabs w asked (standing_at rs es k)) (length es) ≡ joined (map (λ (e : IndexEntry). line_of tabs w asked (last_named e.name rs)) es)
 unfolding lines_to standing_at joined
 standing_lines tabs w asked rs [] = refl
 standing_lines tabs w asked rs (e ∷ es) = ap (λ (l : List ℕ). line_of tabs w asked (last_named e.name rs) ++ l) (standing_lines tabs w asked rs es)

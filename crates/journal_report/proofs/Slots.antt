@@ -29,7 +29,6 @@ use Rattle.journal_parts.proofs.Reached.{record_stands, record_short}
 use Rattle.journal_listing.proofs.Texts.{bytes_in_lem}
 use Rattle.journal_listing.proofs.There.{moments_there}
 use Rattle.journal_report.specs.Slot.{fill, column, name_column, near_text, slot_text, times_width, moment_width, figure_columns, slot_line, slot_of}
-use Rattle.journal_report.specs.Slot.{no_limit, limit_of, limit_in}
 
 -- a record's day is what its two bytes say
 pub day_is : (x at : ℕ) (b : List ℕ) → ((k : ℕ) → get_or b k 0 < 256) → at + 4 ≤ length b → x ≡ number_in 2 (at + 2) b
@@ -87,13 +86,3 @@ module _ (tabs : Bool) (w : ℕ) (asked : List ℕ) (at : ℕ) (b : List ℕ) (s
   pub slot_there : s.limits.stands ≡ true → slot_line tabs w asked (record_in at s b) ≡ slot_of tabs w asked (plain_record_at at b)
   unfolding slot_of
   slot_there t = rw (record_stands at b (rw e at t)) (ap (λ (x : Spans). slot_line tabs w asked (record_in at x b)) e)
-
--- the limit at a chance of what stands there
-module _ (chance at : ℕ) (b : List ℕ) (s : Spans) (e : s ≡ spans_at at b) where
-  pub limit_none : s.limits.stands ≡ false → no_limit ≡ limit_in chance (plain_record_at at b)
-  unfolding limit_in
-  limit_none t = rw (record_short at b (rw e at t)) refl
-
-  pub limit_there : s.limits.stands ≡ true → limit_of chance (record_in at s b) ≡ limit_in chance (plain_record_at at b)
-  unfolding limit_in
-  limit_there t = rw (record_stands at b (rw e at t)) (ap (λ (x : Spans). limit_of chance (record_in at x b)) e)

@@ -58,15 +58,6 @@ unfoldable pub limit_for : ℕ → List Quote → ℕ
 limit_for chance [] = no_limit
 limit_for chance (q ∷ qs) = cond (eqb q.chance chance) q.limit (limit_for chance qs)
 
--- of a record; and of what stands at a place, where no record does that pattern
-unfoldable pub limit_of : ℕ → Record → ℕ
-limit_of chance r = limit_for chance (quotes_of r.chances r.limits)
-
-unfoldable pub limit_in : ℕ → Found Record → ℕ
-limit_in chance (found r next rest) = limit_of chance r
-limit_in chance (fault n place) = no_limit
-limit_in chance short = no_limit
-
 -- the widths of the columns behind the mark: times, mean and spread, limits
 abbrev pub times_width : ℕ
 times_width = 3

@@ -10,7 +10,7 @@ use journal_entries::end_of;
 use journal_index::{IndexMade, scan_and_index};
 
 // The journal's end state, how many lines the report has, and the width of the names' column.
-#[derive(Drop)]
+#[derive(Clone, Copy)]
 pub struct Begun {
     pub status: Status,
     pub names: usize,

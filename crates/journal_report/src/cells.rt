@@ -51,7 +51,13 @@ fn put_spaces(out: &mut [u8], place: usize, n: usize) -> usize
 }
 
 // A column with its text to the right.
-pub fn put_column(out: &mut [u8], place: usize, tabs: bool, width: usize, text: &[u8]) -> usize
+pub(crate) fn put_column(
+    out: &mut [u8],
+    place: usize,
+    tabs: bool,
+    width: usize,
+    text: &[u8],
+) -> usize
     ensures { Put out.old place (column tabs width text.now) out.new result }
 {
     let p = put_gap(out, place, tabs);

@@ -10,7 +10,6 @@ use journal_parts::number_in;
 
 mod beginning;
 mod cells;
-mod days;
 mod figures;
 mod front;
 mod head;
@@ -20,11 +19,8 @@ mod slot;
 mod width;
 
 pub use beginning::{Begun, begin};
-pub use cells::{put_column, put_fill};
-pub use days::{another_of_day, day_at, put_days};
 pub use figures::{MAX_FIGURE, limit_line, moment_line};
 pub use head::head_line;
-pub use quotes::limit_at;
 pub use slot::{Layout, slot_line};
 pub use width::name_width;
 

@@ -1,15 +1,13 @@
 // The last columns of a line: the limits with their chances, rounded up to whole ticks, in milliseconds.
-// All that a record has, or those of the chances asked for. And the limit at a chance by itself.
+// All that a record has, or those of the chances asked for.
 ghost use Rattle.std.specs.Prelude.{◌≡◌, true, ◌++◌, ◌+◌, ◌*◌, ◌≤◌, min, length};
 ghost use Rattle.text_digits.specs.Text.{Put};
 ghost use Rattle.journal_spec.specs.Bytes.{numbers_in};
-ghost use Rattle.journal_parts.specs.Plain.{plain_record_at};
-ghost use Rattle.journal_parts.specs.Spans.{Inside, numbers_of, record_in, spans_at};
-ghost use Rattle.journal_report.specs.Slot.{column, slot_text, quotes_of, limit_for, limit_in, limit_of, limit_width};
-ghost use Rattle.journal_report.specs.Slot.{quote_columns, asked_columns, limit_columns};
+ghost use Rattle.journal_parts.specs.Spans.{Inside, numbers_of, spans_at};
+ghost use Rattle.journal_report.specs.Slot.{column, slot_text, quotes_of, limit_for, limit_width, quote_columns, asked_columns, limit_columns};
 
 use crate::cells::put_column;
-use journal_parts::{Spans, number_in, spans_at};
+use journal_parts::{Spans, number_in};
 use text_digits::{put, put_decimal};
 use text_ticks::{put_ticks, ticks_up};
 
@@ -21,29 +19,6 @@ const MAX_QUOTE: usize = 39;
 
 // A NaN's pattern, which has no whole ticks: a dash is printed.
 const NO_LIMIT: u64 = 0x7ff8_0000_0000_0000;
-
-// The bits of the limit at a chance of the record at a place; a NaN's where it has none, and where no record stands.
-pub fn limit_at(v: &[u8], at: usize, chance: u32) -> u64
-    ensures { result ≡ limit_in chance (plain_record_at at v.now) }
-{
-    let s = spans_at(v, at);
-    let last = s.limits;
-    if !last.stands {
-        return NO_LIMIT;
-    }
-    standing_limit(v, at, s, wide(chance))
-}
-
-// The same of a record whose sections stand.
-fn standing_limit(v: &[u8], at: usize, s: Spans, chance: u64) -> u64
-    requires { (s ≡ spans_at at v.now) × (s.limits.stands ≡ true) }
-    ensures { result ≡ limit_of chance (record_in at s v.now) }
-{
-    let chances = s.chances;
-    let limits = s.limits;
-    let n = fewer(chances.count, limits.count);
-    limit_for(v, chances.first, limits.first, n, chance)
-}
 
 // The limits at the chances asked for; where none is, all.
 pub(crate) fn put_limits(

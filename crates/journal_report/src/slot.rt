@@ -13,7 +13,7 @@ use journal_parts::{Spans, spans_at};
 use text_digits::put;
 
 // How a line is laid out: the width of the names' column, and whether tabs separate the columns, which then have no width.
-#[derive(Drop)]
+#[derive(Clone, Copy)]
 pub struct Layout {
     pub name: usize,
     pub tabs: bool,

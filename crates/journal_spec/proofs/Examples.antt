@@ -9,6 +9,7 @@ use native.Mathlib.Omega.{arith}
 use lib.ListN.{length, take, get_or, set, replicate}
 use lib.Ieee.{binary64, of_bits, to_bits}
 use Rattle.limit.specs.Times.{in_range}
+use Rattle.limit.specs.Formula.{plain_form}
 use Rattle.limit.specs.Limit.{form_known, chance_in_range}
 use Rattle.journal_spec.specs.Bytes.{bytes_of, value_of, joined}
 use Rattle.journal_spec.specs.Refusals.{unless, outside, first_of}
@@ -56,17 +57,6 @@ the_record = record {
   limits = 0x4059_0000_0000_0000 ∷ [];
 }
 
--- the same record under a form
-unfoldable pub example_of : ℕ → Record
-example_of f = record {
-  form = f;
-  day = 1;
-  name = 0x41 ∷ [];
-  chances = 500_000 ∷ [];
-  times = 100 ∷ 100 ∷ [];
-  limits = 0x4059_0000_0000_0000 ∷ [];
-}
-
 -- its 33 bytes as the paper has them
 unfoldable pub the_bytes : List ℕ
 the_bytes =
@@ -86,11 +76,10 @@ hundred_bits : to_bits binary64 (of_bits binary64 0x4059_0000_0000_0000) ≡ 0x4
 unfolding of_bits to_bits
 hundred_bits = refl
 
-pub example_ranges : (f : ℕ) → 1 ≤ f → f ≤ 2 → worked_out f (100 ∷ 100 ∷ []) 500_000 ≡ of_bits binary64 0x4059_0000_0000_0000
-    → RecordRanges (last_of []) (example_of f)
-unfolding example_of last_of
-example_ranges f low high worked = record {
-  form = (low, high);
+in_range_lem : RecordRanges (last_of []) the_record
+unfolding the_record last_of
+in_range_lem = record {
+  form = (omega arith, omega arith);
   forms = omega arith;
   day = omega arith;
   day_fits = omega arith;
@@ -115,13 +104,9 @@ example_ranges f low high worked = record {
     time (suc (suc i)) k = absurd (omega arith)
 
     bits : (i : ℕ) → i < 1
-        → get_or (0x4059_0000_0000_0000 ∷ []) i 0 ≡ to_bits binary64 (worked_out f (100 ∷ 100 ∷ []) (get_or (500_000 ∷ []) i 0))
-    bits zero k = sym (ap (to_bits binary64) worked ∙ hundred_bits)
+        → get_or (0x4059_0000_0000_0000 ∷ []) i 0 ≡ to_bits binary64 (worked_out plain_form (100 ∷ 100 ∷ []) (get_or (500_000 ∷ []) i 0))
+    bits zero k = sym (ap (to_bits binary64) worked_plain ∙ hundred_bits)
     bits (suc i) k = absurd (omega arith)
-
-in_range_lem : RecordRanges (last_of []) the_record
-unfolding the_record example_of
-in_range_lem = example_ranges 1 (omega arith) (omega arith) worked_plain
 
 -- the example is whole, with one record and 33 bytes
 pub whole_example : scan_of plain the_bytes 33 ≡ whole 1 33

@@ -186,10 +186,10 @@ module _ (new : IndexEntry) where
 
 -- ---- made afresh
 
-or_none_lem : (a : Option ℕ) → or_else a none ≡ a
+or_none : (a : Option ℕ) → or_else a none ≡ a
 unfolding or_else
-or_none_lem none = refl
-or_none_lem (some s) = refl
+or_none none = refl
+or_none (some s) = refl
 
 or_assoc : (a b c : Option ℕ) → or_else a (or_else b c) ≡ or_else (or_else a b) c
 unfolding or_else
@@ -221,19 +221,19 @@ module _ (new : IndexEntry) where
   enroll_has : (name : List ℕ) (es : List IndexEntry) → Rising es
       → look_up name (enroll new es) ≡ or_else (look_up name es) (where_equal (order_of name new.name) new.start)
   unfolding enroll look_up
-  enroll_has name [] r = or_none_lem (where_equal (order_of name new.name) new.start) ∙ unfold or_else in refl
+  enroll_has name [] r = or_none (where_equal (order_of name new.name) new.start) ∙ unfold or_else in refl
   enroll_has name (e ∷ es) r = go (enroll_has name es r.1) (order_of new.name e.name) refl
     where
       -- where one of two is none, their order is nothing
       either_way : (a : Option ℕ) (o : Order) (s : ℕ) → (o ≡ equal → a ≡ none) → or_else (where_equal o s) a ≡ or_else a (where_equal o s)
-      either_way a lower s h = unfold where_equal or_else in sym (or_none_lem a)
-      either_way a higher s h = unfold where_equal or_else in sym (or_none_lem a)
+      either_way a lower s h = unfold where_equal or_else in sym (or_none a)
+      either_way a higher s h = unfold where_equal or_else in sym (or_none a)
       either_way a equal s h = rw (h refl) (unfold where_equal or_else in refl)
 
       -- where the name has an entry, another for it is nothing
       kept : (a : Option ℕ) (o : Order) (s t : ℕ) → or_else (where_equal o t) a ≡ or_else (or_else (where_equal o t) a) (where_equal o s)
-      kept a lower s t = unfold where_equal or_else in sym (or_none_lem a)
-      kept a higher s t = unfold where_equal or_else in sym (or_none_lem a)
+      kept a lower s t = unfold where_equal or_else in sym (or_none a)
+      kept a higher s t = unfold where_equal or_else in sym (or_none a)
       kept a equal s t = unfold where_equal or_else in refl
 
       go : look_up name (enroll new es) ≡ or_else (look_up name es) (where_equal (order_of name new.name) new.start)
@@ -287,7 +287,7 @@ pub amended_is : (rs : List Record) → IsIndex 0 rs (index_of (placed_from 0 rs
 unfolding index_of
 amended_is rs = record {
   rising = amended_rising [] 0 rs tt;
-  has = λ name. amended_has name [] 0 rs ∙ unfold look_up in or_none_lem (last_start name 0 rs);
+  has = λ name. amended_has name [] 0 rs ∙ unfold look_up in or_none (last_start name 0 rs);
 }
 
 -- so that both are one

@@ -25,7 +25,7 @@ use Rattle.journal_spec.specs.Append.{limit_bits, limits_of}
 use Rattle.journal_spec.specs.Tests.{each}
 use Rattle.journal_spec.specs.Model.{worked_out, times_good}
 use Rattle.journal_spec.proofs.Judging.{unless_none, unless_true, first_none, none_first}
-use Rattle.journal_spec.proofs.Each.{each_time_lem}
+use Rattle.journal_spec.proofs.Each.{each_time}
 
 -- the formula's bits, one for each chance
 unfoldable pub formula_bits : ℕ → List ℕ → List ℕ → List ℕ
@@ -33,7 +33,7 @@ formula_bits form times chances = map (λ (c : ℕ). to_bits binary64 (worked_ou
 
 pub times_good_lem : (times : List ℕ) → times_good times ≡ times_in_range times
 unfolding times_good times_in_range
-times_good_lem times = rw (each_time_lem times) refl
+times_good_lem times = rw (each_time times) refl
 
 pub sample_known : form_known sample_form ≡ true
 unfolding form_known in_range

@@ -253,8 +253,7 @@ module _ (room : ℕ) (j : Journal) (m : Model) (cs : List Call) where
             let l = c.last in
             let same : budget_of l.call ≡ c.k = budget_upto l.call c.k c.budget in
             let less : c.k < length (record_bytes (record_of l.call)) = rw (record_is l.call l.takes.content l.takes.given) at c.less in
-            rw l.parts (torn_if_cut room j m h l.before l.call l.others l.takes l.declined
-            (omega (arith, same, c.some)) (omega (arith, same)))
+            rw l.parts (torn_if_cut room j m h l.before l.call l.others l.takes l.declined (omega (arith, same, c.some)) (omega (arith, same)))
 
     -- and whole otherwise
     pub whole_otherwise_from : (CutLast room m cs → ⊥) → SaysWhole

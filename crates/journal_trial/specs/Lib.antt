@@ -4,6 +4,6 @@ pub mod Counting
 pub mod Lowest
 pub mod Answers
 pub mod Owning
-pub mod UnknownNames
+pub mod Strangers
 pub mod Adding
 pub mod Together

@@ -3,14 +3,14 @@
 ghost use Rattle.std.specs.Prelude.{◌≡◌, ℕ, suc, ◌≤◌, List, length, slice_index};
 ghost use Rattle.journal_trial_spec.specs.Trial.{try_entry, try_unknown};
 ghost use Rattle.journal_trial.specs.Owning.{Owned};
-ghost use Rattle.journal_trial.specs.UnknownNames.{unknown_by};
+ghost use Rattle.journal_trial.specs.Strangers.{unknown_by};
 ghost use Rattle.journal_trial.specs.Adding.{number_here, added_first, numbers_for, lines_in, answer_after};
 
+use crate::answer::LINE_REFUSAL;
+use crate::strangers::{Unknown, refuse_unknown};
 use crate::together::{ALL_NUMBERS, count_all};
-use crate::unknown_names::{Unknown, refuse_unknown};
 use journal::Fault;
 use journal_index::{Checked, check_index};
-use journal_log::LINE_REFUSAL;
 use journal_parts::number_in;
 
 // The numbers of a position.

@@ -9,12 +9,14 @@ ghost use Rattle.journal_trial.specs.Answers.{Tryable, finished, record_tried};
 use crate::counting::{Counts, count_links};
 use crate::lowest::lowest;
 use journal::Fault;
-use journal_log::LINE_REFUSAL;
 use journal_parts::{part_of, spans_at};
+
+// Document 02's number for a line of the log that is refused.
+pub(crate) const LINE_REFUSAL: u32 = 11;
 
 // The links, how many chances there are, and the lowest that was overrun, 0 for none; or a refusal with its number: 14 or 10; the journal's fault;
 // or 11 with the place of the log's line.
-#[derive(Drop)]
+#[derive(Clone, Copy)]
 pub enum Answer {
     Tried {
         links: u64,
@@ -27,7 +29,7 @@ pub enum Answer {
 }
 
 // The answer, and the overs at each chance, 0 where there is none.
-#[derive(Drop)]
+#[derive(Clone, Copy)]
 pub struct Trial {
     pub answer: Answer,
     pub overs: [u64; 8],

@@ -6,13 +6,15 @@ ghost use Rattle.journal_trial_spec.specs.Trial.{try_entry};
 ghost use Rattle.journal_trial.specs.Answers.{answered_by, refused_unless, start_of};
 ghost use Rattle.journal_trial.specs.Owning.{Owned};
 
-use crate::answer::{Answer, Trial, try_record};
+use crate::answer::{Answer, LINE_REFUSAL, Trial, try_record};
 use crate::counting::count_links;
-use journal::{ABSENT_REFUSAL, Fault};
+use journal::Fault;
 use journal_entries::{entry_place, start_at};
 use journal_index::{Checked, check_index};
-use journal_log::LINE_REFUSAL;
 use journal_parts::number_in;
+
+// Document 02's number for a position that the index does not have.
+const ABSENT_REFUSAL: u32 = 10;
 
 // The trial at a position of the index.
 pub fn try_entry(log: &[u8], v: &[u8], len: usize, index: &[u8], position: usize) -> Trial

@@ -7,12 +7,12 @@ mod counting;
 mod limits;
 mod lowest;
 mod positions;
+mod strangers;
 mod together;
-mod unknown_names;
 
 pub use adding::{NUMBERS, add_piece};
 pub use answer::{Answer, Trial};
 pub use calls::try_entry;
 pub use counting::{Counts, count_links};
 pub use lowest::exceeds;
-pub use unknown_names::{Unknown, try_unknown};
+pub use strangers::{Unknown, try_unknown};

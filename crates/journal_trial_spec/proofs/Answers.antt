@@ -165,13 +165,13 @@ module _ (log slice : List ℕ) (len : ℕ) (index : List ℕ) where
 
     -- else the trial of the last record of the entry's name
     abbrev pub TriedThere : Unrefused → Type 0
-    TriedThere u = (content : Record) × (last_named (get_or (index_of u.stands.records) i no_entry).name (records_of u.stands.records) ≡ some content)
-        × (try_entry log slice len index i ≡ tried (trial_of content u.reads.links))
+    TriedThere u = (leaf : Record) × (last_named (get_or (index_of u.stands.records) i no_entry).name (records_of u.stands.records) ≡ some leaf)
+        × (try_entry log slice len index i ≡ tried (trial_of leaf u.reads.links))
 
     pub entry_tried : (u : Unrefused) → AreBytes slice → i < length (index_of u.stands.records) → TriedThere u
     entry_tried u b h =
         let t = position_tried log slice len index b u.reads.links u.stands.records (ready_there u) i h in
-        (t.content, ap (λ (n : List ℕ). last_named n (records_of u.stands.records)) (sym t.named) ∙ t.stands, t.answer)
+        (t.leaf, ap (λ (n : List ℕ). last_named n (records_of u.stands.records)) (sym t.named) ∙ t.stands, t.answer)
 
     -- where each refusal is due
     abbrev pub EntryDue : Refusal → Type 0

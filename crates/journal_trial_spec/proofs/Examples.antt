@@ -1,4 +1,4 @@
--- Worked examples, computed from the definitions: a log of three lines, document 01's record tried on it, and on one link more that is over.
+-- Worked examples, computed from the definitions: a log of three lines, document 01's leaf tried on it, and on one link more that is over.
 -- Its limit is 100 at a chance of 500,000. And a record with three chances and three limits. Assumes nothing.
 use mathlib.Core.Path.{◌≡◌, refl}
 use Prim.Native.Nat.{ℕ}

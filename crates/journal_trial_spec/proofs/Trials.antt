@@ -102,12 +102,12 @@ module _ (log slice : List ℕ) (len : ℕ) (index : List ℕ) (b : AreBytes sli
     (r : ready_of (log_of log) (contents_of plain slice len) index ≡ ready ls ps) where
   -- what a position of the index answers: the trial of the last record of the entry's name
   pub record TriedAt (i : ℕ) : Type 0 where
-    pub content : Record
+    pub leaf : Record
     pub last : Last
-    pub ranges : RecordRanges last content
-    pub named : content.name ≡ (get_or (index_of ps) i no_entry).name
-    pub stands : last_named content.name (records_of ps) ≡ some content
-    pub answer : try_entry log slice len index i ≡ tried (trial_of content ls)
+    pub ranges : RecordRanges last leaf
+    pub named : leaf.name ≡ (get_or (index_of ps) i no_entry).name
+    pub stands : last_named leaf.name (records_of ps) ≡ some leaf
+    pub answer : try_entry log slice len index i ≡ tried (trial_of leaf ls)
 
   pub position_tried : (i : ℕ) → i < length (index_of ps) → TriedAt i
   unfolding try_entry entry_trial
@@ -122,7 +122,7 @@ module _ (log slice : List ℕ) (len : ℕ) (index : List ℕ) (b : AreBytes sli
       let g = in_ranges [] s.front s.shown s.back (rw s.parts at x.follow) in
       let is : last_named s.shown.name (records_of ps) ≡ some s.shown = rw same (rw s.named s.last) in
       record {
-        content = s.shown;
+        leaf = s.shown;
         last = g.0;
         ranges = g.1;
         named = s.named ∙ name;
@@ -132,8 +132,8 @@ module _ (log slice : List ℕ) (len : ℕ) (index : List ℕ) (b : AreBytes sli
       }
 
   -- each of its overs is counted against its own limit
-  pub position_over : (i : ℕ) (h : i < length (index_of ps)) (j : ℕ) → let t = position_tried i h in j < length t.content.chances → OverAt t.content ls j
-  position_over i h j k = let t = position_tried i h in trial_over_at t.last t.content ls j t.ranges k
+  pub position_over : (i : ℕ) (h : i < length (index_of ps)) (j : ℕ) → let t = position_tried i h in j < length t.leaf.chances → OverAt t.leaf ls j
+  position_over i h j k = let t = position_tried i h in trial_over_at t.last t.leaf ls j t.ranges k
 
   -- 10 beyond them
   pub position_beyond : (i : ℕ) → length (index_of ps) ≤ i → try_entry log slice len index i ≡ untried (declined absent_refusal)
@@ -143,10 +143,10 @@ module _ (log slice : List ℕ) (len : ℕ) (index : List ℕ) (b : AreBytes sli
   links_at : (i : ℕ) → i < length (index_of ps) → links_in (try_entry log slice len index i) ≡ links_of (get_or (index_of ps) i no_entry).name ls
   links_at i h =
       let t = position_tried i h in
-      ap links_in t.answer ∙ trial_links t.content ∙ ap (λ (n : List ℕ). links_of n ls) t.named
+      ap links_in t.answer ∙ trial_links t.leaf ∙ ap (λ (n : List ℕ). links_of n ls) t.named
     where
-      trial_links : (content : Record) → (trial_of content ls).links ≡ links_of content.name ls
-      trial_links content = unfold trial_of in refl
+      trial_links : (leaf : Record) → (trial_of leaf ls).links ≡ links_of leaf.name ls
+      trial_links leaf = unfold trial_of in refl
 
   unknown_are : unknown_in (try_unknown log slice len index) ≡ unknown_of (index_of ps) ls
   unfolding try_unknown unknown_count

@@ -71,9 +71,9 @@ middle_at x b h t =
     let o = within_p (quick_e (known h)) result_low_b result_b in
     record { quick = settle result_low_b result_b (quick_e (known h)) (and_l o _ t); slow = settle result_low_b result_b (slow_e (known h)) (and_r o _ t) }
 
-first_in_lem : (x : DoubleDouble) → InP x core_low_b first_b → Middle x
+first_in : (x : DoubleDouble) → InP x core_low_b first_b → Middle x
 unfolding quick_e slow_e
-first_in_lem x h = middle_at x first_b h tt
+first_in x h = middle_at x first_b h tt
 
 second_in : (x : DoubleDouble) → InP x core_low_b second_b → Middle x
 unfolding quick_e slow_e
@@ -93,7 +93,7 @@ module _ (x : DoubleDouble) (h : InP x core_low_b middle_b) where
   middle : Middle x
   unfolding cap_e floor_e of_bits
   middle =
-      on_test (le x.hi half) (λ t. first_in_lem x (record { lo = h.lo; hi = widen first_b tt (cap_e half (below_of_le t) (given h.hi)).holds }))
+      on_test (le x.hi half) (λ t. first_in x (record { lo = h.lo; hi = widen first_b tt (cap_e half (below_of_le t) (given h.hi)).holds }))
       (λ s. on_test (le x.hi eleven_sixteenths)
       (λ t. second_in x
       (record { lo = h.lo; hi = widen second_b tt (cap_e eleven_sixteenths (below_of_le t) (floor_e half (below_of_not_le s) (given h.hi))).holds }))

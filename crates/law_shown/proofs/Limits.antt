@@ -57,7 +57,7 @@ mean_multiple n s h =
     multiple (mean_of n s) false v.n (mean_fits_lem n s) v.val (le_trans (leb→le _ _ tt) v.low)
 
 -- (spread × 1.4142135623730951) × e
-pub share_in : (spread e : Float) → In spread spread_b → In e quantile_b → In (mul binary64 (mul binary64 spread root_two) e) share_b
+share_in : (spread e : Float) → In spread spread_b → In e quantile_b → In (mul binary64 (mul binary64 spread root_two) e) share_b
 unfolding times_e point of_bits
 share_in spread e h q = widen share_b tt (times_e (times_e (given h) (point root_two)) (given q)).holds
 

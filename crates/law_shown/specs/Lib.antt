@@ -3,4 +3,3 @@
 pub mod Shown
 pub mod Sides
 pub mod Slots
-pub mod Bands

@@ -12,7 +12,7 @@ use crate::{Figures, Moments, SAMPLE_FORM};
 const HALF_MILLION: f64 = 500000.0;
 
 // The double nearest to the root of 2.
-pub const ROOT_TWO: f64 = 1.4142135623730951;
+const ROOT_TWO: f64 = 1.4142135623730951;
 
 // Mean and spread under a form of times with these sums.
 pub(crate) fn moments(form: u64, s: Sums) -> Moments

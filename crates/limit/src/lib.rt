@@ -13,7 +13,7 @@ mod formula;
 mod ranges;
 pub mod sums;
 
-pub use formula::{ROOT_TWO, quantile_of};
+pub use formula::quantile_of;
 
 // The forms: document 01's, and that of the sample spread.
 pub const PLAIN_FORM: u64 = 1;
@@ -33,14 +33,14 @@ pub const CHANCE_REFUSAL: u32 = 5;
 pub const TIMES_REFUSAL: u32 = 6;
 
 // Mean and spread of a set of times, in ticks.
-#[derive(Drop)]
+#[derive(Clone, Copy)]
 pub struct Moments {
     pub mean: f64,
     pub spread: f64,
 }
 
 // Mean and spread of a set of times, and the quantile and the limit at a chance.
-#[derive(Drop)]
+#[derive(Clone, Copy)]
 pub struct Figures {
     pub mean: f64,
     pub spread: f64,
@@ -49,14 +49,14 @@ pub struct Figures {
 }
 
 // The limit itself, with the other figures, or one refusal number.
-#[derive(Drop)]
+#[derive(Clone, Copy)]
 pub enum Answer {
     Limit(Figures),
     Refused(u32),
 }
 
 // Mean and spread, or one refusal number.
-#[derive(Drop)]
+#[derive(Clone, Copy)]
 pub enum Worked {
     Out(Moments),
     Refused(u32),

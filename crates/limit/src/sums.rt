@@ -17,7 +17,7 @@ pub const MIN_COUNT: u64 = 2;
 pub const MAX_COUNT: u64 = 128;
 
 // Document 01's n, S and sum of squares.
-#[derive(Drop)]
+#[derive(Clone, Copy)]
 pub struct Sums {
     pub count: u64,
     pub sum: u64,
@@ -25,7 +25,7 @@ pub struct Sums {
 }
 
 // The sums of times in range, or that their count or one of them is out of range.
-#[derive(Drop)]
+#[derive(Clone, Copy)]
 pub enum Gathered {
     Within(Sums),
     Outside,

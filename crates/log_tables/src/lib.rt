@@ -10,7 +10,7 @@ mod pow_tables;
 mod rows;
 
 // The reciprocal, and the low part and the high part of its logarithm.
-#[derive(Drop)]
+#[derive(Clone, Copy)]
 pub struct Row(pub u64, pub u64, pub u64);
 
 // The entries of both tables at a place, 0 past their ends.

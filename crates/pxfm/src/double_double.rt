@@ -7,14 +7,14 @@ ghost use Rattle.pxfm.specs.DoubleDouble.{new_of, from_bit_pair, split_of, from_
 ghost use Rattle.pxfm.specs.DoubleDouble.{from_full_exact_sub, fast_sqrt, mul_add_f64, recip_of, div_of, mul_f64_add, mul_add};
 ghost use Rattle.pxfm.specs.DoubleDouble.{quick_mult, quick_mult_f64, full_add_f64, f64_add, to_f64, dd_f64_mul_add, neg_of};
 
-#[derive(Drop)]
+#[derive(Clone, Copy)]
 pub struct DoubleDouble {
     pub lo: f64,
     pub hi: f64,
 }
 
 // The bit patterns of a pair, in the Rust a tuple.
-#[derive(Drop)]
+#[derive(Clone, Copy)]
 pub struct BitPair {
     pub lo: u64,
     pub hi: u64,

@@ -7,7 +7,7 @@ ghost use Rattle.replay_lines.specs.Lines.{field_of};
 use text_digits::Number;
 
 // The number, or that there is none.
-#[derive(Drop)]
+#[derive(Clone, Copy)]
 pub enum Field {
     Value(u64),
     Nothing,

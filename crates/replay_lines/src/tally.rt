@@ -5,7 +5,7 @@ ghost use Rattle.replay_lines.specs.Tally.{compared_more, malformed_more};
 
 use crate::count::one_more;
 
-#[derive(Drop)]
+#[derive(Clone, Copy)]
 pub struct Tally {
     pub compared: u64,
     pub differ: u64,

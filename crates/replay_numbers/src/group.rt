@@ -7,7 +7,7 @@ ghost use Rattle.replay_numbers.specs.Numbers.{empty_group, grouped};
 use crate::distance::ten_thousandths;
 use replay_lines::one_more;
 
-#[derive(Drop)]
+#[derive(Clone, Copy)]
 pub(crate) struct Group {
     pub count: u64,
     // how many results are within half a unit, and so the nearest double

@@ -9,7 +9,7 @@ use pxfm::err::inverfc::f_erfcinv_bits;
 use replay_lines::{Field, number_at};
 
 // What a line tells of the port: the place of its group, x, and the distance there.
-#[derive(Drop)]
+#[derive(Clone, Copy)]
 pub(crate) struct Measured {
     pub place: usize,
     pub x: u64,

@@ -15,7 +15,7 @@ use report::{is_read_to_end, print, print_group, print_number, print_same};
 use tally::{Groups, count, tally_chunk};
 
 // What one read leads to: the groups, and whether more may come.
-#[derive(Drop)]
+#[derive(Clone, Copy)]
 struct Turn {
     tally: Groups,
     more: bool,

@@ -9,7 +9,7 @@ use crate::report::show;
 use replay_lines::line_end;
 
 // The groups at their places.
-#[derive(Drop)]
+#[derive(Clone, Copy)]
 pub(crate) struct Groups {
     pub all: [Group; 8],
 }

@@ -6,7 +6,7 @@ ghost use Rattle.sqrt.specs.Steps.{IsFirst, IsWhole};
 
 use crate::division;
 
-#[derive(Drop)]
+#[derive(Clone, Copy)]
 pub(crate) struct Whole {
     pub(crate) root: u64,
     pub(crate) rest: u64,

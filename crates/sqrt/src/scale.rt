@@ -7,7 +7,7 @@ ghost use Rattle.sqrt.specs.Steps.{IsScaled};
 
 use double_bits::UNIT;
 
-#[derive(Drop)]
+#[derive(Clone, Copy)]
 pub(crate) struct Radicand {
     pub(crate) q: u64,
     pub(crate) z: u64,

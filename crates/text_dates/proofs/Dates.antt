@@ -80,7 +80,7 @@ after_rises (suc n) t k =
     omega arith
 
 -- day 0
-pub start_is : IsDate (dated 2000 1 1)
+start_is : IsDate (dated 2000 1 1)
 unfolding month_days
 start_is = record { first_month = omega arith; last_month = omega arith; first_day = omega arith; last_day = omega arith }
 

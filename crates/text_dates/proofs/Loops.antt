@@ -8,7 +8,7 @@ use native.Mathlib.Decide.{dec_le}
 use native.Mathlib.Nat.{lt_of_not-le}
 use Rattle.text_dates.specs.declared.date.Date.{Date}
 use Rattle.text_dates.specs.Calendar.{year_days, month_days, dated, month_after, days_after, date_of}
-use Rattle.text_dates.proofs.Passing.{month_has, month_turn, year_has, year_turn, after_within_lem}
+use Rattle.text_dates.proofs.Passing.{month_has, month_turn, year_has, year_turn, after_within}
 
 -- of day n: whole years are counted off, and `year` has `days` days
 pub record YearsOff (n year left days : ℕ) : Type 0 where
@@ -102,4 +102,4 @@ pub months_end : (start count year month left days : ℕ) → MonthsOff start co
 months_end start count year month left days k h =
     let told = k.told in
     let e : left + 1 ≡ 1 + left = omega arith in
-    ap (dated year month) e ∙ sym (after_within_lem left year month 1 (omega arith)) ∙ k.same
+    ap (dated year month) e ∙ sym (after_within left year month 1 (omega arith)) ∙ k.same

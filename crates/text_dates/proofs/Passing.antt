@@ -20,14 +20,14 @@ after_sum (suc a) b t =
     ap (λ (k : ℕ). days_after k t) e ∙ after_sum a b (date_after t)
 
 -- within a month the day goes up
-pub after_within_lem : (k y m d : ℕ) → d + k ≤ month_days y m → days_after k (dated y m d) ≡ dated y m (d + k)
+pub after_within : (k y m d : ℕ) → d + k ≤ month_days y m → days_after k (dated y m d) ≡ dated y m (d + k)
 unfolding days_after date_after
-after_within_lem zero y m d h =
+after_within zero y m d h =
     let e : d ≡ d + 0 = omega arith in
     ap (dated y m) e
-after_within_lem (suc k) y m d h =
+after_within (suc k) y m d h =
     let e : d + 1 + k ≡ d + suc k = omega arith in
-    rw (lt-ltb d (month_days y m) (omega arith)) (after_within_lem k y m (d + 1) (omega arith) ∙ ap (dated y m) e)
+    rw (lt-ltb d (month_days y m) (omega arith)) (after_within k y m (d + 1) (omega arith) ∙ ap (dated y m) e)
 
 -- a month has a day
 pub month_has : (y m : ℕ) → 28 ≤ month_days y m
@@ -45,7 +45,7 @@ after_last : (y m k : ℕ) → month_days y m ≡ suc k → days_after (suc k) (
 unfolding days_after date_after
 after_last y m k e =
     let parts : suc k ≡ k + 1 = omega arith in
-    let inside = after_within_lem k y m 1 (omega arith) in
+    let inside = after_within k y m 1 (omega arith) in
     let last : 1 + k ≡ suc k = omega arith in
     ap (λ (n : ℕ). days_after n (dated y m 1)) parts
     ∙ after_sum k 1 (dated y m 1)

@@ -1,6 +1,6 @@
 -- The date of a day by the Gregorian rule, defined by counting: day 0 is 1 January 2000 (document 01, Leaf), and each day has the date after
 -- that of the day before. Definitions only.
-use Rattle.std.specs.Prelude.{ℕ, zero, suc, ◌+◌, ◌-◌, ◌*◌, ◌%◌, ◌≤◌, Bool, true, false, not, ◌&&◌, ◌||◌, cond, leb, ltb, eqb}
+use Rattle.std.specs.Prelude.{ℕ, zero, suc, ◌+◌, ◌*◌, ◌%◌, ◌≤◌, Bool, true, false, not, ◌&&◌, ◌||◌, cond, ltb, eqb}
 use Rattle.text_dates.specs.declared.date.Date.{Date}
 
 -- a leap year: every fourth, but of the hundreds only every fourth
@@ -47,28 +47,6 @@ days_after (suc n) t = days_after n (date_after t)
 unfoldable pub date_of : ℕ → Date
 unfolding days_after
 date_of n = days_after n (dated 2000 1 1)
-
--- how many days the first k years from 2000 on have
-unfoldable pub years_days : ℕ → ℕ
-unfolding year_days
-years_days zero = 0
-years_days (suc k) = years_days k + year_days (2000 + k)
-
--- how many days the first k months of a year have
-unfoldable pub months_days : ℕ → ℕ → ℕ
-unfolding month_days
-months_days y zero = 0
-months_days y (suc k) = months_days y k + month_days y (suc k)
-
--- the day of a date from 2000 on: the days of the years before its own, of the months before its own, and of its month before it
-unfoldable pub day_of : Date → ℕ
-unfolding years_days months_days
-day_of t = years_days (t.year - 2000) + months_days t.year (t.month - 1) + (t.day - 1)
-
--- whether there is such a date
-unfoldable pub is_date : Date → Bool
-unfolding month_days
-is_date t = leb 1 t.month && (leb t.month 12 && (leb 1 t.day && leb t.day (month_days t.year t.month)))
 
 -- a date that there is: a month of the twelve, and a day of that month
 pub record IsDate (t : Date) : Type 0 where

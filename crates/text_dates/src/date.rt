@@ -4,7 +4,7 @@ ghost use Rattle.std.specs.Prelude.{◌≡◌, ◌^◌, ◌≤◌, ◌<◌};
 ghost use Rattle.text_dates.specs.Calendar.{is_leap, is_short, year_days, month_days, month_after, dated, days_after, date_of};
 
 // A year, a month of it, 1 to 12, and a day of that month, from 1.
-#[derive(Drop)]
+#[derive(Clone, Copy)]
 pub struct Date {
     pub year: u64,
     pub month: u64,
@@ -79,7 +79,7 @@ fn year_days(year: u64) -> u64
 }
 
 // How many days a month has.
-pub(crate) fn month_days(year: u64, month: u64) -> u64
+fn month_days(year: u64, month: u64) -> u64
     ensures { result ≡ month_days year month }
 {
     // The other eleven months have 337 days.

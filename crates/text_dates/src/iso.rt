@@ -2,29 +2,21 @@
 // Every day has a year of four digits, so the text has ten bytes.
 ghost use Rattle.std.specs.Prelude.{◌≡◌};
 ghost use Rattle.text_digits.specs.Text.{Put};
-ghost use Rattle.text_dates.specs.Calendar.{dated};
-ghost use Rattle.text_dates.specs.Iso.{iso_text, iso_of};
+ghost use Rattle.text_dates.specs.Iso.{iso_of};
 
 use crate::date::date_of;
 use text_digits::{decimal_into, put};
-
-// The text of a date.
-pub(crate) fn iso_text(year: u64, month: u64, day: u64) -> [u8; 10]
-    ensures { result ≡ iso_text (dated year month day) }
-{
-    let mut out = [b'-'; 10];
-    decimal_into(year, &mut out[..4]);
-    decimal_into(month, &mut out[5..7]);
-    decimal_into(day, &mut out[8..]);
-    out
-}
 
 // The text of a day's date.
 pub fn iso_of(day: u16) -> [u8; 10]
     ensures { result ≡ iso_of day }
 {
     let date = date_of(day);
-    iso_text(date.year, date.month, date.day)
+    let mut out = [b'-'; 10];
+    decimal_into(date.year, &mut out[..4]);
+    decimal_into(date.month, &mut out[5..7]);
+    decimal_into(date.day, &mut out[8..]);
+    out
 }
 
 // Puts a day's date into the line from a place on, and answers the place behind it.

@@ -6,8 +6,6 @@ use lib.ListN.{length}
 use lib.Ieee.{binary64, odd, of_fields, of_bits}
 use Rattle.text_digits.specs.Hex.{digits, glyph_of, or_more, places_in, places_of, decimal_digits}
 use Rattle.text_ticks.specs.Ticks.{in_range}
-use Rattle.text_decimal.specs.Significant.{nearest_of, decimals_from, decimals_of, scaled_of, lean_of, scaled_text, power_text, short_text, lean_text}
-use Rattle.text_decimal.specs.Significant.{size_text, significant_text}
 use Rattle.text_decimal.specs.Decimal.{fraction_text, signed_text, is_shown, exact_text, max_text}
 
 -- 0, -0, 0.5, -2.5 and 100; 0.1, whose double has 55 digits behind the point; 143.70.., the paper's worked limit, with 44
@@ -48,35 +46,3 @@ record Ends : Type 0 where
 ends : Ends
 unfolding count_trailing_zeros odd of_fields of_bits digits glyph_of or_more places_in places_of decimal_digits in_range fraction_text signed_text is_shown exact_text
 ends = record { last_place = refl; beyond_it = refl; last_whole = refl; too_large = refl; infinity = refl; none = refl; longest = refl }
-
--- by 17 digits: the double nearest to a tenth, an end of a band, two halves of which one goes down and one up, to the even digit; around one in ten thousand,
--- the least end that a band can have beside 0, a zero and a whole number
-record Seventeenth : Type 0 where
-  tenth :
-      significant_text (of_bits binary64 0x3fb999999999999a) ≡ 48 ∷ 46 ∷ 49 ∷ 48 ∷ 48 ∷ 48 ∷ 48 ∷ 48 ∷ 48 ∷ 48 ∷ 48 ∷ 48 ∷ 48 ∷ 48 ∷ 48 ∷ 48 ∷ 48 ∷ 48 ∷ 49 ∷ []
-  band_end : significant_text (of_bits binary64 0x405576e77c4e4673) ≡ 56 ∷ 53 ∷ 46 ∷ 56 ∷ 53 ∷ 55 ∷ 56 ∷ 55 ∷ 56 ∷ 55 ∷ 53 ∷ 55 ∷ 56 ∷ 57 ∷ 55 ∷ 48 ∷ 49 ∷ 50 ∷ []
-  tie_down : significant_text (of_bits binary64 0x3ff0000800000000) ≡ 49 ∷ 46 ∷ 48 ∷ 48 ∷ 48 ∷ 48 ∷ 48 ∷ 55 ∷ 54 ∷ 50 ∷ 57 ∷ 51 ∷ 57 ∷ 52 ∷ 53 ∷ 51 ∷ 49 ∷ 50 ∷ []
-  tie_up : significant_text (of_bits binary64 0x3ff0001800000000) ≡ 49 ∷ 46 ∷ 48 ∷ 48 ∷ 48 ∷ 48 ∷ 50 ∷ 50 ∷ 56 ∷ 56 ∷ 56 ∷ 49 ∷ 56 ∷ 51 ∷ 53 ∷ 57 ∷ 51 ∷ 56 ∷ []
-  small : significant_text (of_bits binary64 0x3f20000000000000) ≡ 48 ∷ 46 ∷ 48 ∷ 48 ∷ 48 ∷ 49 ∷ 50 ∷ 50 ∷ 48 ∷ 55 ∷ 48 ∷ 51 ∷ 49 ∷ 50 ∷ 53 ∷ []
-  power : significant_text (of_bits binary64 0x3f10000000000000) ≡ 54 ∷ 46 ∷ 49 ∷ 48 ∷ 51 ∷ 53 ∷ 49 ∷ 53 ∷ 54 ∷ 50 ∷ 53 ∷ 101 ∷ 45 ∷ 48 ∷ 53 ∷ []
-  least :
-      significant_text (of_bits binary64 0x3ca0000000000000) ≡
-      49 ∷ 46 ∷ 49 ∷ 49 ∷ 48 ∷ 50 ∷ 50 ∷ 51 ∷ 48 ∷ 50 ∷ 52 ∷ 54 ∷ 50 ∷ 53 ∷ 49 ∷ 53 ∷ 54 ∷ 53 ∷ 101 ∷ 45 ∷ 49 ∷ 54 ∷ []
-  minus_zero_lem : significant_text (of_bits binary64 0x8000000000000000) ≡ 45 ∷ 48 ∷ []
-  hundred : significant_text (of_bits binary64 0x4059000000000000) ≡ 49 ∷ 48 ∷ 48 ∷ []
-
-by_seventeen : Seventeenth
-unfolding count_trailing_zeros odd of_fields of_bits digits glyph_of or_more places_in places_of decimal_digits in_range is_shown
-    nearest_of decimals_from decimals_of scaled_of lean_of scaled_text power_text short_text lean_text size_text significant_text
-by_seventeen =
-    record {
-      tenth = refl;
-      band_end = refl;
-      tie_down = refl;
-      tie_up = refl;
-      small = refl;
-      power = refl;
-      least = refl;
-      minus_zero_lem = refl;
-      hundred = refl;
-    }

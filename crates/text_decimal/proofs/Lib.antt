@@ -1,5 +1,5 @@
 -- Laws of the exact decimal: powers and lowest terms, the digits behind the point, which doubles are shown; that the text is exactly the double, that no other
--- is, and how long it is; the text by 17 digits; closed cases.
+-- is, and how long it is; closed cases.
 mod FirstDigit
 pub mod Powers
 pub mod LowestTerms
@@ -10,9 +10,4 @@ pub mod Exactly
 pub mod Numerals
 pub mod Only
 pub mod Longest
-pub mod Lean
-pub mod Seventeen
-pub mod ShortText
-pub mod Nearest
-pub mod Short
 mod Examples

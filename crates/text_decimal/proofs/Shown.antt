@@ -62,7 +62,7 @@ shown_in x h =
     let in_range_lem = both_hold (finite x) (ltb (num x) (2 ^ 53 * den x)) both.0 in
     (in_range_lem.0, ltb-true (num x) (2 ^ 53 * den x) in_range_lem.1, leb-true (places_behind x) most_places both.1)
 
-pub in_shown : (x : Float) → in_range x ≡ true → places_behind x ≤ most_places → is_shown x ≡ true
+in_shown : (x : Float) → in_range x ≡ true → places_behind x ≤ most_places → is_shown x ≡ true
 unfolding is_shown
 in_shown x h l = rw (h, le-leb (places_behind x) most_places l)
 

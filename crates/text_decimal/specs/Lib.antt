@@ -1,6 +1,4 @@
--- The definitions that the contracts cite: the exact decimal text of a double, and a fraction in lowest terms; what the laws say of the text; the text by
--- 17 digits.
+-- The definitions that the contracts cite: the exact decimal text of a double, and a fraction in lowest terms; and what the laws say of the text.
 pub mod Decimal
 pub mod Lowest
 pub mod Meaning
-pub mod Significant

@@ -8,7 +8,7 @@ ghost use Rattle.text_decimal.specs.Lowest.{IsLowest, IsSize};
 use double_bits::{SIGN, UNIT};
 
 // m / 2^k.
-#[derive(Drop)]
+#[derive(Clone, Copy)]
 pub(crate) struct Fraction {
     pub(crate) m: u64,
     pub(crate) k: u64,

@@ -12,9 +12,9 @@ use double_bits::SIGN;
 use text_digits::{put, put_decimal};
 
 // The pattern of 2^53, and the most binary digits behind the point.
-pub(crate) const END: u64 = 0x4340_0000_0000_0000;
+const END: u64 = 0x4340_0000_0000_0000;
 
-pub(crate) const MOST: u64 = 60;
+const MOST: u64 = 60;
 
 // Puts the exact decimal of the double with the pattern b, or a dash, and answers the place behind it.
 pub fn put_exact(line: &mut [u8], place: usize, b: u64) -> usize

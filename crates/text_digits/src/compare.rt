@@ -1,5 +1,5 @@
 // Whether two texts are the same bytes.
-// Every byte is looked at, without a branch; texts of two lengths are never the same.
+// They are compared byte by byte, and texts of two lengths are never the same.
 ghost use Rattle.std.specs.Prelude.{◌≡◌};
 ghost use Rattle.text_digits.specs.Same.{same_bytes};
 
@@ -10,13 +10,12 @@ pub fn same(a: &[u8], b: &[u8]) -> bool
     if a.len() != b.len() {
         return false;
     }
-    let mut differ: u8 = 0;
     let mut i: usize = 0;
     while i < a.len() {
-        let x = a[i];
-        let y = b[i];
-        differ = differ | (x ^ y);
+        if a[i] != b[i] {
+            return false;
+        }
         i += 1;
     }
-    differ == 0
+    true
 }

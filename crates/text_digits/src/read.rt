@@ -6,7 +6,7 @@ ghost use Rattle.text_digits.specs.Hex.{read_hex, read_digits};
 use crate::digit::{Digit, digit_of};
 
 // What stands at a place.
-#[derive(Drop)]
+#[derive(Clone, Copy)]
 pub enum Number {
     Value(u64),
     // more digits were asked for than a u64 has

@@ -6,7 +6,7 @@ ghost use Rattle.text_digits.specs.Hex.{digits, hex_digits, places_of, decimal_o
 use crate::digit::glyph;
 
 // A number's decimal digits at the start of an array, zeros behind them, and their number.
-#[derive(Drop)]
+#[derive(Clone, Copy)]
 pub struct Decimal {
     pub digits: [u8; 20],
     pub count: usize,

@@ -66,15 +66,15 @@ below_next q c a t h l =
 some : (t c : ℕ) → 0 < c → 0 < suc t * c
 some t c h = let e = suc-mul t c in omega arith
 
-least_of_lem : (s : Bool) (a c : ℕ) → 0 < c → (y : ℤ) → T (le_z (signed s a) (y *ℤ pos c)) → T (le_z (signed s (up_size s a c)) y)
+least_of : (s : Bool) (a c : ℕ) → 0 < c → (y : ℤ) → T (le_z (signed s a) (y *ℤ pos c)) → T (le_z (signed s (up_size s a c)) y)
 unfolding up_size
-least_of_lem false a c h (pos t) l =
+least_of false a c h (pos t) l =
     let reached = leb→le a (t * c) (subst (λ (z : ℤ). T (le_z (pos a) z)) (pos-*ℤ-pos t c) l) in
     le→leb (ceiling a c) t (above_next (ceiling a c) c a t (ceiling_under a c h) reached)
-least_of_lem false a c h (negsuc t) l =
+least_of false a c h (negsuc t) l =
     absurd (pos_not_neg a (suc t * c) (some t c h) (subst (λ (z : ℤ). T (le_z (pos a) z)) (negsuc-*ℤ-pos t c) l))
-least_of_lem true a c h (pos t) l = neg_below (a / c) t
-least_of_lem true a c h (negsuc t) l =
+least_of true a c h (pos t) l = neg_below (a / c) t
+least_of true a c h (negsuc t) l =
     let reached = neg_le_back a (suc t * c) (subst (λ (z : ℤ). T (le_z (neg_ℤ (pos a)) z)) (negsuc-*ℤ-pos t c) l) in
     neg_le (a / c) (suc t) (below_next (a / c) c a (suc t) (lt-div-mul-add {a = a} h) reached)
 
@@ -96,5 +96,5 @@ rounds_up x h =
       is = rw h;
       least =
           subst (LeastNotBelow x) (sym z)
-          (record { not_below = not_below_of s (num x) (den x) (den_pos x); least = least_of_lem s (num x) (den x) (den_pos x) });
+          (record { not_below = not_below_of s (num x) (den x) (den_pos x); least = least_of s (num x) (den x) (den_pos x) });
     }

@@ -100,14 +100,14 @@ not_above_of true a c h = near_not_above a c h
 not_above_of false a c h =
     le→leb ((2 * a + c) / (2 * c) * (2 * c)) (2 * a + c) (div-mul-le_self (2 * a + c) (2 * c))
 
-greatest_of_lem : (s : Bool) (a c : ℕ) → 0 < c → (y : ℤ) → T (le_z (y *ℤ pos (2 * c)) (pos 2 *ℤ signed s a +ℤ pos c)) → T (le_z y (signed s (near_size s a c)))
+greatest_of : (s : Bool) (a c : ℕ) → 0 < c → (y : ℤ) → T (le_z (y *ℤ pos (2 * c)) (pos 2 *ℤ signed s a +ℤ pos c)) → T (le_z y (signed s (near_size s a c)))
 unfolding near_size
-greatest_of_lem true a c h y t = near_greatest a c h y t
-greatest_of_lem false a c h (pos n) t =
+greatest_of true a c h y t = near_greatest a c h y t
+greatest_of false a c h (pos n) t =
     let reached = leb→le (n * (2 * c)) (2 * a + c) t in
     let top = lt-div-mul-add {a = 2 * a + c} {b = 2 * c} (omega arith) in
     le→leb n ((2 * a + c) / (2 * c)) (below_next ((2 * a + c) / (2 * c)) (2 * c) (2 * a + c) n top reached)
-greatest_of_lem false a c h (negsuc n) t = tt
+greatest_of false a c h (negsuc n) t = tt
 
 -- of a double in range, `ticks_near` gives the nearest whole number
 pub rounds_near : (x : Float) → in_range x ≡ true → RoundsNear x
@@ -120,5 +120,5 @@ rounds_near x h =
       is = rw h;
       nearest =
           subst (NearestUp x) (sym z)
-          (record { not_above = not_above_of s (num x) (den x) (den_pos x); greatest = greatest_of_lem s (num x) (den x) (den_pos x) });
+          (record { not_above = not_above_of s (num x) (den x) (den_pos x); greatest = greatest_of s (num x) (den x) (den_pos x) });
     }

@@ -10,7 +10,7 @@ ghost use Rattle.text_ticks.specs.Halves.{IsHalves};
 // The weight of the exponent's field, and of the digit before the point of a normal double: 2^52.
 const UNIT: u64 = 0x10_0000_0000_0000;
 
-#[derive(Drop)]
+#[derive(Clone, Copy)]
 pub(crate) struct Halves {
     pub(crate) down: u64,
     pub(crate) up: u64,

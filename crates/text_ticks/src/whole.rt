@@ -12,14 +12,14 @@ use double_bits::SIGN;
 const END: u64 = 0x4340_0000_0000_0000;
 
 // A whole number of ticks: below zero, or not; 0 is not.
-#[derive(Drop)]
+#[derive(Clone, Copy)]
 pub struct Count {
     pub below: bool,
     pub size: u64,
 }
 
 // Whole ticks of a double.
-#[derive(Drop)]
+#[derive(Clone, Copy)]
 pub enum Ticks {
     Whole(Count),
     // not finite, or from 2^53 on in size

@@ -6,8 +6,10 @@ use lib.Seq.{length-take-le}
 use Rattle.command_merge.proofs.merge_both.Statement.{statement}
 use Rattle.command_merge.proofs.merge_both.Tie as tie
 
-slice-aggregate-finished : tie.Need-slice-aggregate-finished
-slice-aggregate-finished c = let m = c.before.before.merged in sym (length-take-le m.result.size _ m.ensures.1.1)
+slice-aggregate-write-new : tie.Need-slice-aggregate-write-new
+slice-aggregate-write-new c =
+    let m = c.before.before.before.merged in
+    sym (length-take-le m.result.size _ m.ensures.1.1)
 
 pub merge-both-spec : {M : Type 1} → statement M
 merge-both-spec =
@@ -17,6 +19,8 @@ merge-both-spec =
     (λ c. search rules)
     (λ c κs. search rules)
     (λ c. search rules)
-    slice-aggregate-finished
+    slice-aggregate-write-new
+    (λ c κs. search rules)
+    (λ c. search rules)
     (λ c κs. search rules)
     (λ c. search rules))

@@ -2,13 +2,13 @@
 use borrow.Author.Rules.{rules}
 use mathlib.Core.Path.{sym}
 use lib.Ieee.{of_bits, div}
-use Rattle.double_bits.proofs.Nans.{pattern_nan, pattern_plain}
+use Rattle.double_bits.proofs.Nans.{pattern-nan, pattern-plain}
 use Rattle.double_bits.proofs.of_bits.Statement.{statement}
 use Rattle.double_bits.proofs.of_bits.Tie as tie
 
 returns : tie.Need-returns
 unfolding div of_bits
-returns c = sym (pattern_nan c.before.args.b c.if1.true)
+returns c = sym (pattern-nan c.before.args.b c.if1.true)
 
 pub of-bits-spec : {M : Type 1} → statement M
-of-bits-spec = tie.close (tie.spec returns (λ c. pattern_plain c.before.args.b c.if1.false) (λ c. search rules))
+of-bits-spec = tie.close (tie.spec returns (λ c. pattern-plain c.before.args.b c.if1.false) (λ c. search rules))

@@ -13,7 +13,7 @@ merge-sorted-requires : tie.Need-merge-sorted-requires
 merge-sorted-requires c κs =
     let read = c.before.before.before in
     let p = read.before.before.before.before.before.requires in
-    (p.0, p.1, record { whole = p.0; latest = read.latest-of.ensures.0 p.0 (search rules) })
+    (p.0, p.1, record { whole = p.0; latest = read.latest-of.ensures.0 })
 
 pub merge-whole-spec : {M : Type 1} → statement M
 merge-whole-spec =

@@ -15,14 +15,14 @@ const UNIT: u64 = 0x10000000000000;
 const ROOT_TWO: u64 = 0x16a09e667f3bcd;
 
 // A significand of 53 bits and an exponent with 1074 added.
-#[derive(Drop)]
+#[derive(Clone, Copy)]
 pub(crate) struct Scaled {
     pub(crate) m: u64,
     pub(crate) e: u32,
 }
 
 // What both logarithms have in common: z is r × t - 1, and v is e × log 2 - log r + z.
-#[derive(Drop)]
+#[derive(Clone, Copy)]
 pub(crate) struct Parts {
     pub(crate) v: DoubleDouble,
     pub(crate) z: f64,

@@ -8,18 +8,12 @@ use Rattle.command_io.proofs.options.asked_of.Tie as tie
 
 returns : tie.Need-returns
 unfolding bytes_of asked_of
-returns c =
-    let c1 = c.before.before in
-    let c2 = c1.before.before in
-    let c3 = c2.before.before in
-    rw (c.command-if4.ensures, c1.command-if3.ensures, c2.command-if2.ensures, c3.command-if.ensures)
+returns c = rw (c.command-if3.ensures, c.before.before.command-if2.ensures, c.before.before.before.before.command-if.ensures)
 
 pub asked-of-spec : {M : Type 1} → statement M
 asked-of-spec =
     tie.close
     (tie.spec
-    (λ c. search rules)
-    (λ c κs. search rules)
     (λ c. search rules)
     (λ c κs. search rules)
     (λ c. search rules)

@@ -8,11 +8,7 @@ use Rattle.command_io.proofs.options.end_of.Tie as tie
 
 returns : tie.Need-returns
 unfolding bytes_of end_of
-returns c =
-    let c1 = c.before.before in
-    let c2 = c1.before.before in
-    let c3 = c2.before.before in
-    rw (c.flag-if3.ensures, c1.flag-if2.ensures, c2.flag-if.ensures, c3.dash-of.ensures)
+returns c = rw (c.flag-if3.ensures, c.before.before.flag-if2.ensures, c.before.before.before.before.flag-if.ensures, c.before.before.before.before.before.before.dash-of.ensures)
 
 pub end-of-spec : {M : Type 1} → statement M
 end-of-spec =

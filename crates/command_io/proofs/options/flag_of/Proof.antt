@@ -8,26 +8,7 @@ use Rattle.command_io.proofs.options.flag_of.Tie as tie
 
 returns : tie.Need-returns
 unfolding bytes_of flag_of
-returns c =
-    let c1 = c.before.before in
-    let c2 = c1.before.before in
-    let c3 = c2.before.before in
-    let c4 = c3.before.before in
-    let c5 = c4.before.before in
-    let c6 = c5.before.before in
-    let c7 = c6.before.before in
-    let c8 = c7.before.before in
-    rw (
-      c.flag-if8.ensures,
-      c1.flag-if7.ensures,
-      c2.flag-if6.ensures,
-      c3.flag-if5.ensures,
-      c4.flag-if4.ensures,
-      c5.flag-if3.ensures,
-      c6.flag-if2.ensures,
-      c7.flag-if.ensures,
-      c8.offer-flag-of.ensures,
-    )
+returns c = rw (c.flag-if8.ensures, c.before.before.flag-if7.ensures, c.before.before.before.before.flag-if6.ensures, c.before.before.before.before.before.before.flag-if5.ensures, c.before.before.before.before.before.before.before.before.flag-if4.ensures, c.before.before.before.before.before.before.before.before.before.before.flag-if3.ensures, c.before.before.before.before.before.before.before.before.before.before.before.before.flag-if2.ensures, c.before.before.before.before.before.before.before.before.before.before.before.before.before.before.flag-if.ensures, c.before.before.before.before.before.before.before.before.before.before.before.before.before.before.before.before.end_of_lem.ensures)
 
 pub flag-of-spec : {M : Type 1} → statement M
 flag-of-spec =

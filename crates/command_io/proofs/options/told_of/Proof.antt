@@ -8,24 +8,7 @@ use Rattle.command_io.proofs.options.told_of.Tie as tie
 
 returns : tie.Need-returns
 unfolding bytes_of told_of
-returns c =
-    let c1 = c.before.before in
-    let c2 = c1.before.before in
-    let c3 = c2.before.before in
-    let c4 = c3.before.before in
-    let c5 = c4.before.before in
-    let c6 = c5.before.before in
-    let c7 = c6.before.before in
-    rw (
-      c.command-if7.ensures,
-      c1.command-if6.ensures,
-      c2.command-if5.ensures,
-      c3.command-if4.ensures,
-      c4.command-if3.ensures,
-      c5.command-if2.ensures,
-      c6.command-if.ensures,
-      c7.Later-of.ensures,
-    )
+returns c = rw (c.command-if7.ensures, c.before.before.command-if6.ensures, c.before.before.before.before.command-if5.ensures, c.before.before.before.before.before.before.command-if4.ensures, c.before.before.before.before.before.before.before.before.command-if3.ensures, c.before.before.before.before.before.before.before.before.before.before.command-if2.ensures, c.before.before.before.before.before.before.before.before.before.before.before.before.command-if.ensures, c.before.before.before.before.before.before.before.before.before.before.before.before.before.before.asked_of.ensures)
 
 pub told-of-spec : {M : Type 1} → statement M
 told-of-spec =

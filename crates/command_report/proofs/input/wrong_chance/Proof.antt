@@ -5,7 +5,7 @@ use Rattle.command_report.proofs.input.wrong_chance.Statement.{statement}
 use Rattle.command_report.proofs.input.wrong_chance.Tie as tie
 
 abbrev invariant-loop : tie.invariant-loop
-invariant-loop first end n₀ n = (n ≤ 8) × (first < 10_000)
+invariant-loop first end n₀ n = (n ≤ 8) × (first < 100)
 
 abbrev decreases-loop : tie.decreases-loop
 decreases-loop first end n₀ n = 8 - n

@@ -5,10 +5,10 @@ use Rattle.command_trial.proofs.report.print_all.Statement.{statement}
 use Rattle.command_trial.proofs.report.print_all.Tie as tie
 
 abbrev invariant-loop : tie.invariant-loop
-invariant-loop v index table unknown tabs room₀ count waiting₀ k₀ room waiting k = Unit {0}
+invariant-loop v index table unknown room₀ count waiting₀ k₀ room waiting k = Unit {0}
 
 abbrev decreases-loop : tie.decreases-loop
-decreases-loop v index table unknown tabs room₀ count waiting₀ k₀ room waiting k = count - k
+decreases-loop v index table unknown room₀ count waiting₀ k₀ room waiting k = count - k
 
 pub print-all-spec : {M : Type 1} → statement M
 print-all-spec =

@@ -46,8 +46,7 @@ slice-aggregate-lay-record-2 c =
 laid : (c : tie.After-lay-record)
     → let check = c.before.before.before.before.before in
     let a = check.before.before.before.before.before.before.args in
-    LaidWhole (bytes_from a.asked.day a.name.now a.chances.now a.times.now
-    (take (length a.chances.now) check.offer-refusal.new.1.1.1.1.1.1.0))
+    LaidWhole (bytes_from a.asked.day a.name.now a.chances.now a.times.now (take (length a.chances.now) check.offer-refusal.new.1.1.1.1.1.1.0))
     c.lay-record.new.0 c.lay-record.result
 unfolding offer_from
 laid c =

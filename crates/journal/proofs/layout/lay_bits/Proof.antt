@@ -19,7 +19,7 @@ loop-holds c = laid_none _ _ _ _
 loop-again : tie.Need-loop-preserved invariant-loop decreases-loop
 loop-again c =
     let head = c.before.before.before.before.before.before in
-    laid_next _ _ _ _ _ _ _ _ _ _ head.loop.invariant (omega arith) refl c.before.before.lay-eight.ensures
+    laid_next _ _ _ _ _ _ _ _ _ _ head.loop.invariant (omega arith) refl c.before.before.lay-number2.ensures
 
 same_length : tie.Need-same-length invariant-loop decreases-loop
 same_length c = laid_length _ _ _ _ _ _ c.before.before.before.before.lay-number.ensures _ _ _ c.before.loop.invariant

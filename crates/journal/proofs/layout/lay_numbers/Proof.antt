@@ -16,13 +16,13 @@ decreases-loop out₀ at numbers n p₀ i₀ out p i = n - i
 loop-holds : tie.Need-loop-init invariant-loop decreases-loop
 loop-holds c = laid_none _ _ _ _
 
-cast-lay-four : tie.Need-overflow-cast-lay-four invariant-loop decreases-loop
-cast-lay-four c = omega (arith, c.shared-slice-known2.given c.before.before.before.loop.i)
+cast-lay-number : tie.Need-overflow-cast-lay-number invariant-loop decreases-loop
+cast-lay-number c = omega (arith, c.shared-slice-known2.given c.before.before.before.loop.i)
 
 loop-again : tie.Need-loop-preserved invariant-loop decreases-loop
 loop-again c =
     let head = c.before.before.before.before.before.before in
-    laid_next _ _ _ _ _ _ _ _ _ _ head.loop.invariant (omega arith) refl c.before.before.lay-four.ensures
+    laid_next _ _ _ _ _ _ _ _ _ _ head.loop.invariant (omega arith) refl c.before.before.lay-number2.ensures
 
 same_length : tie.Need-same-length invariant-loop decreases-loop
 same_length c = laid_length _ _ _ _ _ _ c.before.before.before.before.lay-number.ensures _ _ _ c.before.loop.invariant
@@ -40,7 +40,7 @@ lay-numbers-spec =
     loop-holds
     (λ c. omega arith)
     (λ c. omega arith)
-    cast-lay-four
+    cast-lay-number
     (λ c κs. omega arith)
     (λ c. omega arith)
     (λ c. omega arith)

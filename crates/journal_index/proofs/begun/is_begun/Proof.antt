@@ -84,7 +84,7 @@ is-begun-spec =
     (λ c. let x = size_here _ _ _ c.before.size-at.ensures (omega arith) in omega (arith, x.inside, x.count))
     (λ c. let x = size_here _ _ _ c.before.size-at.ensures (omega arith) in omega (arith, x.inside, x.count))
     (λ c. c.before.before.before.before.before.before.loop.invariant.order)
-    (λ c. let l = c.before.before.before.before.before.before.loop in omega (arith, l.invariant.order, l.invariant.stands))
+    (λ c. omega (arith, c.before.before.before.before.before.before.loop.invariant.order, c.before.before.before.before.before.before.loop.invariant.stands))
     (λ c. omega (arith, c.before.before.before.before.before.before.loop.invariant.stands))
     (λ c. let x = size_here _ _ _ c.before.before.size-at.ensures (omega arith) in omega (arith, x.inside, x.count))
     (λ c. let x = size_here _ _ _ c.before.before.size-at.ensures (omega arith) in omega (arith, x.inside, x.count))

@@ -13,8 +13,7 @@ slice-aggregate-make-named c = sym (length-take-le _ _ (omega (arith, c.before.b
 make-named-requires : tie.Need-make-named-requires
 make-named-requires c κs =
     let read = c.before.before.before in
-    let w = read.before.before.before.before.requires in
-    latest_named _ w _ (read.latest-of.ensures.0 w (search rules))
+    latest_named _ read.before.before.before.before.requires _ read.latest-of.ensures.0
 
 pub make-whole-spec : {M : Type 1} → statement M
 make-whole-spec =

@@ -1,6 +1,6 @@
 -- `has_entries` holds one entry a turn against the next place's record. The measure is how many places are left.
 -- Assumes nothing.
-use mathlib.Core.Path.{◌≡◌, ◌∙◌}
+use mathlib.Core.Path.{◌≡◌}
 use Prim.Native.Nat.{◌+◌, ◌-◌, ◌≤◌}
 use native.Mathlib.Omega.{arith}
 use borrow.Author.Rules.{rules}
@@ -8,7 +8,6 @@ use borrow.Author.Tests.{not-true, not-false}
 use lib.ListN.{length, drop}
 use Rattle.journal_parts.specs.Front.{record_name}
 use Rattle.journal_entries.proofs.ByCounts.{size_here}
-use Rattle.journal_entries.proofs.LookedUp.{entry_there_lem}
 use Rattle.journal_order.specs.Keys.{key_at}
 use Rattle.journal_index.proofs.Comparing.{Comparing, comparing_start, comparing_none, comparing_short, comparing_other, comparing_next}
 use Rattle.journal_index.proofs.Comparing.{comparing_all, comparing_end}
@@ -31,6 +30,9 @@ returns-2 : tie.Need-returns-2 invariant-loop decreases-loop
 returns-2 c =
     comparing_short _ _ _ _ _ _ c.before.before.before.before.loop.invariant (omega arith) _ c.before.size-at.ensures c.if2.true
 
+is-entry-requires : tie.Need-is-entry-requires invariant-loop decreases-loop
+is-entry-requires c κs = (c.before.before.before.before.size-at.ensures, omega (arith, c.before.before.before.if2.false))
+
 -- the name
 name : (c : tie.After-key-at invariant-loop decreases-loop)
     → let p = c.before.before.before.before.before.before.before.before.before.before.before.before.args in
@@ -45,8 +47,7 @@ returns-3 c =
     let whole = read.before.before.before in
     let some = whole.before.before in
     comparing_other _ _ _ _ _ _ some.before.before.loop.invariant (omega arith) _ _ _ _ some.if1.false whole.before.size-at.ensures whole.if2.false
-    read.before.wide.ensures (name read)
-    (entry.is-entry.ensures ∙ entry_there_lem _ _ _ _ _ whole.before.size-at.ensures (omega (arith, whole.if2.false))) (not-true _ c.if3.true)
+    read.before.wide.ensures (name read) entry.is-entry.ensures (not-true _ c.if3.true)
 
 inside : (c : tie.Else3 invariant-loop decreases-loop)
     → let size = c.before.before.before.before.before.before in
@@ -63,8 +64,7 @@ loop-again c =
     let whole = read.before.before.before in
     let some = whole.before.before in
     comparing_next _ _ _ _ _ _ some.before.before.loop.invariant (omega arith) _ _ _ _ some.if1.false whole.before.size-at.ensures whole.if2.false
-    read.before.wide.ensures (name read)
-    (entry.is-entry.ensures ∙ entry_there_lem _ _ _ _ _ whole.before.size-at.ensures (omega (arith, whole.if2.false))) (not-false _ c.if3.false)
+    read.before.wide.ensures (name read) entry.is-entry.ensures (not-false _ c.if3.false)
 
 returns-4 : tie.Need-returns-4 invariant-loop decreases-loop
 returns-4 c = comparing_all _ _ _ _ _ _ c.before.before.loop.invariant (omega arith) c.if4.true
@@ -87,7 +87,7 @@ has-entries-spec =
     (λ c. omega arith)
     (λ c κs. search rules)
     (λ c κs. search rules)
-    (λ c κs. search rules)
+    is-entry-requires
     returns-3
     (λ c. omega (arith, inside c))
     (λ c. omega (arith, c.before.before.before.before.before.before.before.if1.false))

@@ -32,7 +32,7 @@ returns-2 c =
     let read = c.before.before.before in
     let left = read.before.before in
     let w = left.before.before.before.before.requires in
-    c.has-entries.ensures ∙ own_same _ _ w (bytes left) (told left) _ (latest_named _ w _ (read.latest-of.ensures.0 w (search rules)))
+    c.has-entries.ensures ∙ own_same _ _ w (bytes left) (told left) _ (latest_named _ w _ read.latest-of.ensures.0)
 
 pub is-own-spec : {M : Type 1} → statement M
 is-own-spec =

@@ -7,8 +7,9 @@ use Rattle.journal_order.proofs.halving.look_up.Statement.{statement}
 use Rattle.journal_order.proofs.halving.look_up.Tie as tie
 
 returns : tie.Need-returns
-returns c = λ rises.
-    looked_none _ _ _ _ (c.before.before.upto.ensures.1 rises) _ c.before.ends_with.ensures rises (not-true _ c.if1.true)
+returns c =
+    let u = c.before.before in
+    looked_none _ _ _ _ u.upto.ensures _ c.before.ends_with.ensures u.before.before.before.before.requires (not-true _ c.if1.true)
 
 sub_wide : tie.Need-overflow-sub-wide
 sub_wide c = omega (arith, c.before.ends_with.ensures.there (not-false _ c.if1.false))
@@ -16,12 +17,12 @@ sub_wide c = omega (arith, c.before.ends_with.ensures.there (not-false _ c.if1.f
 shared-slice-read-wide : tie.Need-shared-slice-read-wide
 shared-slice-read-wide c =
     let e = c.before.before in
-    omega (arith, e.ends_with.ensures.there (not-false _ c.before.if1.false), e.before.upto.ensures.0)
+    omega (arith, e.ends_with.ensures.there (not-false _ c.before.if1.false), e.before.upto.ensures.within)
 
 returns-2 : tie.Need-returns-2
-returns-2 c = λ rises.
+returns-2 c =
     let e = c.before.before.before in
-    looked_one _ _ _ _ (e.before.upto.ensures.1 rises) _ e.ends_with.ensures _ (not-false _ c.before.before.if1.false) c.wide.ensures
+    looked_one _ _ _ _ e.before.upto.ensures _ e.ends_with.ensures _ (not-false _ c.before.before.if1.false) c.wide.ensures
 
 pub look-up-spec : {M : Type 1} → statement M
 look-up-spec =

@@ -1,26 +1,24 @@
 -- `upto` halves the places between `low` and `high`. The measure is how many they are.
 -- Assumes nothing.
 use mathlib.Core.Path.{◌≡◌, sym, ap, ◌∙◌}
-use Prim.Native.Nat.{◌+◌, ◌-◌, ◌/◌, ◌≤◌}
+use Prim.Native.Nat.{◌+◌, ◌-◌, ◌/◌}
 use native.Mathlib.Omega.{arith}
 use borrow.Author.Rules.{rules}
-use lib.ListN.{length, get_or}
+use lib.ListN.{get_or}
 use Rattle.journal_entries.specs.Shape.{is_below}
 use Rattle.journal_order.specs.Keys.{key_at}
-use Rattle.journal_order.specs.Sorted.{Rises}
 use Rattle.journal_order.proofs.Searching.{Halving, halving_start, halving_down, halving_up, halving_done}
 use Rattle.journal_order.proofs.halving.upto.Statement.{statement}
 use Rattle.journal_order.proofs.halving.upto.Tie as tie
 
 abbrev invariant-loop : tie.invariant-loop
-invariant-loop b key places bytes low₀ high₀ low high =
-    (low ≤ high) × (high ≤ length places) × (Rises (key_at key b) places → Halving (key_at key b) bytes places low high)
+invariant-loop b key places bytes low₀ high₀ low high = Halving (key_at key b) bytes places low high
 
 abbrev decreases-loop : tie.decreases-loop
 decreases-loop b key places bytes low₀ high₀ low high = high - low
 
 loop-holds : tie.Need-loop-init invariant-loop decreases-loop
-loop-holds c = (omega arith, omega arith, λ rises. halving_start _ _ _)
+loop-holds c = halving_start _ _ _
 
 sub-middle : tie.Need-overflow-sub-middle invariant-loop decreases-loop
 sub-middle c = omega arith
@@ -48,18 +46,18 @@ loop-again : tie.Need-loop-preserved invariant-loop decreases-loop
 loop-again c =
     let head = c.before.before.before.before.before.before in
     let l = head.loop in
-    let told = middle c.before ∙ c.if1.true in
-    (omega arith, omega arith, λ rises. halving_down _ _ _ rises l.low l.high _ (l.invariant.2 rises) (omega arith) (omega arith) told)
+    halving_down _ _ _ head.before.before.before.before.requires l.low l.high _ l.invariant (omega arith) (omega arith)
+    (middle c.before ∙ c.if1.true)
 
 loop-again-2 : tie.Need-loop-preserved-2 invariant-loop decreases-loop
 loop-again-2 c =
     let head = c.before.before.before.before.before.before in
     let l = head.loop in
-    let told = middle c.before ∙ c.if1.false in
-    (omega arith, omega arith, λ rises. halving_up _ _ _ rises l.low l.high _ (l.invariant.2 rises) (omega arith) (omega arith) told)
+    halving_up _ _ _ head.before.before.before.before.requires l.low l.high _ l.invariant (omega arith) (omega arith)
+    (middle c.before ∙ c.if1.false)
 
 returns : tie.Need-returns invariant-loop decreases-loop
-returns c = (omega arith, λ rises. halving_done _ _ _ _ _ (c.before.loop.invariant.2 rises) (omega arith))
+returns c = halving_done _ _ _ _ _ c.before.loop.invariant (omega arith)
 
 pub upto-spec : {M : Type 1} → statement M
 upto-spec =

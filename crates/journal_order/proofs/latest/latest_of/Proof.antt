@@ -1,78 +1,71 @@
--- `latest_of` enters one record's place a turn, while a record stands and there is room. In a whole journal that is to its end. The measure is what
--- is left of the bytes. Assumes nothing.
-use mathlib.Core.Path.{◌≡◌, refl, sym, ap, ◌∙◌}
+-- `latest_of` enters one record's place a turn. The measure is what is left of the bytes. Assumes nothing.
+use mathlib.Core.Path.{◌≡◌, ap, ◌∙◌}
 use Prim.Native.Nat.{◌+◌, ◌-◌, ◌≤◌}
 use native.Mathlib.Omega.{arith}
 use borrow.Author.Rules.{rules}
-use borrow.Author.Tests.{not-true, not-false}
-use lib.ListN.{length, take, drop}
-use Rattle.journal_spec.proofs.Whole.{WholeBytes}
+use lib.ListN.{length, drop}
 use Rattle.journal_parts.specs.Front.{record_size}
 use Rattle.journal_parts.proofs.Front.{from_place}
-use Rattle.journal_order.specs.Starts.{most_records, Next}
 use Rattle.journal_order.specs.Keys.{key_at}
-use Rattle.journal_order.specs.Sorted.{Climbs}
-use Rattle.journal_order.proofs.Entering.{latest_none}
-use Rattle.journal_order.proofs.Gathering.{Gathering, gathering_start, gathering_next, gathering_going, gathering_end}
+use Rattle.journal_order.proofs.Gathering.{Gathering, gathering_start, gathering_room, gathering_inside, gathering_next}
+use Rattle.journal_order.proofs.Gathering.{gathering_end, gathering_count}
 use Rattle.journal_order.proofs.latest.latest_of.Statement.{statement}
 use Rattle.journal_order.proofs.latest.latest_of.Tie as tie
 
 abbrev invariant-loop : tie.invariant-loop
-invariant-loop b key places₀ count₀ at₀ guesses₀ places count at guesses =
-    (count ≤ length places) × (length places ≡ length places₀) × Climbs (key_at key b) (take count places)
-    × (WholeBytes b → most_records ≤ length places₀ → Gathering (key_at key b) b places₀ places count at) × (length guesses ≡ 251)
+invariant-loop b key places₀ count₀ at₀ places count at = Gathering (key_at key b) b places₀ places count at
 
 abbrev decreases-loop : tie.decreases-loop
-decreases-loop b key places₀ count₀ at₀ guesses₀ places count at guesses = length b - at
+decreases-loop b key places₀ count₀ at₀ places count at = length b - at
 
 loop-holds : tie.Need-loop-init invariant-loop decreases-loop
-loop-holds c = (omega arith, refl, (latest_none _).climbs, λ whole room. gathering_start _ _ _ whole, refl)
+loop-holds c = gathering_start _ _ _ c.before.before.requires.0
+
+cast-place : tie.Need-overflow-cast-place invariant-loop decreases-loop
+cast-place c = omega (arith, c.before.before.before.before.requires.0.short)
+
+enter-requires : tie.Need-enter-requires invariant-loop decreases-loop
+enter-requires c κs =
+    let l = c.before.before.loop in
+    let start = c.before.before.before.before.before in
+    (gathering_room _ _ _ _ _ _ l.invariant start.requires.0.short start.requires.1 (omega arith), l.invariant.latest.climbs)
 
 -- the record's size
 size : (c : tie.After-record-size invariant-loop decreases-loop)
-    → let l = c.before.before.before.loop in
-    c.record-size.result ≡ record_size (drop l.at c.before.before.before.before.before.before.args.b.now)
+    → let l = c.before.before.before.before.before.before.before.loop in
+    let b = c.before.before.before.before.before.before.before.before.before.before.args.b.now in
+    c.record-size.result ≡ record_size (drop l.at b)
 size c =
-    let l = c.before.before.before.loop in
-    c.record-size.ensures ∙ ap record_size (from_place c.before.before.before.before.before.before.args.b.now l.at)
+    let l = c.before.before.before.before.before.before.before.loop in
+    let b = c.before.before.before.before.before.before.before.before.before.before.args.b.now in
+    c.record-size.ensures ∙ ap record_size (from_place b l.at)
 
--- where the next place can be kept
-next : (c : tie.Else1 invariant-loop decreases-loop)
-    → let r = c.before.before in
-    let l = r.before.before.before.loop in
-    Next l.at r.record-size.result (length r.before.before.before.before.before.before.args.b.now - l.at) l.count (length l.places)
-next c = c.before.goes_on.ensures.there (not-false _ c.if1.false)
-
-returns : tie.Need-returns invariant-loop decreases-loop
-returns c =
-    let g = c.before in
-    let r = g.before in
-    let l = r.before.before.before.loop in (
-      λ whole room. absurd (g.goes_on.ensures.over (not-true _ c.if1.true)
-          (gathering_going _ _ _ _ _ _ (l.invariant.3 whole room) whole.short room (omega arith) _ (size r))),
-      (omega arith, l.invariant.1),
-    )
-
-enter-requires : tie.Need-enter-requires invariant-loop decreases-loop
-enter-requires c κs = ((next c.before.before).free, c.before.before.before.before.before.before.before.loop.invariant.2)
+inside : (c : tie.After-record-size invariant-loop decreases-loop)
+    → let l = c.before.before.before.before.before.before.before.loop in
+    let b = c.before.before.before.before.before.before.before.before.before.before.args.b.now in
+    (l.at + c.record-size.result ≤ length b) × (33 ≤ c.record-size.result)
+inside c =
+    let l = c.before.before.before.before.before.before.before.loop in
+    let start = c.before.before.before.before.before.before.before.before.before.before in
+    rw (size c) (gathering_inside _ _ _ _ _ l.at l.invariant start.requires.0.short start.requires.1 (omega arith))
 
 loop-again : tie.Need-loop-preserved invariant-loop decreases-loop
 loop-again c =
-    let e = c.before.before.before.enter.ensures in
-    let n = c.before.before.before.before.before.before in
-    let r = n.before.before in
-    let l = r.before.before.before.loop in (
-      omega (arith, (next n).free, e.1.0.0, e.1.0.1),
-      e.1.0.1 ∙ l.invariant.1,
-      e.0.climbs,
-      λ whole room. rw (size r) (gathering_next _ _ _ _ _ _ (l.invariant.3 whole room) whole.short room (omega arith) _ _ e.0 e.1.0.0 e.1.0.1),
-      e.1.1 ∙ l.invariant.4,
-    )
+    let l = c.before.before.before.before.before.before.before.loop in
+    let start = c.before.before.before.before.before.before.before.before.before.before in
+    let e = c.before.before.before.before.enter.ensures in
+    rw (size c) (gathering_next _ _ _ _ _ _ l.invariant start.requires.0.short start.requires.1 (omega arith) _ _ e.0 e.1.0 e.1.1)
 
-returns-2 : tie.Need-returns-2 invariant-loop decreases-loop
-returns-2 c =
+same_length : tie.Need-same-length invariant-loop decreases-loop
+same_length c = c.before.loop.invariant.long
+
+returns : tie.Need-returns invariant-loop decreases-loop
+returns c =
     let l = c.before.loop in
-    (λ whole room. gathering_end _ _ _ _ _ _ (l.invariant.3 whole room) whole.short room (omega arith), (omega arith, l.invariant.1))
+    let start = c.before.before.before.before in (
+      gathering_end _ _ _ _ _ _ l.invariant start.requires.0.short start.requires.1 (omega arith),
+      (gathering_count _ _ _ _ _ _ l.invariant start.requires.0.short start.requires.1, l.invariant.long),
+    )
 
 pub latest-of-spec : {M : Type 1} → statement M
 latest-of-spec =
@@ -81,19 +74,14 @@ latest-of-spec =
     invariant-loop
     decreases-loop
     loop-holds
-    (λ c. omega arith)
-    (λ c. omega arith)
-    (λ c. omega arith)
-    (λ c κs. search rules)
-    (λ c. omega arith)
-    (λ c κs. search rules)
-    (λ c. c.before.before.before.before.before.loop.invariant.1)
-    returns
-    (λ c. omega (arith, (next c.before).short))
-    (λ c. sym c.before.before.before.before.before.before.before.loop.invariant.4)
+    cast-place
     enter-requires
-    (λ c. omega (arith, (next c.before.before.before.before.before.before).inside))
-    (λ c. omega (arith, (next c.before.before.before.before.before.before).some, (next c.before.before.before.before.before.before).inside))
+    (λ c. omega arith)
+    (λ c. omega arith)
+    (λ c. omega arith)
+    (λ c κs. search rules)
+    (λ c. omega (arith, inside c))
+    (λ c. omega (arith, inside c))
     loop-again
-    (λ c. c.before.loop.invariant.1)
-    returns-2)
+    same_length
+    returns)

@@ -1,7 +1,7 @@
 -- `add_here` goes by what the index's test says. Assumes nothing.
 use Rattle.std.proofs.Common.{◌∙◌, arith, rules}
 use Rattle.journal_trial.proofs.Deciding.{checked_own, checked_other, checked_damaged}
-use Rattle.journal_trial.proofs.NotIndexed.{unknown_names_damaged, unknown_names_declined}
+use Rattle.journal_trial.proofs.NotIndexed.{strangers_damaged, strangers_declined}
 use Rattle.journal_trial.proofs.AddedAll.{damaged_same, foreign_same}
 use Rattle.journal_trial.proofs.adding.add_here.Statement.{statement}
 use Rattle.journal_trial.proofs.adding.add_here.Tie as tie
@@ -14,15 +14,14 @@ add-own-requires c κs =
 returns-2 : tie.Need-returns-2
 returns-2 c =
     let f = checked_other _ _ _ _ c.before.before.before.before.check-index.ensures _ c.before.before.s.given.1 in (
-      c.refuse-unknown.ensures ∙ unknown_names_declined _ _ _ _ f.records f.committed f.stands _ f.is f.other,
-      foreign_same _ _ _ _ _ (λ i. omega (arith, c.before.before.before.before.before.slice-known.given i))
-          f.records f.committed f.stands f.other,
+      c.refuse-unknown.ensures ∙ strangers_declined _ _ _ _ f.records f.committed f.stands _ f.is f.other,
+      foreign_same _ _ _ _ _ (λ i. omega (arith, c.before.before.before.before.before.slice-known.given i)) f.records f.committed f.stands f.other,
     )
 
 returns-3 : tie.Need-returns-3
 returns-3 c =
     let f = checked_damaged _ _ _ _ c.before.before.before.before.check-index.ensures _ c.before.before.s2.given.1 in (
-      c.refuse-unknown2.ensures ∙ unknown_names_damaged _ _ _ _ _ _ f,
+      c.refuse-unknown2.ensures ∙ strangers_damaged _ _ _ _ _ _ f,
       damaged_same _ _ _ _ _ (λ i. omega (arith, c.before.before.before.before.before.slice-known.given i)) _ _ f,
     )
 

@@ -25,8 +25,7 @@ loop-again c =
       omega arith,
       omega arith,
       omega (arith, called.put-limits.ensures.size),
-      limits_next _ _ _ l.k _ l.invariant.3
-          (limits.Limits-of.ensures ∙ ap (limit_bytes _) limits.before.before.start-at.ensures) called.put-limits.ensures,
+      limits_next _ _ _ l.k _ l.invariant.3 (limits.Limits-of.ensures ∙ ap (limit_bytes _) limits.before.before.start-at.ensures) called.put-limits.ensures,
     )
 
 returns : tie.Need-returns invariant-loop decreases-loop

@@ -1,2 +1,0 @@
--- The definitions that the contracts cite: the line that is printed.
-pub mod Line

@@ -1,2 +1,0 @@
--- The command's proofs need no law of its own.
--- Assumes nothing.

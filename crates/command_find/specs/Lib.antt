@@ -1,2 +1,0 @@
--- No definitions: the command is thin over crate journal_find.
--- Assumes nothing.

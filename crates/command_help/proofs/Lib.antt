@@ -1,4 +1,0 @@
--- The laws of how near two words are.
--- Assumes nothing.
-pub mod Nearing
-pub mod Cases

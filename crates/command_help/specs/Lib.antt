@@ -1,3 +1,0 @@
--- The definitions that the contracts cite: how near two words are.
--- Assumes nothing.
-pub mod Near

@@ -1,3 +1,0 @@
--- Worked examples.
--- Assumes nothing.
-mod Examples

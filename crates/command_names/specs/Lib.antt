@@ -1,2 +1,0 @@
--- The definitions that the contracts cite: the line of a name.
-pub mod Line

@@ -1,2 +1,0 @@
--- The program's proofs need no law of its own.
--- Assumes nothing.

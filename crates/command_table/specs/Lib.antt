@@ -1,2 +1,0 @@
--- No definitions: the program is thin over crates journal_listing, text_dates and text_ticks.
--- Assumes nothing.

@@ -1,3 +1,0 @@
--- The law that what is taken stands.
--- Assumes nothing.
-pub mod Fronts

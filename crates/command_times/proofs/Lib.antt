@@ -1,5 +1,0 @@
--- Laws of times read from a text, and worked examples.
--- Assumes nothing.
-pub mod Passing
-pub mod Ending
-mod Examples
