@@ -1,5 +1,7 @@
 // The band around the mean with a share of links inside, as document 02's 2026-11 fixes it, and its refusals.
 // Mean and spread are the limit's, under the sample divisor.
+#![tactic(auto)]
+
 ghost use Rattle.std.specs.Prelude.{◌≡◌};
 ghost use Rattle.band.specs.Answer.{meaning};
 ghost use Rattle.band.specs.Band.{band_of, share_in_range};

@@ -12,8 +12,8 @@ use lib.Ieee.Compare.{differs_from_itself}
 use lib.Ieee.Bits.{nan_bits_above, nan_bits_is}
 
 -- the test x != x, both ways
-pub is_nan : (x : Float) → ne x x ≡ true → x ≡ nan
-is_nan x e = differs_from_itself x (passes (ne x x) e)
+pub is_nan_lem : (x : Float) → ne x x ≡ true → x ≡ nan
+is_nan_lem x e = differs_from_itself x (passes (ne x x) e)
 
 pub no_nan : (x : Float) → ne x x ≡ false → is_nan x ≡ false
 unfolding ne is_nan

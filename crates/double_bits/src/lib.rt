@@ -1,5 +1,7 @@
 // A double from its bit pattern and back, for every pattern and every double. Compiled code may hold
 // any pattern for a NaN, so none of them comes in or leaves: a NaN is 7ff8000000000000.
+#![tactic(auto)]
+
 ghost use Rattle.std.specs.Prelude.{◌≡◌};
 ghost use Rattle.std.specs.Float.{binary64};
 ghost use Rattle.std.specs.Float.Ieee.{of_bits, to_bits};

@@ -10,7 +10,7 @@ use Rattle.limit.specs.Sums.{is_plausible}
 use Rattle.limit.specs.Formula.{double, divisor_of, scatter_of}
 use Rattle.limit.specs.Limit.{min_chance, max_chance, chance_in_range}
 use Rattle.limit.proofs.InRange.{at_most}
-use Rattle.limit.proofs.Plausible.{Plausible, plausible_facts}
+use Rattle.limit.proofs.Plausible.{plausible_facts}
 use Rattle.limit.proofs.Scatter.{sum_small, scatter_at_most}
 use Rattle.limit.proofs.Divisor.{divisor_small}
 use Rattle.limit.proofs.Exact.{double_exact}

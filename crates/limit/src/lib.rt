@@ -2,6 +2,8 @@
 // 02's 2026-03 and 2026-04 fix it, and its refusals. `limit` takes the times. A caller that has summed them and asks for several chances
 // works mean and spread out once, by `moments_of_sums`, and each limit from them, by `limit_of_moments`; one that asks for the same chances
 // again keeps their quantiles, for `limit_of_quantile`.
+#![tactic(auto)]
+
 ghost use Rattle.std.specs.Prelude.{◌≡◌};
 ghost use Rattle.limit.specs.Answer.{meaning, moments_meaning, worked};
 ghost use Rattle.limit.specs.Limit.{chance_in_range, form_known, limit_of, limit_of_moments, limit_of_quantile, moments_of_sums, moments_of_times};

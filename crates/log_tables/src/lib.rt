@@ -1,5 +1,7 @@
 // The logarithms' two tables, 182 rows of bit patterns: POW_INVERSE of the Rust's src/pow_tables.rs, a reciprocal, beside
 // FAST_LOG_DD_INV of its src/logs/fast_log_dd.rs, that reciprocal's logarithm with the other sign. The rule of the entries is pxfm's.
+#![tactic(auto)]
+
 ghost use Rattle.log_tables.specs.Rows.{RowAt};
 
 use crate::fast_log_dd::{fast_log_dd_inv_hi, fast_log_dd_inv_lo};

@@ -2,7 +2,7 @@
 -- positive and finite. For x above 1 the pair is that of 2 - x. Below 1, 1 - x is exact from 0.5 up and has a bounded error
 -- from 0.1 up; above 0.75 the high part that the logarithm is given is exactly 1 - x. Assumes nothing.
 use Rattle.std.proofs.Common.{◌≡◌, ℕ, ◌+◌, ◌*◌, ◌^◌, ◌<◌, ◌≤◌, Bool, true, false, cond, not, T, ltb, sym, refl, subst, arith, ltb→lt, nltb→le}
-use lib.Ieee.{Float, binary64, fits, to_bits, neg, sub, lt, le, eq}
+use lib.Ieee.{Float, binary64, fits, to_bits, lt, le, eq}
 use lib.Ieee.Bits.{is_true}
 use denote.Floats.{passes}
 use Rattle.pxfm.specs.declared.double_double.DoubleDouble.{DoubleDouble}

@@ -1,7 +1,7 @@
 -- The rule of the table of reciprocals, for every entry and every t of its bin: one test of each entry at the two ends of its bin,
 -- which antt computes over the whole table, and one law. And every significand's index is below 182, with the reduced argument in that bin.
 -- Assumes nothing.
-use Rattle.std.proofs.Common.{◌≡◌, ℕ, zero, suc, ◌+◌, ◌-◌, ◌*◌, ◌^◌, ◌<◌, ◌≤◌, Bool, true, false, ◌&&◌, T, ltb, leb, refl, mul-le-mul_right, mul_assoc, mul-le-mul_left, mul-lt-mul_of_pos_right, mul-zero, mul_left_comm, arith, ltb→lt, leb→le, le-leb, leb-false, leb-true}
+use Rattle.std.proofs.Common.{◌≡◌, ℕ, zero, suc, ◌+◌, ◌*◌, ◌^◌, ◌<◌, ◌≤◌, Bool, true, false, ◌&&◌, ltb, leb, refl, mul-le-mul_right, mul_assoc, mul-le-mul_left, mul-lt-mul_of_pos_right, mul-zero, mul_left_comm, arith, ltb→lt, leb→le, le-leb, leb-false, leb-true}
 use native.Mathlib.Nat.{mul-lt-mul_of_pos_left}
 use borrow.Author.Tests.{lt-leb}
 use lib.Ieee.{Float, binary64, of_bits}

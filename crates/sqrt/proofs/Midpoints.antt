@@ -1,11 +1,11 @@
 -- Midpoints beside a root, on natural numbers: n has the whole root s, and the result of rounding it is c * 2 * P, with P = 2 ^ k the weight of the
 -- highest digit of s that is dropped. Another multiple of 2 * P, or a number with fewer digits than s, has its midpoint with the result beyond the
 -- root, on its own side. Assumes nothing.
-use Rattle.std.proofs.Common.{◌≡◌, ℕ, suc, ◌+◌, ◌-◌, ◌*◌, ◌/◌, ◌%◌, ◌<◌, ◌≤◌, not, T, sym, ap, ◌∙◌, le_of_eq, lt_of_lt_of_le, lt_of_le_of_lt, mul-le-mul_right, mod-lt, mul_assoc, suc-mul, mul_comm, add-mul, mul-le-mul, lt_of_mul-lt-mul_right, one-mul, lt_of_not-le, div-add-mod', mul_left_comm, add-one, arith, eqb→eq, leb→le}
+use Rattle.std.proofs.Common.{◌≡◌, ℕ, suc, ◌+◌, ◌*◌, ◌/◌, ◌%◌, ◌<◌, ◌≤◌, not, T, sym, ap, ◌∙◌, le_of_eq, lt_of_lt_of_le, lt_of_le_of_lt, mul-le-mul_right, mod-lt, mul_assoc, suc-mul, mul_comm, add-mul, mul-le-mul, lt_of_mul-lt-mul_right, one-mul, lt_of_not-le, div-add-mod', mul_left_comm, add-one, arith, eqb→eq, leb→le}
 use Prim.Native.Nat.{compare, Ordering}
 use native.Mathlib.Decide.{dec_le}
 use lib.Dec.{is_le, compare_is_eq, nleb→lt}
-use lib.Ieee.{low, nearest}
+use lib.Ieee.{nearest}
 use lib.Ieee.Nearest.{closest}
 use Rattle.sqrt.specs.Sqrt.{IsRoot}
 use Rattle.sqrt.proofs.Squares.{sq_suc, sq_dbl}

@@ -1,6 +1,6 @@
 -- The last step of the root: what `round` makes of a whole root with its remainder, as a count of units and as a bit pattern. Assumes nothing.
 -- Where the root s has one binary digit more than the format keeps, the result is half of s, to nearest, a tie to even (`round_root_carried`).
-use Rattle.std.proofs.Common.{◌≡◌, ℕ, zero, suc, ◌+◌, ◌-◌, ◌*◌, ◌/◌, ◌%◌, ◌^◌, ◌<◌, ◌≤◌, Bool, true, false, cond, not, T, eqb, ◌⊎◌, sym, refl, ap, ◌∙◌, subst, inl, inr, le_trans, le_of_eq, lt_of_lt_of_le, lt_of_le_of_lt, add-zero, add-suc, mul-le-mul_right, zero-lt-suc, mul_assoc, lt-suc_self, suc-mul, mul_comm, add-mul, mul-le-mul, suc-add, eq-or-lt_of_le, mul-lt-mul_of_pos_right, mul-pos, pow-suc, zero-add, mul-one, mul_right_comm, mul-div_cancel, mul_left_comm, add-one, arith, lit<, eqb→eq, leb→le, pow_pos, pow_mono, pow-add, shl_lt}
+use Rattle.std.proofs.Common.{◌≡◌, ℕ, zero, suc, ◌+◌, ◌-◌, ◌*◌, ◌/◌, ◌%◌, ◌^◌, ◌<◌, ◌≤◌, Bool, true, false, cond, not, T, eqb, ◌⊎◌, sym, refl, ap, ◌∙◌, subst, inl, inr, le_trans, le_of_eq, lt_of_lt_of_le, lt_of_le_of_lt, add-zero, add-suc, mul-le-mul_right, zero-lt-suc, mul_assoc, lt-suc_self, suc-mul, mul_comm, add-mul, mul-le-mul, suc-add, eq-or-lt_of_le, mul-lt-mul_of_pos_right, mul-pos, pow-suc, zero-add, mul_right_comm, mul-div_cancel, mul_left_comm, add-one, arith, lit<, eqb→eq, leb→le, pow_pos, pow_mono, pow-add, shl_lt}
 use Prim.Native.Nat.{compare, Ordering}
 use native.Mathlib.Nat.{mul-mul-mul_comm}
 use native.Mathlib.Nat.{eq_of_mul-eq-mul_right, mul-div-mul_right}

@@ -1,11 +1,10 @@
 -- The first step of the root of a positive double: its pattern as the scaled significand. Assumes nothing.
 -- A pattern b with the exponent's field e and the digits t stands for t units where e is 0, and else for (2 ^ 52 + t) * 2 ^ (e - 1) units.
-use Rattle.std.proofs.Common.{◌≡◌, ℕ, zero, suc, ◌+◌, ◌-◌, ◌*◌, ◌/◌, ◌%◌, ◌^◌, ◌<◌, ◌≤◌, Bool, false, cond, eqb, sym, refl, ap, ◌∙◌, subst, le_refl, lt_irrefl, mul-le-mul_right, zero-lt-suc, mul_assoc, mul-one, mul_right_comm, mul-div_cancel, arith, pow-add, ne_eqb}
+use Rattle.std.proofs.Common.{◌≡◌, ℕ, zero, suc, ◌+◌, ◌-◌, ◌*◌, ◌/◌, ◌%◌, ◌^◌, ◌<◌, ◌≤◌, false, sym, refl, ap, ◌∙◌, subst, le_refl, mul-le-mul_right, zero-lt-suc, mul_assoc, mul-one, mul_right_comm, mul-div_cancel, arith, pow-add}
 use native.Mathlib.Nat.{pow-succ'}
 use native.Mathlib.Nat.{pow-le-pow_right}
-use borrow.Author.Tests.{lt-leb}
-use lib.Ieee.{Float, nan, inf, fin, Format, binary64, low, up, down, odd, of_fields, of_bits}
-use lib.Ieee.Exact.{HasValue, odd_sign}
+use lib.Ieee.{Float, nan, inf, fin, Format, binary64, low, up, down, of_bits}
+use lib.Ieee.Exact.{HasValue}
 use lib.Ieee.Fits.{down_pos}
 use Rattle.double_bits.proofs.Digits.{add_exponents}
 use Rattle.double_bits.proofs.Fields.{pattern_low, pattern_mid}

@@ -1,6 +1,8 @@
 // The square root of a double, correctly rounded: document 01's Root. The body goes as IEEE 754
 // does: special operands, the exact root of the scaled significand with its remainder, one rounding.
 // docs/DEFINITION.md, section 16.1, sets the standard's clauses beside these lines and their contracts.
+#![tactic(auto)]
+
 ghost use Rattle.std.specs.Prelude.{◌≡◌, false, from_bits, to_bits};
 ghost use Rattle.std.specs.Float.{binary64};
 ghost use Rattle.std.specs.Float.Ieee.{lt};

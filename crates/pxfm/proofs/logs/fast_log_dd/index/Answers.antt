@@ -1,0 +1,14 @@
+-- `index`: the test is the definition's, and in each branch the bounds on m put m shifted down between 181 and 362.
+-- Assumes nothing.
+use Rattle.std.proofs.Common.{arith, le-leb}
+use borrow.Author.Tests.{lt-leb}
+use Rattle.pxfm.specs.FastLogDd.{index_of}
+use Rattle.pxfm.proofs.logs.fast_log_dd.index.Goals as goal
+
+pub returns-then-m-ge-ROOT_TWO : goal.returns-then-m-ge-ROOT_TWO
+unfolding index_of
+returns-then-m-ge-ROOT_TWO c = (rw (le-leb _ _ c.if-m-ge-ROOT_TWO.true), omega arith)
+
+pub returns-else-m-ge-ROOT_TWO : goal.returns-else-m-ge-ROOT_TWO
+unfolding index_of
+returns-else-m-ge-ROOT_TWO c = (rw (lt-leb _ _ c.if-m-ge-ROOT_TWO.false), omega arith)
