@@ -1,13 +1,13 @@
 -- What dates are: each day's is one that there is, dates rise strictly with the day, so that no two days share one, and every u16 has a year
 -- of four digits. Assumes nothing.
-use Prim.Native.Nat.{ℕ, zero, suc, ◌+◌, ◌-◌, ◌*◌, ◌≤◌, ◌<◌}
-use mathlib.Core.Path.{◌≡◌, refl, sym, ap, ◌∙◌, subst}
+use Prim.Native.Nat.{ℕ, zero, suc, ◌+◌, ◌-◌, ◌≤◌, ◌<◌}
+use mathlib.Core.Path.{◌≡◌, ap, ◌∙◌}
 use mathlib.Core.Bool.{Bool, true, false, cond}
 use native.Mathlib.Omega.{arith}
 use native.Mathlib.Decide.{dec_le}
 use native.Mathlib.Nat.{lt_of_not-le}
 use borrow.Author.Tests.{lt-ltb, le-ltb}
-use lib.Dec.{ltb, eqb}
+use lib.Dec.{eqb}
 use Rattle.text_dates.specs.declared.date.Date.{Date}
 use Rattle.text_dates.specs.Calendar.{is_leap, is_short, month_days, dated, month_after, date_after, days_after, date_of, IsDate, eight_digits}
 use Rattle.text_dates.proofs.Passing.{month_has, after_sum}

@@ -1,11 +1,11 @@
 -- Whole months and whole years counted off: so many days after the first of a month is the first of the month after, and likewise for a year.
 -- Assumes nothing.
 use Prim.Native.Nat.{ℕ, zero, suc, ◌+◌, ◌-◌, ◌≤◌, ◌<◌}
-use mathlib.Core.Path.{◌≡◌, refl, sym, ap, ◌∙◌}
+use mathlib.Core.Path.{◌≡◌, refl, ap, ◌∙◌}
 use mathlib.Core.Bool.{Bool, true, false, cond}
 use native.Mathlib.Omega.{arith}
 use borrow.Author.Tests.{lt-ltb, le-ltb}
-use lib.Dec.{ltb, eqb}
+use lib.Dec.{eqb}
 use Rattle.text_dates.specs.declared.date.Date.{Date}
 use Rattle.text_dates.specs.Calendar.{is_leap, is_short, year_days, month_days, dated, month_after, date_after, days_after}
 

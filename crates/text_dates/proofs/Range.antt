@@ -5,8 +5,7 @@ use mathlib.Core.Path.{◌≡◌, refl, ap}
 use native.Mathlib.Omega.{arith}
 use native.Mathlib.Decide.{dec_le}
 use native.Mathlib.Nat.{lt_of_not-le}
-use Rattle.text_dates.specs.declared.date.Date.{Date}
-use Rattle.text_dates.specs.Calendar.{is_leap, is_short, month_days, dated, month_after, date_after, days_after, date_of, IsDate, eight_digits}
+use Rattle.text_dates.specs.Calendar.{is_leap, is_short, month_days, dated, month_after, date_after, days_after, date_of, eight_digits}
 use Rattle.text_dates.proofs.Dates.{date_is, dates_rise}
 
 pub last_day : date_of 65535 ≡ dated 2179 6 6

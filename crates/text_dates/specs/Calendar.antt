@@ -1,6 +1,6 @@
 -- The date of a day by the Gregorian rule, defined by counting: day 0 is 1 January 2000 (document 01, Leaf), and each day has the date after
 -- that of the day before. Definitions only.
-use Rattle.std.specs.Prelude.{ℕ, zero, suc, ◌+◌, ◌*◌, ◌%◌, ◌≤◌, Bool, true, false, not, ◌&&◌, ◌||◌, cond, ltb, eqb}
+use Rattle.std.specs.Prelude.{ℕ, zero, suc, ◌+◌, ◌*◌, ◌%◌, ◌≤◌, Bool, not, ◌&&◌, ◌||◌, cond, ltb, eqb}
 use Rattle.text_dates.specs.declared.date.Date.{Date}
 
 -- a leap year: every fourth, but of the hundreds only every fourth

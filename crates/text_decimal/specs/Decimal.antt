@@ -7,7 +7,7 @@ use Rattle.text_digits.specs.Hex.{digits, decimal_digits}
 use Rattle.text_ticks.specs.Ticks.{minus_of, in_range}
 use Rattle.text_ticks.specs.Text.{minus_sign, point}
 
--- how many binary digits x has behind the point: its size is num x / 2 ^ placesBehind x, in lowest terms
+-- how many binary digits x has behind the point: its size is num x / 2 ^ places_behind x, in lowest terms
 abbrev pub places_behind : Float → ℕ
 places_behind nan = 0
 places_behind (inf s) = 0

@@ -11,7 +11,6 @@ use Rattle.facts.proofs.Orders.{by_order}
 use Rattle.text_digits.specs.Hex.{digit_of, after_digit, read_digits, read_hex}
 use Rattle.text_digits.specs.declared.digit.Digit.{Digit}
 use Rattle.text_digits.specs.declared.digit.Digit.TheVariants as D
-use Rattle.text_digits.specs.declared.read.Number.{Number}
 use Rattle.text_digits.specs.declared.read.Number.TheVariants as N
 
 -- a byte is a digit below 16, or none

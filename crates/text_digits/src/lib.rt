@@ -1,5 +1,7 @@
 // Numbers as text: hexadecimal and decimal digits written, hexadecimal digits read,
 // bytes put into a lent line, and two texts compared. No public function has a `requires`.
+#![tactic(auto)]
+
 mod compare;
 mod digit;
 mod read;

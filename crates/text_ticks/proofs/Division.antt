@@ -1,7 +1,7 @@
 -- Rounding a fraction to whole numbers, down and up: what bounds the results and determines them, that they are the same for equal fractions, and
 -- that the halves of twice a number give its own roundings. Assumes nothing.
-use mathlib.Core.Path.{◌≡◌, refl, sym, ap, ◌∙◌}
-use Prim.Native.Nat.{ℕ, suc, ◌+◌, ◌-◌, ◌*◌, ◌/◌, ◌≤◌, ◌<◌}
+use mathlib.Core.Path.{◌≡◌, sym, ap, ◌∙◌}
+use Prim.Native.Nat.{ℕ, ◌+◌, ◌-◌, ◌*◌, ◌/◌, ◌≤◌, ◌<◌}
 use native.Mathlib.Nat.{mul_comm, mul_assoc, mul_right_comm, add-mul, mul-le-mul_right, mul-lt-mul_of_pos_right, le_of_mul-le-mul_right}
 use native.Mathlib.Nat.{lt_of_mul-lt-mul_right, lt-div-mul-add, div-mul-le_self, div-eq_of_lt-le, div-div-eq-div-mul, mul-div-mul_left, add-div_right}
 use native.Mathlib.Omega.{arith}

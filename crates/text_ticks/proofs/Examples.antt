@@ -7,8 +7,6 @@ use lib.Count.{count_trailing_zeros}
 use lib.ListN.{length}
 use lib.Ieee.{binary64, odd, of_fields, of_bits}
 use Rattle.text_digits.specs.Hex.{digits, glyph_of, or_more, places_in, places_of, decimal_digits}
-use Rattle.text_ticks.specs.declared.whole.Count.{Count}
-use Rattle.text_ticks.specs.declared.whole.Ticks.{Ticks}
 use Rattle.text_ticks.specs.declared.whole.Ticks.TheVariants as T
 use Rattle.text_ticks.specs.Ticks.{counted, up_size, near_size, in_range, whole_by, ticks_up, ticks_near}
 use Rattle.text_ticks.specs.Text.{hundredths, count_text, ticks_text, max_text}

@@ -1,18 +1,16 @@
 -- Twice a double's size, rounded down and up, from its pattern; and the roundings of the definitions, from these two. Assumes nothing.
 use mathlib.Core.Path.{◌≡◌, refl, sym, ap, ◌∙◌}
-use mathlib.Core.Bool.{Bool, true, false, ◌&&◌, cond}
+use mathlib.Core.Bool.{Bool, true, false, cond}
 use Prim.Native.Nat.{ℕ, zero, suc, ◌+◌, ◌-◌, ◌*◌, ◌/◌, ◌%◌, ◌^◌, ◌≤◌, ◌<◌}
-use native.Mathlib.Nat.{mul_assoc, div-eq_of_lt, div-le_self, zero-lt-suc, pow-le-pow_right, le_trans}
+use native.Mathlib.Nat.{mul_assoc, div-eq_of_lt, div-le_self, zero-lt-suc, pow-le-pow_right}
 use native.Mathlib.Omega.{arith}
-use lib.Dec.{leb, ltb}
+use lib.Dec.{leb}
 use lib.Pow.{pow_pos}
 use lib.Ieee.{Float, binary64, odd, of_fields, of_bits}
 use lib.Ieee.Nearest.{div_same}
 use lib.Ieee.Positive.{num, den, den_pos}
-use Rattle.text_ticks.specs.declared.whole.Count.{Count}
-use Rattle.text_ticks.specs.declared.whole.Ticks.{Ticks}
 use Rattle.text_ticks.specs.declared.whole.Ticks.TheVariants as T
-use Rattle.text_ticks.specs.Ticks.{ceiling, minus_of, up_size, near_size, counted, in_range, whole_by, ticks_up, ticks_near}
+use Rattle.text_ticks.specs.Ticks.{ceiling, minus_of, up_size, near_size, counted, whole_by}
 use Rattle.text_ticks.specs.Halves.{IsHalves}
 use Rattle.text_ticks.proofs.Division.{ceiling_is, ceiling_same, floor_ceiling, half_down, half_up, half_near, half_near_up}
 use Rattle.text_ticks.proofs.Patterns.{IsFraction, pattern_low, pattern_mid, size_num, size_den}
@@ -110,10 +108,10 @@ pattern_sign b h = go (b % 2 ^ 63 / 2 ^ 52) refl
 
 -- ---- the answers
 
-pub whole_by : (size : Bool → ℕ → ℕ → ℕ) (b n : ℕ) (s : Bool) → b % 2 ^ 63 < 1076 * 2 ^ 52 → s ≡ leb (2 ^ 63) b
+pub whole_by_lem : (size : Bool → ℕ → ℕ → ℕ) (b n : ℕ) (s : Bool) → b % 2 ^ 63 < 1076 * 2 ^ 52 → s ≡ leb (2 ^ 63) b
     → n ≡ size s (num (of_bits binary64 b)) (den (of_bits binary64 b)) → T.Whole (counted s n) ≡ whole_by size (of_bits binary64 b)
 unfolding whole_by
-whole_by size b n s h e f = rw (pattern_in b h, pattern_sign b h, ← e, f)
+whole_by_lem size b n s h e f = rw (pattern_in b h, pattern_sign b h, ← e, f)
 
 pub declined_by : (size : Bool → ℕ → ℕ → ℕ) (b : ℕ) → 1076 * 2 ^ 52 ≤ b % 2 ^ 63 → T.Declined ≡ whole_by size (of_bits binary64 b)
 unfolding whole_by

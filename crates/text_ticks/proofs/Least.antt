@@ -1,16 +1,16 @@
 -- What the roundings mean: rounded up is the least whole number not below the double. Whole numbers here have a sign. Assumes nothing.
 use mathlib.Core.Path.{◌≡◌, refl, sym, ap, ◌∙◌, subst}
-use mathlib.Core.Bool.{Bool, true, false, ◌&&◌, cond}
-use Prim.Native.Nat.{ℕ, zero, suc, ◌+◌, ◌-◌, ◌*◌, ◌/◌, ◌≤◌, ◌<◌}
-use native.Mathlib.Nat.{add-mul, zero-mul, suc-mul, div-mul-le_self, lt_of_mul-lt-mul_right, lt-div-mul-add, mul-le-mul_right}
+use mathlib.Core.Bool.{Bool, true, false}
+use Prim.Native.Nat.{ℕ, zero, suc, ◌+◌, ◌*◌, ◌/◌, ◌≤◌, ◌<◌}
+use native.Mathlib.Nat.{add-mul, zero-mul, suc-mul, div-mul-le_self, lt_of_mul-lt-mul_right, lt-div-mul-add}
 use native.Mathlib.Omega.{arith}
 use borrow.Author.Tests.{lt-ltb}
-use lib.Dec.{T, leb, ltb, le→leb, leb→le}
+use lib.Dec.{T, le→leb, leb→le}
 use lib.IntN.{ℤ, pos, negsuc, neg_ℤ, ◌*ℤ◌, pos-*ℤ-pos, negsuc-*ℤ-pos, zero-*ℤ}
 use lib.Ieee.{Float}
 use lib.Ieee.Positive.{num, den, den_pos}
 use Rattle.text_ticks.specs.Ticks.{ceiling, minus_of, up_size, counted, in_range, whole_by, ticks_up}
-use Rattle.text_ticks.specs.Meaning.{signed, int_of, le_z, num_z, den_z, LeastNotBelow, RoundsUp}
+use Rattle.text_ticks.specs.Meaning.{signed, int_of, le_z, LeastNotBelow, RoundsUp}
 use Rattle.text_ticks.proofs.Division.{ceiling_over, ceiling_under}
 
 -- ---- whole numbers below zero

@@ -2,7 +2,7 @@
 -- double they are at most 2 ^ 53, so that 18 bytes hold the text, and some need them (`longest`, Examples). Assumes nothing.
 use mathlib.Core.Path.{◌≡◌, refl}
 use mathlib.Core.Bool.{Bool, true, false, ◌&&◌, cond}
-use mathlib.Core.List.{List, [], ◌∷◌, ◌++◌}
+use mathlib.Core.List.{[], ◌∷◌, ◌++◌}
 use Prim.Native.Nat.{ℕ, ◌+◌, ◌-◌, ◌*◌, ◌/◌, ◌%◌, ◌^◌, ◌≤◌, ◌<◌}
 use native.Mathlib.Nat.{le_of_lt, div-lt_iff_lt-mul}
 use native.Mathlib.Omega.{arith}
@@ -15,8 +15,6 @@ use borrow.Author.Tests.{ltb-true}
 use Rattle.text_digits.specs.Hex.{digits, decimal_digits}
 use Rattle.text_digits.proofs.Counting.{decimal_most}
 use Rattle.text_digits.proofs.Writing.{length_digits}
-use Rattle.text_ticks.specs.declared.whole.Count.{Count}
-use Rattle.text_ticks.specs.declared.whole.Ticks.{Ticks}
 use Rattle.text_ticks.specs.declared.whole.Ticks.TheVariants as T
 use Rattle.text_ticks.specs.Ticks.{counted, minus_of, up_size, near_size, in_range, whole_by, ticks_up, ticks_near}
 use Rattle.text_ticks.specs.Text.{minus_sign, point, hundredths, count_text, ticks_text, max_text}

@@ -1,18 +1,18 @@
 -- What the roundings mean: rounded to the nearest is the greatest whole number not above the double and a half. Whole numbers here have a sign.
 -- Assumes nothing.
 use mathlib.Core.Path.{◌≡◌, refl, sym, ap, ◌∙◌, subst}
-use mathlib.Core.Bool.{Bool, true, false, ◌&&◌, cond}
+use mathlib.Core.Bool.{Bool, true, false}
 use Prim.Native.Nat.{ℕ, zero, suc, ◌+◌, ◌-◌, ◌*◌, ◌/◌, ◌≤◌, ◌<◌}
 use native.Mathlib.Nat.{suc-mul, div-mul-le_self, div-eq_of_lt, lt-div-mul-add, lt_of_not-le}
 use native.Mathlib.Decide.{dec_le}
 use native.Mathlib.Omega.{arith}
 use borrow.Author.Tests.{lt-ltb, le-ltb}
-use lib.Dec.{T, leb, ltb, le→leb, leb→le}
-use lib.IntN.{ℤ, pos, negsuc, neg_ℤ, ◌+ℤ◌, ◌*ℤ◌, *ℤ_comm}
+use lib.Dec.{T, le→leb, leb→le}
+use lib.IntN.{ℤ, pos, negsuc, neg_ℤ, ◌+ℤ◌, ◌*ℤ◌}
 use lib.Ieee.{Float}
 use lib.Ieee.Positive.{num, den, den_pos}
 use Rattle.text_ticks.specs.Ticks.{minus_of, near_size, counted, in_range, whole_by, ticks_near}
-use Rattle.text_ticks.specs.Meaning.{signed, int_of, le_z, num_z, den_z, num_half, den_half, NearestUp, RoundsNear}
+use Rattle.text_ticks.specs.Meaning.{signed, le_z, NearestUp, RoundsNear}
 use Rattle.text_ticks.proofs.Least.{neg_le, neg_le_back, neg_below, neg_times, pos_not_neg, counted_int, above_next, below_next}
 
 -- ---- a half more than a number below zero

@@ -1,19 +1,19 @@
 -- What a bit pattern stands for, as a fraction: with the exponent's field e and the digits t, and whatever its sign, the double is t / 2 ^ 1074 where
 -- e is 0, and else (2 ^ 52 + t) / 2 ^ (1075 - e), up to e = 1075; beyond, it is not below 2 ^ 53, or not finite. Assumes nothing.
 use mathlib.Core.Path.{◌≡◌, refl, sym, ap, ◌∙◌, subst}
-use mathlib.Core.Bool.{Bool, true, false, ◌&&◌, cond}
-use Prim.Native.Nat.{ℕ, zero, suc, ◌+◌, ◌-◌, ◌*◌, ◌/◌, ◌%◌, ◌^◌, ◌≤◌, ◌<◌}
-use native.Mathlib.Nat.{mul-one, mul_assoc, mul_right_comm, mul_comm, mul-le-mul_right, mul-lt-mul_of_pos_right, le_of_mul-le-mul_right}
-use native.Mathlib.Nat.{lt_of_mul-lt-mul_right, eq_of_mul-eq-mul_right, pow-le-pow_right, mul-le-mul}
+use mathlib.Core.Bool.{Bool, true, false, cond}
+use Prim.Native.Nat.{ℕ, zero, suc, ◌+◌, ◌*◌, ◌/◌, ◌%◌, ◌^◌, ◌<◌}
+use native.Mathlib.Nat.{mul-one, mul_assoc, mul_right_comm}
+use native.Mathlib.Nat.{eq_of_mul-eq-mul_right}
 use native.Mathlib.Omega.{arith}
-use borrow.Author.Tests.{lt-leb, ne_eqb, eq-eqb, lt-ltb, le-ltb}
-use lib.Dec.{eqb, leb, ltb}
+use borrow.Author.Tests.{lt-leb, ne_eqb}
+use lib.Dec.{eqb, leb}
 use lib.Pow.{pow-add, pow_pos}
 use lib.Ieee.{Float, nan, inf, fin, binary64, odd, of_fields, of_bits}
 use lib.Ieee.Exact.{HasValue, odd_sign}
-use lib.Ieee.Positive.{num, den, den_pos}
+use lib.Ieee.Positive.{num, den}
 use lib.Ieee.Scale.{finite}
-use Rattle.text_ticks.specs.Ticks.{minus_of, in_range}
+use Rattle.text_ticks.specs.Ticks.{minus_of}
 
 -- x is finite, has the sign s, and is a / c in size
 pub record IsFraction (x : Float) (s : Bool) (a c : ℕ) : Type 0 where

@@ -1,18 +1,18 @@
 -- Which patterns are in range: those whose exponent's field is below 1076, which are the doubles below 2 ^ 53 in size. Assumes nothing.
-use mathlib.Core.Path.{◌≡◌, refl, sym, ap, ◌∙◌}
-use mathlib.Core.Bool.{Bool, true, false, ◌&&◌, cond, and-false}
+use mathlib.Core.Path.{◌≡◌, refl}
+use mathlib.Core.Bool.{Bool, true, false, ◌&&◌, cond}
 use Prim.Native.Nat.{ℕ, zero, suc, ◌+◌, ◌-◌, ◌*◌, ◌/◌, ◌%◌, ◌^◌, ◌≤◌, ◌<◌}
-use native.Mathlib.Nat.{mul_right_comm, mul_assoc, mul-le-mul_right, mul-lt-mul_of_pos_right, le_of_mul-le-mul_right, pow-le-pow_right, pow-suc, zero-lt-suc}
+use native.Mathlib.Nat.{mul_right_comm, mul-le-mul_right, mul-lt-mul_of_pos_right, le_of_mul-le-mul_right, pow-le-pow_right, pow-suc, zero-lt-suc}
 use native.Mathlib.Nat.{lt_of_mul-lt-mul_right, lt_of_not-le}
 use native.Mathlib.Decide.{dec_le}
 use native.Mathlib.Omega.{arith}
-use borrow.Author.Tests.{eq-eqb, lt-ltb, le-ltb}
+use borrow.Author.Tests.{lt-ltb, le-ltb}
 use lib.Dec.{eqb, leb, ltb}
 use lib.Pow.{pow_pos}
-use lib.Ieee.{Float, nan, inf, fin, binary64, odd, of_fields, of_bits}
+use lib.Ieee.{Float, nan, inf, binary64, of_fields, of_bits}
 use lib.Ieee.Positive.{num, den, den_pos}
 use lib.Ieee.Scale.{finite}
-use Rattle.text_ticks.specs.Ticks.{minus_of, in_range}
+use Rattle.text_ticks.specs.Ticks.{in_range}
 use Rattle.text_ticks.proofs.Patterns.{IsFraction, bits_fields, pattern_low, pattern_mid, pattern_high}
 
 -- ---- a fraction below a whole number, or not

@@ -1,9 +1,8 @@
 -- What it is to be the least whole number not below a double, and the nearest one: said of whole numbers with a sign, by multiplying out, with no
 -- real number. Definitions only.
-use Rattle.std.specs.Prelude.{ℕ, suc, ◌*◌, ◌≡◌, Bool, true, false, cond, T, leb, ℤ, pos, negsuc, neg_ℤ, ◌+ℤ◌, ◌*ℤ◌, Float}
+use Rattle.std.specs.Prelude.{ℕ, ◌*◌, ◌≡◌, Bool, true, false, cond, T, leb, ℤ, pos, negsuc, neg_ℤ, ◌+ℤ◌, ◌*ℤ◌, Float}
 use Rattle.std.specs.Float.Ieee.Positive.{num, den}
 use Rattle.text_ticks.specs.declared.whole.Count.{Count}
-use Rattle.text_ticks.specs.declared.whole.Ticks.{Ticks}
 use Rattle.text_ticks.specs.declared.whole.Ticks.TheVariants as W
 use Rattle.text_ticks.specs.Ticks.{minus_of, ticks_up, ticks_near}
 
@@ -22,7 +21,7 @@ le_z (pos m) (negsuc n) = false
 le_z (negsuc m) (pos n) = true
 le_z (negsuc m) (negsuc n) = leb n m
 
--- x is the fraction numZ / denZ
+-- x is the fraction num_z / den_z
 abbrev pub num_z : Float → ℤ
 num_z x = signed (minus_of x) (num x)
 
@@ -34,7 +33,7 @@ pub record LeastNotBelow (x : Float) (z : ℤ) : Type 0 where
   pub not_below : T (le_z (num_z x) (z *ℤ den_z x))
   pub least : (y : ℤ) → T (le_z (num_z x) (y *ℤ den_z x)) → T (le_z z y)
 
--- x + 1/2 is the fraction numHalf / denHalf
+-- x + 1/2 is the fraction num_half / den_half
 abbrev pub num_half : Float → ℤ
 num_half x = pos 2 *ℤ num_z x +ℤ den_z x
 

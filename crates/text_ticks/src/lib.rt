@@ -1,5 +1,7 @@
 // Whole ticks of a double by its bit pattern, rounded up or to the nearest, and their text in milliseconds.
 // Every pattern is answered: a NaN, an infinity and a size from 2^53 on are declined. No public function has a `requires`.
+#![tactic(auto)]
+
 mod halves;
 mod text;
 mod whole;
