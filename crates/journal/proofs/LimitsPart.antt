@@ -15,7 +15,7 @@ use Rattle.limit.specs.Sums.{sums_of}
 use Rattle.limit.specs.Limit.{limit_of, moments_of_sums, limit_of_moments}
 use Rattle.limit.proofs.Agreement.{limit_of_moments_agrees}
 use Rattle.journal_spec.specs.Refusals.{limit_refusal, unless}
-use Rattle.journal_spec.specs.Reader.{Reader, field, Found, found, fault, short, run}
+use Rattle.journal_spec.specs.Reader.{Reader, done, field, Found, found, fault, short, run}
 use Rattle.journal_spec.specs.Section.{items, section}
 use Rattle.journal_spec.specs.Record.{limit_section, judge_limit}
 use Rattle.journal_spec.specs.Tests.{same}
@@ -139,4 +139,4 @@ module _ (b : List ℕ) (chances n form : ℕ) (sums : Sums) (list times : List 
           let f = next_found (run (section (limit_section form list times)) at (drop at b)) next (sym told ∙ ran) in
           rw (is, total, flat_exactly times)
           (ap record_read
-          (sym (run_then (section (limit_section form list times)) _ at (drop at b) ∙ ap (after _) f.ran)))
+          (sym (run_then (section (limit_section form list times)) _ at (drop at b) ∙ ap (after (λ (xs : List ℕ). done (record { form = form; day = day; name = name; chances = list; times = times; limits = xs }))) f.ran)))

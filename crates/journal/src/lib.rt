@@ -1,6 +1,8 @@
 // The journal: scan, document 01's survey; reading's two calls, the part of a record and its mark; append, and the call with a budget, each
 // of times or through a log; and each of them by a rule, request 2026-14's profile calls among them.
 // Each goes over the journal's bytes once; nothing is assumed of the slice, the length or what is offered.
+#![tactic(auto)]
+
 ghost use Rattle.std.specs.Prelude.{◌≡◌};
 ghost use Rattle.std.proofs.Math.Option.{none};
 ghost use Rattle.journal_spec.specs.Profile.{plain};

@@ -1,5 +1,7 @@
 // The entries of an index in a buffer (request 2026-08), read by their counts: the order of names, a name found or looked up, places of entries,
 // and the index amended in its place. Nothing is assumed of the buffer's bytes, and no memory is needed.
+#![tactic(auto)]
+
 mod amending;
 mod finding;
 mod names;

@@ -1,5 +1,7 @@
 // The index of the records that stand (request 2026-08): made afresh, told from another, and kept beside the journal by append.
 // Nothing is assumed of the slices, the lengths or the buffers. Making and telling it takes an array of places on the stack.
+#![tactic(auto)]
+
 mod append;
 mod begun;
 mod log;

@@ -1,5 +1,7 @@
 // The listing of a journal (document 01, Marks and listing), a line at a time: `start` scans the journal once, and each call of
 // `next_line` writes one line into a lent buffer. No quantile is worked out again, and nothing is assumed of the bytes or the cursor.
+#![tactic(auto)]
+
 ghost use Rattle.std.specs.Prelude.{◌≡◌, false, ◌-◌, ◌<◌};
 ghost use Rattle.journal_listing.specs.Lines.{position_of, listed_of, start_of, step, record_step, end_of, Writes};
 ghost use Rattle.journal.specs.Answers.{meaning};

@@ -1,6 +1,8 @@
 // The merge of two journals into a third buffer (request 2026-09), with two passes over both: the first finds the result's length and where
 // forms fall in it, the second copies the records. The first
 // journal's records are sorted by their bytes before. Nothing is assumed of the slices, the lengths or the buffer.
+#![tactic(auto)]
+
 ghost use Rattle.std.specs.Prelude.{◌≡◌};
 ghost use Rattle.journal_spec.specs.Cursor.{records_in};
 ghost use Rattle.journal_spec.proofs.Whole.{WholeBytes};

@@ -1,6 +1,6 @@
 -- Records that nothing refuses after some record, whose days and forms never fall, may stand end to end in a journal.
 -- `good_after` alone knows what a record's refusals take from the record before it. Assumes nothing.
-use mathlib.Core.Path.{◌≡◌, refl}
+use mathlib.Core.Path.{◌≡◌}
 use Prim.Native.Nat.{ℕ, ◌≤◌}
 use mathlib.Core.List.{List, [], ◌∷◌, ◌++◌}
 use mathlib.Core.Bool.{Bool, true, false, cond}

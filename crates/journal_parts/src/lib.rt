@@ -1,5 +1,7 @@
 // A record by its counts: a number in bytes, where the sections of the record at a place stand, and of the one at a slice's front its size and its
 // name. Nothing is judged and nothing is assumed of the bytes: what does not stand in the slice is 0 or empty.
+#![tactic(auto)]
+
 ghost use Rattle.std.specs.Prelude.{◌≡◌};
 ghost use Rattle.journal_parts.specs.Front.{record_size, record_name};
 

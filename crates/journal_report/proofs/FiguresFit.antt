@@ -1,7 +1,7 @@
 -- How long the lines of a record's figures are: for every record that may stand, a buffer of `max_figure` bytes holds them. A limit whose exact decimal takes
 -- all of its 63 bytes is below 2 ^ -7 in size and has fewer in milliseconds than the nine reckoned here: no line takes all 156. Assumes nothing.
 use Prim.Native.Nat.{ℕ, ◌+◌, ◌≤◌, ◌<◌}
-use mathlib.Core.Path.{◌≡◌, subst}
+use mathlib.Core.Path.{subst}
 use mathlib.Core.List.{List, ◌++◌}
 use native.Mathlib.Omega.{arith}
 use lib.ListN.{length, get_or, length-append}
@@ -14,13 +14,12 @@ use Rattle.limit.specs.Times.{sum_of, squares_of}
 use Rattle.limit.specs.Formula.{mean_of, spread_of}
 use Rattle.text_ticks.specs.Ticks.{ticks_up, ticks_near}
 use Rattle.text_ticks.specs.Text.{ticks_text}
-use Rattle.text_decimal.specs.Decimal.{exact_text}
 use Rattle.text_decimal.proofs.Longest.{exact_text_most}
 use Rattle.journal_spec.specs.Record.{Record, Last}
 use Rattle.journal_spec.specs.Ranges.{RecordRanges}
 use Rattle.law_shown.specs.Shown.{max_moment, max_slot}
 use Rattle.law_shown.proofs.Records.{shown_record}
-use Rattle.journal_report.specs.Figures.{limit_word, chance_word, mean_word, spread_word, exact_word, up_word, near_word, last_word}
+use Rattle.journal_report.specs.Figures.{limit_word, chance_word, mean_word, spread_word, exact_word, up_word, near_word}
 use Rattle.journal_report.specs.Figures.{double_text, limit_line, moment_line, max_figure}
 
 double_most : (what : List ℕ) (bits : ℕ) → length (double_text what bits) ≤ length what + 89

@@ -4,7 +4,7 @@ use mathlib.Core.Path.{◌≡◌, refl}
 use mathlib.Core.Bool.{true, false}
 use mathlib.Core.List.{[], ◌∷◌}
 use lib.Count.{count_trailing_zeros}
-use lib.Ieee.{binary64, odd, of_fields, of_int, of_bits, to_bits, div}
+use lib.Ieee.{odd, of_fields, of_int, of_bits, to_bits, div}
 use Rattle.text_digits.specs.Hex.{digits, glyph_of, or_more, places_in, places_of, decimal_digits}
 use Rattle.sqrt.specs.Sqrt.{sqrt_in}
 use Rattle.limit.specs.Times.{in_range, time_in_range, all_in_range, times_in_range, sum_of, squares_of}

@@ -10,7 +10,7 @@ use lib.Ieee.{binary64, of_bits}
 use Rattle.text_digits.specs.Hex.{decimal_digits}
 use Rattle.text_digits.proofs.Counting.{decimal_most}
 use Rattle.text_ticks.specs.declared.whole.Ticks.{Ticks}
-use Rattle.text_ticks.specs.Ticks.{ticks_up, ticks_near}
+use Rattle.text_ticks.specs.Ticks.{ticks_up}
 use Rattle.text_ticks.specs.Text.{ticks_text, max_text}
 use Rattle.text_ticks.proofs.Longest.{up_text_most, near_text_most}
 use Rattle.limit.specs.Answer.{MomentsResult}

@@ -3,7 +3,7 @@
 use Rattle.std.specs.Prelude.{◌≡◌, ℕ, List, length}
 use Rattle.journal_spec.specs.Profile.{plain}
 use Rattle.journal_spec.specs.Scan.{scan_of}
-use Rattle.journal_spec.specs.MakeIndex.{IndexResult, made, declined, damaged, Made, make_index_of}
+use Rattle.journal_spec.specs.MakeIndex.{IndexResult, made, declined, damaged, make_index_of}
 use Rattle.journal.specs.Answers.{meaning}
 use Rattle.journal_entries.specs.Entries.{entries_in}
 use Rattle.journal_report.specs.Report.{width_of}

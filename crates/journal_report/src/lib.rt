@@ -1,5 +1,7 @@
 // The planner's report of a journal, a line for each name, by the journal's index (request 2026-08): the width of the names' column, the head, and the
 // line of the entry at a position. Nothing is assumed of the bytes, and no record is searched for. And the lines of one record's figures.
+#![tactic(auto)]
+
 ghost use Rattle.std.specs.Prelude.{◌≡◌};
 ghost use Rattle.journal_entries.specs.Entries.{entries_in};
 ghost use Rattle.journal_entries.specs.Answers.{start_meaning};

@@ -36,7 +36,7 @@ use Rattle.journal_spec.proofs.Ranged.{passed, fits_room, accepted_exactly, good
 use Rattle.journal_spec.proofs.Scanning.{Torn, last_form_lem, follow_snoc, torn_none, records_snoc}
 use Rattle.journal_spec.proofs.Places.{placed_from, length_placed}
 use Rattle.journal_spec.proofs.Scanning.{unless_broken, contents_of_lem, plain_keeps}
-use Rattle.journal_spec.proofs.Placing.{written_length, written_take, written_drop, lengths_are, part_bytes, mark_placed}
+use Rattle.journal_spec.proofs.Placing.{written_length, written_take, written_drop, lengths_are, part_bytes_lem, mark_placed}
 
 -- ---- a journal that holds what a model says
 
@@ -83,7 +83,7 @@ module _ (room : ℕ) (j : Journal) (m : Model) (h : Holds room j m) where
           ≡ elim b [ none ↦ bytes_at m.records i | some at ↦ [] ]
       go none =
           unfold unless_broken part_of in
-          part_bytes j.slice 0 m.records (m.tail ++ drop j.len j.slice)
+          part_bytes_lem j.slice 0 m.records (m.tail ++ drop j.len j.slice)
           (sym (take-append-drop j.len j.slice) ∙ rw (h.bytes, append_assoc) refl)
           i
       go (some at) = unfold unless_broken part_of part_bytes no_part in refl

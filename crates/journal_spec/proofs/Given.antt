@@ -47,9 +47,14 @@ pub record LineRefused (q : Request) (n p : ℕ) : Type 0 where
   pub is_log : q.source ≡ log bytes
   pub refused : gather_of q.name bytes ≡ misread n p
 
+line_read : (q : Request) (bytes : List ℕ) (n p : ℕ) → q.source ≡ log bytes → gather_of q.name bytes ≡ misread n p
+    → gather_by q.name q.source ≡ misread n p
+unfolding gather_by
+line_read q bytes n p e h = rw e h
+
 pub line_refused : (q : Request) (n p : ℕ) → (times_of q ≡ misread n p) ↔ LineRefused q n p
 unfolding times_of
-line_refused q n p = (λ h. by_source q.source refl h, λ l. unfold gather_by in rw l.is_log l.refused)
+line_refused q n p = (λ h. by_source q.source refl h, λ l. line_read q l.bytes n p l.is_log l.refused)
   where
     by_source : (s : Source) → q.source ≡ s → gather_by q.name s ≡ misread n p → LineRefused q n p
     by_source (times us) e h = unfold gather_by in let z : ◌≡◌ {A = ℕ} 0 1 = cc in absurd (omega arith)

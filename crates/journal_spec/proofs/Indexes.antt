@@ -272,7 +272,7 @@ fresh_is at (r ∷ rs) =
 amended_rising : (es : List IndexEntry) (at : ℕ) (rs : List Record) → Rising es → Rising (amend_all es (placed_from at rs))
 unfolding amend_all placed_from
 amended_rising es at [] h = h
-amended_rising es at (r ∷ rs) h = amended_rising _ (at + length (record_bytes r)) rs (amend_rising _ es h)
+amended_rising es at (r ∷ rs) h = amended_rising (amend (entry_of (record { content = r; start = at; size = length (record_bytes r) })) es) (at + length (record_bytes r)) rs (amend_rising _ es h)
 
 amended_has : (name : List ℕ) (es : List IndexEntry) (at : ℕ) (rs : List Record)
     → look_up name (amend_all es (placed_from at rs)) ≡ or_else (last_start name at rs) (look_up name es)
@@ -301,7 +301,7 @@ amend_snoc : (es : List IndexEntry) (at : ℕ) (rs : List Record) (r : Record)
     → amend_all es (placed_from at (rs ++ r ∷ [])) ≡ amend (record { name = r.name; start = at + lengths_of rs }) (amend_all es (placed_from at rs))
 unfolding amend_all placed_from entry_of lengths_of
 amend_snoc es at [] r = rw add-zero refl
-amend_snoc es at (s ∷ rs) r = amend_snoc _ (at + length (record_bytes s)) rs r ∙ rw add_assoc refl
+amend_snoc es at (s ∷ rs) r = amend_snoc (amend (entry_of (record { content = s; start = at; size = length (record_bytes s) })) es) (at + length (record_bytes s)) rs r ∙ rw add_assoc refl
 
 -- the index amended by the record is the one made afresh with it
 pub next_index_lem : (rs : List Record) (r : Record)

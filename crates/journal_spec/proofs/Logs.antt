@@ -4,20 +4,19 @@
 -- Assumes nothing.
 use mathlib.Core.Path.{◌≡◌, refl, sym, ap, ap₂, ◌∙◌}
 use mathlib.Core.Logic.{◌⊎◌, inl, inr, ⊎_elim}
-use Prim.Native.Nat.{ℕ, zero, suc, ◌+◌, ◌≤◌, ◌<◌}
+use Prim.Native.Nat.{ℕ, ◌+◌, ◌≤◌, ◌<◌}
 use mathlib.Core.List.{List, [], ◌∷◌, ◌++◌, append_assoc, append-nil}
-use mathlib.Core.Bool.{Bool, true, false, cond, ◌&&◌}
+use mathlib.Core.Bool.{Bool, true, false, cond}
 use native.Mathlib.Omega.{arith}
 use native.Mathlib.Nat.{add-zero, zero-add}
 use lib.ListN.{length, length-append}
-use lib.Dec.{ltb, eqb}
-use borrow.Author.Tests.{eqb-true, ltb-true, ltb-false, lt-ltb, le-ltb}
+use lib.Dec.{ltb}
+use borrow.Author.Tests.{ltb-true, ltb-false, lt-ltb, le-ltb}
 use Rattle.limit.specs.Times.{max_count}
-use Rattle.limit.proofs.InRange as R
 use Rattle.journal_spec.specs.Refusals.{line_refusal, many_refusal}
 use Rattle.journal_spec.specs.Tests.{same, name_good}
 use Rattle.journal_spec.specs.Scan.{Contents, standing, faulty, contents_of}
-use Rattle.journal_spec.specs.Log.{newline, Lines, rest, line, lines_of, name_in, digits_in, decimal_from, ticks_in, line_good}
+use Rattle.journal_spec.specs.Log.{newline, Lines, rest, line, lines_of, name_in, decimal_from, ticks_in, line_good}
 use Rattle.journal_spec.specs.Log.{Gathered, gathered, misread, take_line, gather_from, gather_of}
 use Rattle.journal_spec.specs.Request.{Journal, times, Request, gather_by, times_of, gathered_times, offer_of, declined_at}
 use Rattle.journal_spec.specs.Request as Q

@@ -4,7 +4,7 @@ use mathlib.Core.Path.{◌≡◌, refl, sym, ◌∙◌}
 use mathlib.Core.Logic.{◌↔◌}
 use Prim.Native.Nat.{ℕ, zero, suc, ◌≤◌, ◌<◌}
 use mathlib.Core.List.{List, [], ◌∷◌}
-use mathlib.Core.Bool.{Bool, true, false}
+use mathlib.Core.Bool.{true, false}
 use native.Mathlib.Omega.{arith}
 use lib.ListN.{length, get_or}
 use lib.Dec.{eqb}
@@ -12,7 +12,7 @@ use borrow.Author.Tests.{lt-ltb, le-ltb, eqb-true, eq-eqb}
 use Rattle.facts.proofs.Tests.{by_test_lem}
 use Rattle.facts.proofs.Orders.{by_order}
 use Rattle.facts.proofs.Tests as tests
-use Rattle.journal_spec.specs.Read.{Mark, flat, few, normal, all_equal, are_equal, mark_from, mark_of}
+use Rattle.journal_spec.specs.Read.{flat, few, normal, all_equal, are_equal, mark_from, mark_of}
 use Rattle.journal_spec.specs.Ranges.{AllSame}
 use Rattle.journal_spec.specs.Former.{former_mark}
 

@@ -1,18 +1,18 @@
 -- Request 2026-14: what a scan by a rule accepts, the plain one accepts with the same records, each of which keeps the rule; and what the
 -- plain one accepts, no record shown breaking the rule, it answers likewise. Scan and both calls of reading follow. Assumes nothing.
 use mathlib.Core.Path.{◌≡◌, refl, sym, ap, ◌∙◌}
-use Prim.Native.Nat.{ℕ, zero, suc, ◌+◌, ◌-◌, min}
+use Prim.Native.Nat.{ℕ, zero, suc, ◌-◌, min}
 use mathlib.Core.List.{List, [], ◌∷◌, ◌++◌, append_assoc, append-nil}
 use mathlib.Core.Bool.{Bool, true, false, cond}
 use native.Mathlib.Omega.{arith}
 use lib.ListN.{length, take}
-use lib.Dec.{leb, eqb}
+use lib.Dec.{leb}
 use Rattle.facts.proofs.Tests.{by_test_lem}
 use Rattle.journal_spec.specs.Refusals.{length_refusal}
 use Rattle.journal_spec.specs.Reader.{Found, found, fault, short, run}
 use Rattle.journal_spec.specs.Record.{Record, last_of, record_reader}
 use Rattle.journal_spec.specs.Profile.{Rule, plain, keeps}
-use Rattle.journal_spec.specs.Scan.{max_length, Placed, records_of, Contents, standing, faulty, contents_from, contents_of, ScanResult, whole, torn}
+use Rattle.journal_spec.specs.Scan.{max_length, Placed, records_of, Contents, standing, faulty, contents_from, contents_of}
 use Rattle.journal_spec.specs.Scan.{damaged, status_of, scan_of}
 use Rattle.journal_spec.specs.Read.{part_place, read_part, read_mark}
 use Rattle.journal_spec.proofs.Scanning.{at_short, at_fault, at_found, at_broken, turn_short, turn_fault, turn_found}

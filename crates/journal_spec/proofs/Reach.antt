@@ -1,6 +1,6 @@
 -- How far a list of calls reaches: the greatest length is one that the journal has before, between or after the calls, and none of these is
 -- greater. So the bytes that the theorem says are the initial ones are all that lie beyond every such length. Assumes nothing.
-use mathlib.Core.Path.{◌≡◌, refl, ap, ◌∙◌}
+use mathlib.Core.Path.{◌≡◌, refl, ap}
 use Prim.Native.Nat.{ℕ, ◌≤◌, max}
 use mathlib.Core.List.{List, [], ◌∷◌, ◌++◌}
 use native.Mathlib.Omega.{arith}

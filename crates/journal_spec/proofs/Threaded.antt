@@ -156,7 +156,7 @@ never_stale_from room j m h b fresh (c ∷ cs) t =
       (λ a.
           verdict_answer m (record_of c) (budget_of c) b fresh v (turned_otherwise room m c.request b t.0 fresh)
           (sym (ap (λ (x : Entry). x.answer) e) ∙ sym s.answer ∙ a)),
-      never_stale_from room _ entry.model (rw e at s.holds) l.buffer l.right' cs (t.1 l.buffer left),
+      never_stale_from room (perform operations j c).journal entry.model (rw e at s.holds) l.buffer l.right' cs (t.1 l.buffer left),
     )
 
 -- from the empty journal, whose index is a count of 0

@@ -1,12 +1,12 @@
 -- The times that bytes hold, each a u32: of the bytes of some times they are these times, and up to three bytes behind the last whole one are none.
 -- Assumes nothing.
 use mathlib.Core.Path.{◌≡◌, refl, sym, ap, ap₂, ◌∙◌}
-use Prim.Native.Nat.{ℕ, suc, ◌+◌, ◌*◌, ◌/◌, ◌^◌, ◌<◌}
+use Prim.Native.Nat.{ℕ, suc, ◌+◌, ◌/◌, ◌^◌, ◌<◌}
 use mathlib.Core.List.{List, [], ◌∷◌, ◌++◌, append_assoc}
 use native.Mathlib.Omega.{arith}
 use lib.ListN.{length, drop, get_or, length-append}
 use lib.Seq.{drop_at, drop-drop}
-use Rattle.journal_spec.specs.Bytes.{bytes_of, number_at, numbers_in}
+use Rattle.journal_spec.specs.Bytes.{bytes_of, numbers_in}
 use Rattle.journal_spec.specs.Section.{number_bytes}
 use Rattle.journal_spec.specs.Read.{times_in}
 use Rattle.journal_spec.proofs.Numbers.{length_bytes}

@@ -36,9 +36,12 @@ module _ (room : ℕ) (m : Model) (q : Request) where
     λ t.
         let holds : AllHold (asked_of room m q (record_for (offer_of q))) = rw (given_is q t.content t.given) at t.holds in
         rw ((times_given q t.content.times).1 t.given.times, t.stands, (accepted_exactly room m q).1 holds)
-        (unfold by_log by_break by_number first_turned in refl),
+        (all_passed t.content.times),
   )
     where
+      all_passed : (ts : List ℕ) → first_turned (by_log (gathered ts) ∷ by_break none ∷ by_number 0 ∷ []) ≡ taken
+      all_passed ts = unfold by_log by_break by_number first_turned in refl
+
       all_taken : (g : Gathered) (b : Option ℕ) (n : ℕ) → first_turned (by_log g ∷ by_break b ∷ by_number n ∷ []) ≡ taken → Decided g b n
       all_taken (gathered ts) none zero h = record { times = ts; are = refl; stands = refl; number = refl }
       all_taken (gathered ts) none (suc n) h = unfold by_log by_break by_number first_turned in let z : ◌≡◌ {A = ℕ} 0 1 = cc in absurd (omega arith)
@@ -63,10 +66,10 @@ module _ (room : ℕ) (m : Model) (q : Request) where
           rw (← same) (of_number (is_given q ts ((times_given q ts).0 e)) f ((declined_exactly room m q (suc n)).0 (omega arith, r)))
       named (gathered ts) e none f zero r h = unfold by_log by_break by_number first_turned in let z : ◌≡◌ {A = ℕ} 0 1 = cc in absurd (omega arith)
 
-      by_number : (ts : List ℕ) (n : ℕ) → times_of q ≡ gathered ts → break_of q.rule m ≡ none → (0 < n) × (model_refusal room m q ≡ n)
+      by_number_lem : (ts : List ℕ) (n : ℕ) → times_of q ≡ gathered ts → break_of q.rule m ≡ none → (0 < n) × (model_refusal room m q ≡ n)
           → first_turned (by_log (times_of q) ∷ by_break (break_of q.rule m) ∷ by_number (model_refusal room m q) ∷ []) ≡ turned (declined n)
-      by_number ts zero e f r = absurd (omega (arith, r.0))
-      by_number ts (suc n) e f r = rw (e, f, r.1) (unfold by_log by_break by_number first_turned in refl)
+      by_number_lem ts zero e f r = absurd (omega (arith, r.0))
+      by_number_lem ts (suc n) e f r = rw (e, f, r.1) (unfold by_log by_break by_number first_turned in refl)
 
       from_named : {b : AppendResult} → Named room m q b
           → first_turned (by_log (times_of q) ∷ by_break (break_of q.rule m) ∷ by_number (model_refusal room m q) ∷ []) ≡ turned b
@@ -74,5 +77,5 @@ module _ (room : ℕ) (m : Model) (q : Request) where
           rw ((line_refused q n p).1 (record { bytes = bs; is_log = e; refused = h })) (unfold by_log first_turned in refl)
       from_named (of_break {ts} {at} g f) = rw ((times_given q ts).1 g, f) (unfold by_log by_break first_turned in refl)
       from_named (of_number {r} {n} g f first) =
-          by_number r.times n ((times_given q r.times).1 g.times) f
+          by_number_lem r.times n ((times_given q r.times).1 g.times) f
           ((declined_exactly room m q n).1 (rw (given_is q r g) at first))

@@ -10,7 +10,7 @@ use Rattle.limit.specs.Limit.{limit_of}
 use Rattle.journal_spec.specs.Refusals.{room_refusal, index_refusal, index_room_refusal, even_refusal, profile_refusal, unless, first_of}
 use Rattle.journal_spec.specs.Section.{section_refusal}
 use Rattle.journal_spec.specs.Record.{Record, last_of, judge_day, even_chance, last_chance, name_section, chance_section, time_section, record_bytes}
-use Rattle.journal_spec.specs.Profile.{plain, keeps}
+use Rattle.journal_spec.specs.Profile.{keeps}
 use Rattle.journal_spec.specs.Scan.{max_length, Placed, records_of, Contents, standing, faulty, contents_of}
 use Rattle.journal_spec.specs.Index.{IndexEntry, index_bytes, in_front, amend, index_of}
 use Rattle.journal_spec.specs.Log.{Gathered, gathered, misread}

@@ -1,5 +1,7 @@
 // Trying the limits of standing records on a recorded log (request 2026-12). The log is read by the reader of request 2026-01, in one pass a call.
 // No public function has a `requires`. All positions together take some 300 kB of the stack.
+#![tactic(auto)]
+
 mod adding;
 mod answer;
 mod calls;

@@ -11,7 +11,7 @@ use Rattle.journal_spec.specs.Record.{Record}
 use Rattle.journal_spec.proofs.Examples.{the_record}
 use Rattle.journal_trial_spec.specs.Tally.{tally}
 use Rattle.journal_trial_spec.specs.Links.{Link, read, misread, link_of, log_from, log_of}
-use Rattle.journal_trial_spec.specs.Trial.{is_named, is_over, links_of, overs_of, overruns, no_chance, chance, lowest_of, Trial, trial_of}
+use Rattle.journal_trial_spec.specs.Trial.{is_named, is_over, links_of, overs_of, overruns, no_chance, chance, lowest_of, trial_of}
 
 -- `A 100`, `A 101`, `B 5`, each with its newline
 unfoldable pub the_log : List ℕ

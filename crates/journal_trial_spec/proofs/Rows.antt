@@ -6,11 +6,10 @@ use mathlib.Core.List.{List}
 use mathlib.Core.Bool.{Bool, true, false, cond}
 use native.Mathlib.Omega.{arith}
 use Rattle.journal_spec.specs.Refusals.{index_refusal}
-use Rattle.journal_spec.specs.Profile.{plain}
-use Rattle.journal_spec.specs.Scan.{Placed, Contents, standing, faulty, contents_of}
+use Rattle.journal_spec.specs.Scan.{Placed, Contents, standing, faulty}
 use Rattle.journal_spec.specs.Index.{index_bytes, in_front, index_of}
-use Rattle.journal_trial_spec.specs.Links.{Link, LogRead, read, misread, log_of}
-use Rattle.journal_trial_spec.specs.Trial.{declined_at, damaged, declined, Ready, ready, refused, ready_of}
+use Rattle.journal_trial_spec.specs.Links.{Link, LogRead, read, misread}
+use Rattle.journal_trial_spec.specs.Trial.{declined_at, damaged, declined, ready, refused, ready_of}
 
 module _ (index : List ℕ) where
   -- 11 comes first, whatever the journal and the index hold

@@ -2,10 +2,10 @@
 -- else, links over all positions plus unknown lines are the lines of the log, and no overs exceed their links. Assumes nothing.
 use mathlib.Core.Path.{◌≡◌, refl, sym, ap, ◌∙◌}
 use mathlib.Core.Logic.{◌↔◌}
-use Prim.Native.Nat.{ℕ, zero, suc, ◌+◌, ◌≤◌, ◌<◌}
-use mathlib.Core.List.{List, [], ◌∷◌, ◌++◌}
+use Prim.Native.Nat.{ℕ, suc, ◌+◌, ◌≤◌, ◌<◌}
+use mathlib.Core.List.{List, [], ◌∷◌}
 use mathlib.Core.Bool.{false, ◌&&◌}
-use mathlib.Core.Option.{none, some}
+use mathlib.Core.Option.{some}
 use native.Mathlib.Omega.{arith}
 use lib.ListN.{length, get_or, length-map}
 use lib.Ieee.{binary64, of_bits, to_bits, lt}
@@ -14,8 +14,8 @@ use Rattle.journal_spec.specs.Bytes.{AreBytes}
 use Rattle.journal_spec.specs.Tests.{same}
 use Rattle.journal_spec.specs.Model.{worked_out}
 use Rattle.journal_spec.specs.Refusals.{absent_refusal}
-use Rattle.journal_spec.specs.Record.{Record, Last, last_of}
-use Rattle.journal_spec.specs.Ranges.{RecordRanges, AllRanges}
+use Rattle.journal_spec.specs.Record.{Record, Last}
+use Rattle.journal_spec.specs.Ranges.{RecordRanges}
 use Rattle.journal_spec.specs.Profile.{plain}
 use Rattle.journal_spec.specs.Scan.{Placed, records_of, contents_of}
 use Rattle.journal_spec.specs.Index.{IndexEntry, index_of}
@@ -24,7 +24,7 @@ use Rattle.journal_spec.proofs.Explained.{holding}
 use Rattle.journal_spec.proofs.Indexes.{amended_is}
 use Rattle.journal_trial_spec.specs.Tally.{tally, sum_to}
 use Rattle.journal_trial_spec.specs.Links.{Link, log_of}
-use Rattle.journal_trial_spec.specs.Trial.{links_of, overs_of, unknown_of, overruns, Lowest, no_chance, chance, Trial, trial_of}
+use Rattle.journal_trial_spec.specs.Trial.{links_of, overs_of, unknown_of, overruns, no_chance, chance, trial_of}
 use Rattle.journal_trial_spec.specs.Trial.{declined, ready, ready_of, TrialResult, tried, untried}
 use Rattle.journal_trial_spec.specs.Trial.{trial_at, entry_trial, try_entry, UnknownResult, unknown, uncounted, unknown_count, try_unknown}
 use Rattle.journal_trial_spec.proofs.Lines.{is_newline, links_counted}

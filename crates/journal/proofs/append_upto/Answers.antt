@@ -1,0 +1,8 @@
+-- `append_upto` is the core's call with its budget.
+-- Assumes nothing.
+use Rattle.journal.specs.Handed.{as_budget, as_rule}
+use Rattle.journal.proofs.append_upto.Goals as goal
+
+pub returns : goal.returns
+unfolding as_budget as_rule
+returns c = c.append_with.ensures

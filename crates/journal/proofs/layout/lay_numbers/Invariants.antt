@@ -1,0 +1,11 @@
+-- `lay_numbers` lays the count and the numbers, a number a turn. The measure is how many are left.
+-- Assumes nothing.
+use Prim.Native.Nat.{◌-◌}
+use Rattle.journal.proofs.Laying.{Laid}
+use Rattle.journal.proofs.layout.lay_numbers.Given as goal
+
+abbrev pub invariant-loop-i : goal.invariant-loop-i
+invariant-loop-i l = Laid l.initial.out l.initial.p 4 l.numbers l.i l.out l.p
+
+abbrev pub decreases-loop-i : goal.decreases-loop-i
+decreases-loop-i l = l.n - l.i

@@ -1,0 +1,37 @@
+-- `work_out` works one limit out a turn and keeps its bits. The measure is how many chances are left.
+-- Assumes nothing.
+use Prim.Native.Nat.{◌-◌}
+use native.Mathlib.Omega.{arith}
+use Rattle.limit.specs.Answer.{moments_meaning}
+use Rattle.journal.proofs.WorkedOut.{kept_start, kept_more, kept_all}
+use Rattle.journal.proofs.offer.work_out.Goals as goal
+
+pub loop-i-init : goal.loop-i-init
+loop-i-init c = kept_start (moments_meaning c.args.worked) c.args.chances.now c.args.bits.now c.requires.1
+
+pub bounds-bits-i : goal.bounds-bits-i
+bounds-bits-i c = omega (arith, c.loop-i.invariant.whole)
+
+pub loop-i-preserved : goal.loop-i-preserved
+loop-i-preserved c =
+    let l = c.loop-i in
+    let a = c.args in
+    kept_more (moments_meaning a.worked) a.chances.now l.bits l.i l.invariant c.bits_at.result (omega arith) (omega arith) c.bits_at.ensures
+
+pub returns : goal.returns
+returns c =
+    let l = c.loop-i in
+    let a = c.args in
+    kept_all (moments_meaning a.worked) a.chances.now l.bits l.i l.invariant (omega arith)
+
+pub bounds-chances-i : goal.bounds-chances-i
+bounds-chances-i c = omega arith
+
+pub offset_bounds-bits-i : goal.offset_bounds-bits-i
+offset_bounds-bits-i c = omega arith
+
+pub overflow_add-i : goal.overflow_add-i
+overflow_add-i c = omega arith
+
+pub loop-i-smaller : goal.loop-i-smaller
+loop-i-smaller c = omega arith

@@ -1,0 +1,8 @@
+-- `read` is `read_by` by the plain rule.
+-- Assumes nothing.
+use Rattle.journal.specs.Handed.{as_rule}
+use Rattle.journal.proofs.read.Goals as goal
+
+pub returns : goal.returns
+unfolding as_rule
+returns c = c.read_by.ensures

@@ -1,0 +1,8 @@
+-- `scan` is `scan_by` by the plain rule.
+-- Assumes nothing.
+use Rattle.journal.specs.Handed.{as_rule}
+use Rattle.journal.proofs.scan.Goals as goal
+
+pub returns : goal.returns
+unfolding as_rule
+returns c = c.scan_by.ensures

@@ -1,0 +1,11 @@
+-- `shift` moves one byte a turn, the last one first. The measure is how many are left.
+-- Assumes nothing.
+use Prim.Native.Nat.{◌-◌}
+use Rattle.journal_entries.proofs.Opening.{Moving}
+use Rattle.journal_entries.proofs.amending.shift.Given as goal
+
+abbrev pub invariant-loop-i : goal.invariant-loop-i
+invariant-loop-i l = Moving l.initial.index l.from l.to l.size l.index l.i
+
+abbrev pub decreases-loop-i : goal.decreases-loop-i
+decreases-loop-i l = l.i - l.from

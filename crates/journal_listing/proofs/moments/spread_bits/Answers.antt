@@ -1,0 +1,13 @@
+-- `spread_bits` is the bits of the spread, or 0.
+-- Assumes nothing.
+use Rattle.limit.specs.Answer.{moments_meaning}
+use Rattle.journal_listing.specs.Listing.{spread_bits}
+use Rattle.journal_listing.proofs.moments.spread_bits.Goals as goal
+
+pub returns-in-Out : goal.returns-in-Out
+unfolding moments_meaning spread_bits
+returns-in-Out c = rw c.in-Out.is c.bits_of.ensures
+
+pub returns-in-Refused : goal.returns-in-Refused
+unfolding moments_meaning spread_bits
+returns-in-Refused c = rw c.in-Refused.is

@@ -1,0 +1,17 @@
+-- `entry_line` writes the line of what stands at the entry's start, and none where there is no entry.
+-- Assumes nothing.
+use native.Mathlib.Omega.{arith}
+use Rattle.text_digits.proofs.Putting.{put_nothing, put_as}
+use Rattle.journal_report.proofs.Positions.{line_at, line_none}
+use Rattle.journal_report.proofs.Shown.{writes_line}
+use Rattle.journal_report.proofs.entry_line.Goals as goal
+
+pub returns-in-At : goal.returns-in-At
+returns-in-At c =
+    writes_line _ _ _ _ _ _ _ _ _ (λ i. omega (arith, c.type_inv.v i))
+    (put_as _ _ _ _ _ _ (line_at _ _ _ _ _ _ c.entry_start-start.ensures _ c.in-At.is) c.slot_line.ensures)
+
+pub returns-in-Absent : goal.returns-in-Absent
+returns-in-Absent c =
+    writes_line _ _ _ _ _ _ _ _ _ (λ i. omega (arith, c.type_inv.v i))
+    (put_as _ _ _ _ _ _ (line_none _ _ _ _ _ _ c.entry_start-start.ensures c.in-Absent.is) (put_nothing _ _))
