@@ -2,7 +2,6 @@
 -- The Taylor polynomials divide by nothing. From 0.06 to 0.75 the variable is x² - 0.5625, which is not above 0, and there every term of the
 -- denominators is positive, as their coefficients' signs alternate; in three parts, since numerator and denominator change much over the whole.
 use mathlib.Core.Bool.{Bool, true, false, not, ◌&&◌}
-use Prim.Native.Nat.{◌-◌, ◌*◌, ◌^◌}
 use lib.Dec.{T}
 use lib.Ieee.{Float, binary64, of_bits, le}
 use lib.Ieee.Fits.{and_l, and_r}

@@ -1,6 +1,6 @@
 -- Both logarithms of an argument below 1 / 2, estimated by one interval for every bin and every exponent of its depth. Assumes nothing.
-use mathlib.Core.Bool.{true, ◌||◌}
-use Prim.Native.Nat.{ℕ, ◌-◌, ◌^◌, ◌≤◌, ◌<◌}
+use mathlib.Core.Bool.{◌||◌}
+use Prim.Native.Nat.{ℕ, ◌^◌, ◌≤◌, ◌<◌}
 use lib.Dec.{T}
 use lib.Ieee.{Float, binary64, of_bits, to_bits, neg, add, le}
 use Rattle.pxfm.specs.declared.double_double.DoubleDouble.{DoubleDouble}

@@ -1,6 +1,4 @@
 -- The quantile's tails: below 0.1 from the logarithm of x itself, and above 0.75 in `erf_core` from that of 1 - x. Assumes nothing.
-use mathlib.Core.Bool.{true}
-use Prim.Native.Nat.{◌-◌, ◌*◌, ◌^◌}
 use lib.Ieee.{Float, binary64, of_bits, lt, le}
 use Rattle.pxfm.specs.declared.double_double.DoubleDouble.{DoubleDouble}
 use Rattle.pxfm.specs.DoubleDouble.{one, neg_of, full_add_f64}

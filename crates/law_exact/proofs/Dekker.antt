@@ -7,7 +7,7 @@ use Prim.Native.Nat.{ℕ, ◌+◌, ◌-◌, ◌*◌, ◌^◌, ◌≤◌, ◌<◌
 use native.Mathlib.Nat.{mul-le-mul, mul-le-mul_left, mul-le-mul_right, zero-mul, mul-zero}
 use native.Mathlib.Omega.{arith}
 use lib.Dec.{T, ltb, ltb→lt, nltb→le}
-use lib.Ieee.{Float, binary64, unlike, add, sub, mul}
+use lib.Ieee.{Float, binary64, unlike, mul}
 use Rattle.pxfm.specs.declared.double_double.DoubleDouble.{DoubleDouble}
 use Rattle.pxfm.specs.DoubleDouble.{split_of, from_exact_mult}
 use Rattle.law_exact.specs.Dekker.{first, second, third, low_part, ExactSteps, DekkerSteps}

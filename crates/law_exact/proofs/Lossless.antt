@@ -8,7 +8,6 @@ use lib.Dec.{T}
 use lib.Pow.{pow-add}
 use lib.IntN.{ℤ, pos, ◌+ℤ◌, ◌-ℤ◌, ◌*ℤ◌}
 use lib.Ieee.{Float, nan, inf, fin, binary64, unlike}
-use lib.Ieee.Exact.{HasValue}
 use lib.Ieee.Scale.{finite}
 use Rattle.pxfm.proofs.Value.{Gap, Val}
 use Rattle.law_exact.specs.Scaled.{scale, size_of, scaled}

@@ -11,7 +11,6 @@ use denote.Floats.{passes}
 use lib.Dec.{T}
 use lib.Ieee.{Float, nan, inf, fin, binary64, fits, of_bits, lt, eq}
 use lib.Ieee.Bits.{is_true, of_bits-fits}
-use lib.Ieee.Scale.{finite}
 use Rattle.facts.proofs.Tests.{refuted}
 use Rattle.pxfm.specs.DoubleDouble.{one, two}
 use Rattle.pxfm.specs.Argument.{zero}
@@ -22,7 +21,7 @@ use Rattle.pxfm.proofs.Order.{lt_of_val, val_of_lt, eq_of_val}
 use Rattle.pxfm.proofs.Ranges.{zero_val, one_val, two_val}
 use Rattle.pxfm.proofs.FirstTests.{equals_zero, equals_one, equals_two}
 use Rattle.pxfm.proofs.Answers.{nan_answer, zero_answer, two_answer, negative_answer, above_two_answer, one_answer}
-use Rattle.law_order.specs.Order.{Below, Finite}
+use Rattle.law_order.specs.Order.{Below}
 use Rattle.law_order.specs.Everywhere.{minus_zero, Positive, Negative, QuantileEverywhere}
 use Rattle.law_order.proofs.Signs.{one_two, one_zero, quantile_sign}
 

@@ -1,17 +1,17 @@
 -- No slot is below the mean's tick: where x is at most y, both above zero, the whole number nearest to x is at most the least one not below y. It is at
 -- most x + 1/2, and so less than 1 above the other. Assumes nothing.
-use mathlib.Core.Path.{◌≡◌, refl, sym, ap, ◌∙◌, subst}
-use mathlib.Core.Bool.{Bool, true, false}
+use mathlib.Core.Path.{◌≡◌, refl, ap, ◌∙◌}
+use mathlib.Core.Bool.{true, false}
 use mathlib.Core.List.{List}
 use Prim.Native.Nat.{ℕ, ◌+◌, ◌*◌, ◌/◌, ◌^◌, ◌≤◌, ◌<◌}
 use native.Mathlib.Nat.{mul_assoc, mul_comm, mul_left_comm, mul-pos, mul-le-mul_right, add-mul, suc-mul, div-mul-le_self, lt_of_not-le, lt_of_lt_of_le}
 use native.Mathlib.Decide.{dec_le}
 use native.Mathlib.Omega.{arith}
 use denote.Floats.{passes}
-use lib.Dec.{T, leb, ltb, lit<, le→leb}
+use lib.Dec.{T, lit<, le→leb}
 use lib.Pow.{pow_pos}
-use lib.ListN.{length, get_or}
-use lib.Ieee.{Float, nan, inf, fin, binary64, le}
+use lib.ListN.{get_or}
+use lib.Ieee.{Float, nan, inf, fin, le}
 use lib.Ieee.Positive.{num, den, den_pos, positive, above, le→cross, positive_of_value, above_of_le}
 use lib.Ieee.Scale.{finite}
 use Rattle.limit.specs.Times.{times_in_range}
@@ -23,7 +23,6 @@ use Rattle.law_bounds.proofs.Operations as operations
 use Rattle.law_finite.specs.Finite.{max_limit}
 use Rattle.law_finite.proofs.Formula.{form_within}
 use Rattle.law_finite.proofs.Limits.{small_limits}
-use Rattle.text_ticks.specs.declared.whole.Ticks.TheVariants as W
 use Rattle.text_ticks.specs.Ticks.{ceiling, minus_of, near_size, up_size, counted, in_range, whole_by, ticks_up, ticks_near}
 use Rattle.text_ticks.proofs.Division.{ceiling_over}
 use Rattle.journal_spec.specs.Record.{Record, Last, even_chance}
@@ -34,7 +33,7 @@ use Rattle.journal_spec.specs.Shown.{Takes}
 use Rattle.law_order.specs.Order.{mean_at, limit_at}
 use Rattle.law_order.proofs.Sides.{limit_side}
 use Rattle.law_shown.proofs.Multiples.{in_range_lem}
-use Rattle.law_shown.specs.Sides.{limit_in, chance_in}
+use Rattle.law_shown.specs.Sides.{chance_in}
 use Rattle.law_shown.specs.Slots.{SlotAbove, SlotsAbout, SlotsAbove}
 use Rattle.law_shown.proofs.Sides as sides
 use Rattle.law_shown.proofs.Sides.{in_chances, standing_limit, given_limit, taken_ranges}

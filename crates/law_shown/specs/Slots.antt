@@ -1,7 +1,6 @@
 -- Slots beside the mean, in whole ticks: a slot is the limit rounded up, and a report shows the mean to the nearest tick. Definitions only.
 use Rattle.std.specs.Prelude.{ℕ, ◌≤◌, ◌<◌, ◌≡◌, T, length, Float}
 use Rattle.text_ticks.specs.declared.whole.Count.{Count}
-use Rattle.text_ticks.specs.declared.whole.Ticks.{Ticks}
 use Rattle.text_ticks.specs.declared.whole.Ticks.TheVariants as W
 use Rattle.text_ticks.specs.Ticks.{ticks_up, ticks_near}
 use Rattle.text_ticks.specs.Meaning.{int_of, le_z}
