@@ -27,20 +27,20 @@ pub(crate) struct Asked {
 const MOST: usize = 16;
 
 // What the arguments ask for.
-pub(crate) fn arguments() -> Asked {
-    let mut s = begun();
+pub(crate) fn arguments(rt: &HostRuntime) -> Asked {
+    let mut s = begun(rt);
     let mut turns = MOST;
     while turns > 0 {
-        s = turn(s);
+        s = turn(rt, s);
         turns -= 1;
     }
     s
 }
 
 // The command, before its options.
-fn begun() -> Asked {
+fn begun(rt: &HostRuntime) -> Asked {
     let mut word = [0u8; 16];
-    let size = argument(1, &mut word);
+    let size = argument(rt, 1, &mut word);
     Asked {
         command: command_io::command_of(&word[..size]),
         options: Options {
@@ -60,28 +60,28 @@ fn begun() -> Asked {
 }
 
 // One word more.
-fn turn(s: Asked) -> Asked {
+fn turn(rt: &HostRuntime, s: Asked) -> Asked {
     if !s.open {
         return s;
     }
     let options = s.options;
     let command = s.command;
-    let flag = flag_at(options.first);
+    let flag = flag_at(rt, options.first);
     if command_io::takes(command, flag) {
-        return with_option(s, flag);
+        return with_option(rt, s, flag);
     }
     closed(s, flag)
 }
 
 // The option at a place.
-fn flag_at(at: usize) -> Flag {
+fn flag_at(rt: &HostRuntime, at: usize) -> Flag {
     let mut word = [0u8; 16];
-    let size = argument(at, &mut word);
+    let size = argument(rt, at, &mut word);
     command_io::flag_of(&word[..size])
 }
 
 // An option that the command takes.
-fn with_option(s: Asked, flag: Flag) -> Asked {
+fn with_option(rt: &HostRuntime, s: Asked, flag: Flag) -> Asked {
     let options = s.options;
     let command = s.command;
     let first = options.first;
@@ -89,8 +89,8 @@ fn with_option(s: Asked, flag: Flag) -> Asked {
         return over(s, Trouble::Twice(first));
     }
     match flag {
-        Flag::Index => with_index(s, options),
-        Flag::Wait => with_wait(s, options),
+        Flag::Index => with_index(rt, s, options),
+        Flag::Wait => with_wait(rt, s, options),
         _ => Asked {
             command,
             options: command_io::with_flag(options, flag, first),
@@ -101,13 +101,13 @@ fn with_option(s: Asked, flag: Flag) -> Asked {
 }
 
 // --index and the name behind it, which starts with no dash.
-fn with_index(s: Asked, options: Options) -> Asked {
+fn with_index(rt: &HostRuntime, s: Asked, options: Options) -> Asked {
     let command = s.command;
     let first = options.first;
-    match flag_at(behind(first)) {
+    match flag_at(rt, behind(first)) {
         Flag::Word => {
             let mut word = [0u8; 2];
-            if argument(behind(first), &mut word) == 0 {
+            if argument(rt, behind(first), &mut word) == 0 {
                 return over(s, Trouble::Nameless);
             }
             Asked {
@@ -122,11 +122,11 @@ fn with_index(s: Asked, options: Options) -> Asked {
 }
 
 // --wait and the seconds behind it.
-fn with_wait(s: Asked, options: Options) -> Asked {
+fn with_wait(rt: &HostRuntime, s: Asked, options: Options) -> Asked {
     let command = s.command;
     let first = options.first;
     let mut word = [0u8; 16];
-    let size = argument(behind(first), &mut word);
+    let size = argument(rt, behind(first), &mut word);
     match command_io::read_number(&word[..size], 1_000_000) {
         command_io::Number::Value(_) => Asked {
             command,

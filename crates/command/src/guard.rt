@@ -1,7 +1,7 @@
 // Which argument is locked and how, which arguments are files, and what a lock comes to in words.
-// The numbers are those of command/awaqlla.c.
+// The numbers are those of the program awaqlla.
 use crate::asked::Asked;
-use command_io::{Command, Status, argument, fail_of, write_shown};
+use command_io::{Command, Status, argument, fail_of, write_error, write_shown};
 
 // The place so many words behind another.
 fn behind(at: usize, words: usize) -> usize {
@@ -37,13 +37,13 @@ pub(crate) fn guard(a: Asked) -> u32 {
 }
 
 // How long it is waited for.
-pub(crate) fn patience(a: Asked) -> u64 {
+pub(crate) fn patience(rt: &HostRuntime, a: Asked) -> u64 {
     let options = a.options;
     if options.wait == 0 {
         return u64::MAX;
     }
     let mut word = [0u8; 16];
-    let size = argument(options.wait, &mut word);
+    let size = argument(rt, options.wait, &mut word);
     match command_io::read_number(&word[..size], 1_000_000) {
         command_io::Number::Value(n) => n as u64,
         command_io::Number::Nothing => 0,
@@ -83,26 +83,27 @@ fn files(command: Command) -> usize {
 }
 
 // What a lock comes to, with the path of what is locked.
-pub(crate) fn told(what: u32, path: &[u8]) -> Status {
+pub(crate) fn told(rt: &HostRuntime, what: u32, path: &[u8]) -> Status {
     match what {
-        0 => waiting(path),
-        1 => fail_of(path, b"its folder is missing"),
-        2 => fail_of(path, b"not a regular file"),
-        3 => fail_of(path, b"it cannot be made, and an append locks it"),
-        4 => fail_of(path, b"it cannot be locked"),
-        5 => fail_of(path, b"another command holds it, and --wait is over"),
-        7 => fail_of(path, b"an error hides what stands there"),
-        _ => fail_of(path, b"a file without a name of its own cannot be locked"),
+        0 => waiting(rt, path),
+        1 => fail_of(rt, path, b"its folder is missing"),
+        2 => fail_of(rt, path, b"not a regular file"),
+        3 => fail_of(rt, path, b"it cannot be made, and an append locks it"),
+        4 => fail_of(rt, path, b"it cannot be locked"),
+        5 => fail_of(rt, path, b"another command holds it, and --wait is over"),
+        7 => fail_of(rt, path, b"an error hides what stands there"),
+        _ => fail_of(
+            rt,
+            path,
+            b"a file without a name of its own cannot be locked",
+        ),
     }
 }
 
 // That it is waited for.
-fn waiting(path: &[u8]) -> Status {
-    io::write_all(
-        libc::STDERR_FILENO,
-        b"awaqlla: waiting for another append, which holds ",
-    );
-    write_shown(path);
-    io::write_all(libc::STDERR_FILENO, b"\n");
+fn waiting(rt: &HostRuntime, path: &[u8]) -> Status {
+    write_error(rt, b"awaqlla: waiting for another append, which holds ");
+    write_shown(rt, path);
+    write_error(rt, b"\n");
     Status::Failed
 }

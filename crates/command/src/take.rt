@@ -4,45 +4,48 @@ use crate::asked::{Asked, Trouble};
 use command_append::Taken;
 use command_io::{Command, Status, fail, status_number};
 
-// An exit status as C is told of it.
+// An exit status as the program is told of it.
 fn over(s: Status) -> u64 {
     0x1_0000_0000 + status_number(s) as u64
 }
 
 // What the arguments ask for, before the lock.
-pub(crate) fn take(a: Asked, kinds: &[u8], ticks: &mut [u32]) -> u64 {
+pub(crate) fn take(rt: &HostRuntime, a: Asked, kinds: &[u8], ticks: &mut [u32]) -> u64 {
     let command = a.command;
     match command {
-        Command::Help => over(command_words::print_help()),
+        Command::Help => over(command_words::print_help(rt)),
         Command::Nothing => over(fail(
+            rt,
             b"it takes append, list, survey, slots, record, plot, page, merge, index, trial, band, day, date, refusal, selftest or demo; awaqlla --help says more",
         )),
-        _ => take_options(a, kinds, ticks),
+        _ => take_options(rt, a, kinds, ticks),
     }
 }
 
 // The same of a command, by what its options came to.
-fn take_options(a: Asked, kinds: &[u8], ticks: &mut [u32]) -> u64 {
+fn take_options(rt: &HostRuntime, a: Asked, kinds: &[u8], ticks: &mut [u32]) -> u64 {
     let trouble = a.trouble;
     match trouble {
-        Trouble::Nothing => take_command(a, kinds, ticks),
-        Trouble::Help => over(command_words::print_help()),
-        Trouble::Twice(at) => over(twice(at)),
-        Trouble::Unknown(at) => over(unknown(at)),
+        Trouble::Nothing => take_command(rt, a, kinds, ticks),
+        Trouble::Help => over(command_words::print_help(rt)),
+        Trouble::Twice(at) => over(twice(rt, at)),
+        Trouble::Unknown(at) => over(unknown(rt, at)),
         Trouble::Nameless => over(fail(
+            rt,
             b"append: --index takes a file's name, and one that starts with a dash is written ./-",
         )),
-        Trouble::Timeless => over(fail(b"--wait takes a number of seconds, 0 to 1000000")),
+        Trouble::Timeless => over(fail(rt, b"--wait takes a number of seconds, 0 to 1000000")),
     }
 }
 
 // An option that stands twice.
-fn twice(at: usize) -> Status {
+fn twice(rt: &HostRuntime, at: usize) -> Status {
     let mut command = [0u8; 16];
-    let size = command_io::argument(1, &mut command);
+    let size = command_io::argument(rt, 1, &mut command);
     let mut word = [0u8; 16];
-    let length = command_io::argument(at, &mut word);
+    let length = command_io::argument(rt, at, &mut word);
     command_io::fail_between(
+        rt,
         &command[..size],
         b"one option too many: ",
         &word[..length],
@@ -51,12 +54,13 @@ fn twice(at: usize) -> Status {
 }
 
 // A word that starts with a dash and is no option here.
-fn unknown(at: usize) -> Status {
+fn unknown(rt: &HostRuntime, at: usize) -> Status {
     let mut command = [0u8; 16];
-    let size = command_io::argument(1, &mut command);
+    let size = command_io::argument(rt, 1, &mut command);
     let mut word = io::buffer();
-    let length = command_io::argument(at, &mut word);
+    let length = command_io::argument(rt, at, &mut word);
     command_io::fail_between(
+        rt,
         &command[..size],
         b"no option ",
         &word[..length],
@@ -65,13 +69,13 @@ fn unknown(at: usize) -> Status {
 }
 
 // The same of a command whose options are good.
-fn take_command(a: Asked, kinds: &[u8], ticks: &mut [u32]) -> u64 {
+fn take_command(rt: &HostRuntime, a: Asked, kinds: &[u8], ticks: &mut [u32]) -> u64 {
     let command = a.command;
     let options = a.options;
     match command {
-        Command::Append => taken(command_append::take(options, kinds, ticks)),
-        Command::Merge => judged(command_merge::judge(options, kinds)),
-        Command::Index => judged(command_index::judge(options, kinds)),
+        Command::Append => taken(command_append::take(rt, options, kinds, ticks)),
+        Command::Merge => judged(command_merge::judge(rt, options, kinds)),
+        Command::Index => judged(command_index::judge(rt, options, kinds)),
         _ => 0,
     }
 }

@@ -1,6 +1,6 @@
 -- The part that an append writes is the offered record whole, from the committed length on, and it can be lent.
 -- Where nothing is written it is empty, and the slice is as before. Assumes nothing.
-use Rattle.std.proofs.Common.{◌≡◌, ℕ, zero, suc, ◌+◌, ◌-◌, ◌*◌, ◌≤◌, min, Bool, true, false, leb, List, [], length, take, sym, refl, ap, ◌∙◌, arith, take_all, leb-true}
+use Rattle.std.proofs.Common.{◌≡◌, ℕ, zero, suc, ◌+◌, ◌-◌, ◌*◌, ◌≤◌, min, leb, List, [], length, take, sym, refl, ap, ◌∙◌, arith, take_all, leb-true}
 use mathlib.Core.Option.{Option}
 use lib.ListN.{length-map}
 use Rattle.journal_spec.specs.Refusals.{first_of}

@@ -16,77 +16,82 @@ pub(crate) struct Counted {
 }
 
 // Whether there are enough words, and nothing is printed into a file that is read or written; if not, that is said.
-pub(crate) fn are_apart(o: Options, kinds: &[u8]) -> bool {
-    if words_from(o.first) < 3 {
+pub(crate) fn are_apart(rt: &HostRuntime, o: Options, kinds: &[u8]) -> bool {
+    if words_from(rt, o.first) < 3 {
         fail(
+            rt,
             b"append takes FILE DATE|DAY NAME CHANCE.., and ticks on standard input, or a log behind --log; awaqlla --help says more",
         );
         return false;
     }
-    if !apart(kinds, o.first) {
+    if !apart(rt, kinds, o.first) {
         return false;
     }
     if 0 < o.index {
-        if !apart(kinds, o.index) {
+        if !apart(rt, kinds, o.index) {
             return false;
         }
     }
-    input_apart(kinds)
+    input_apart(rt, kinds)
 }
 
 // Whether FILE is a plain file or missing, and INDEX another one; if not, what is wrong is said.
-pub(crate) fn are_files(o: Options, kinds: &[u8]) -> bool {
+pub(crate) fn are_files(rt: &HostRuntime, o: Options, kinds: &[u8]) -> bool {
     let mut word = [0u8; 2];
-    if command_io::argument(o.first, &mut word) == 0 {
-        fail(b"FILE: an empty name");
+    if command_io::argument(rt, o.first, &mut word) == 0 {
+        fail(rt, b"FILE: an empty name");
         return false;
     }
     let kind = stands(kinds, o.first);
     if kind == DANGLING {
-        fail_argument(o.first, b"a link to a missing file");
+        fail_argument(rt, o.first, b"a link to a missing file");
         return false;
     }
     if kind != MISSING {
         if kind != PLAIN {
-            fail_argument(o.first, b"not a regular file");
+            fail_argument(rt, o.first, b"not a regular file");
             return false;
         }
     }
-    is_another(o.index, kinds)
+    is_another(rt, o.index, kinds)
 }
 
 // Whether the index, where one is kept, is not the volume.
-fn is_another(index: usize, kinds: &[u8]) -> bool {
+fn is_another(rt: &HostRuntime, index: usize, kinds: &[u8]) -> bool {
     if index == 0 {
         return true;
     }
     if is_guarded(kinds, index) {
-        fail_argument(index, b"it is the volume, and its index is another file");
+        fail_argument(
+            rt,
+            index,
+            b"it is the volume, and its index is another file",
+        );
         return false;
     }
     true
 }
 
 // Whether the chances are numbers; if not, which is none is said.
-pub(crate) fn are_chances(o: Options) -> bool {
+pub(crate) fn are_chances(rt: &HostRuntime, o: Options) -> bool {
     let mut room = [0u32; 9];
-    let read = chances(behind(o.first, 3), &mut room);
+    let read = chances(rt, behind(o.first, 3), &mut room);
     if read.wrong == 0 {
         return true;
     }
-    crate::output::malformed(b"CHANCE", read.wrong, b"1 to 500000");
+    crate::output::malformed(rt, b"CHANCE", read.wrong, b"1 to 500000");
     false
 }
 
 // The chances from a place on, as many as there is room for. All are read, so that one that is no number is found.
-pub(crate) fn chances(from: usize, out: &mut [u32]) -> Counted
+pub(crate) fn chances(rt: &HostRuntime, from: usize, out: &mut [u32]) -> Counted
     ensures { IsPrefixLen result.count out.new }
 {
-    let end = os::arg_count();
+    let end = command_io::arg_count(rt);
     let mut i = from;
     let mut count = 0;
     while i < end {
-        match chance(i) {
+        match chance(rt, i) {
             Number::Value(n) => {
                 count = store(out, count, n);
                 i += 1;
@@ -103,9 +108,9 @@ pub(crate) fn chances(from: usize, out: &mut [u32]) -> Counted
 }
 
 // The chance of an argument.
-fn chance(i: usize) -> Number {
+fn chance(rt: &HostRuntime, i: usize) -> Number {
     let mut word = [0u8; 32];
-    let size = os::arg(i, &mut word);
+    let size = command_io::arg(rt, i, &mut word);
     command_io::read_number(&word[..size], u32::MAX)
 }
 

@@ -5,7 +5,7 @@ ghost use Rattle.text_digits.specs.Same.{same_bytes};
 ghost use Rattle.text_dates.specs.Iso.{iso_of};
 ghost use Rattle.command_date.specs.declared.day.Day.TheVariants as D;
 
-use command_io::{Options, Status, argument, fail, fail_argument, if_written};
+use command_io::{Options, Status, arg_count, argument, fail, fail_argument, if_written};
 use text_dates::iso_of;
 use text_digits::same;
 
@@ -164,27 +164,28 @@ fn short(year: u64, month: u64) -> u64
 }
 
 // The command day.
-pub fn tell_day(o: Options) -> Status {
+pub fn tell_day(rt: &HostRuntime, o: Options) -> Status {
     let first = o.first;
     let next = std::num::wrapping_add_usize(first, 1);
-    if os::arg_count() != next {
-        return fail(b"day takes one DATE");
+    if arg_count(rt) != next {
+        return fail(rt, b"day takes one DATE");
     }
     let mut word = [0u8; 16];
-    let size = argument(first, &mut word);
+    let size = argument(rt, first, &mut word);
     match day_of(&word[..size]) {
-        Day::Value(n) => print_day(n),
-        Day::Form => fail_argument(first, b"a date is YYYY-MM-DD"),
-        Day::Nothing => fail_argument(first, b"there is no such date"),
-        Day::Range => fail_argument(first, b"a date is 2000-01-01 to 2179-06-06"),
+        Day::Value(n) => print_day(rt, n),
+        Day::Form => fail_argument(rt, first, b"a date is YYYY-MM-DD"),
+        Day::Nothing => fail_argument(rt, first, b"there is no such date"),
+        Day::Range => fail_argument(rt, first, b"a date is 2000-01-01 to 2179-06-06"),
     }
 }
 
 // A day and a line end.
-fn print_day(n: u16) -> Status {
+fn print_day(rt: &HostRuntime, n: u16) -> Status {
     let mut line = [0u8; 16];
     let size = put_day(&mut line, n);
     let written = command_io::flush(
+        rt,
         &line,
         size,
         b"awaqlla: standard output: it cannot be written",

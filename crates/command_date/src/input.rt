@@ -17,53 +17,55 @@ pub enum Chosen {
 }
 
 // The day that an argument names.
-pub(crate) fn day_at(i: usize) -> Number
+pub(crate) fn day_at(rt: &HostRuntime, i: usize) -> Number
     ensures { (n : ℕ) → result ≡ N.Value n → n < 2 ^ 16 }
 {
     let mut word = [0u8; 32];
-    let size = argument(i, &mut word);
+    let size = argument(rt, i, &mut word);
     command_io::read_number(&word[..size], MAX_DAY)
 }
 
 // The day of an argument that is a date, which has a dash, or a day.
-pub fn day_or_date(at: usize) -> Chosen {
+pub fn day_or_date(rt: &HostRuntime, at: usize) -> Chosen {
     let mut word = [0u8; 32];
-    let size = argument(at, &mut word);
+    let size = argument(rt, at, &mut word);
     if has_dash(&word) {
-        return of_date(at, day_of(&word[..size]));
+        return of_date(rt, at, day_of(&word[..size]));
     }
     if size == 0 {
-        return of_word(at);
+        return of_word(rt, at);
     }
     if !are_decimal(&word[..size]) {
-        return of_word(at);
+        return of_word(rt, at);
     }
-    of_number(day_at(at))
+    of_number(rt, day_at(rt, at))
 }
 
 // That a word is neither.
-fn of_word(at: usize) -> Chosen {
+fn of_word(rt: &HostRuntime, at: usize) -> Chosen {
     Chosen::Over(fail_argument(
+        rt,
         at,
         b"a date is YYYY-MM-DD, and a day a number from 0 to 65535",
     ))
 }
 
 // A date's day.
-fn of_date(at: usize, day: Day) -> Chosen {
+fn of_date(rt: &HostRuntime, at: usize, day: Day) -> Chosen {
     match day {
         Day::Value(n) => Chosen::Day(n),
-        Day::Form => Chosen::Over(fail_argument(at, b"a date is YYYY-MM-DD")),
-        Day::Nothing => Chosen::Over(fail_argument(at, b"there is no such date")),
-        Day::Range => Chosen::Over(fail_argument(at, b"a date is 2000-01-01 to 2179-06-06")),
+        Day::Form => Chosen::Over(fail_argument(rt, at, b"a date is YYYY-MM-DD")),
+        Day::Nothing => Chosen::Over(fail_argument(rt, at, b"there is no such date")),
+        Day::Range => Chosen::Over(fail_argument(rt, at, b"a date is 2000-01-01 to 2179-06-06")),
     }
 }
 
 // A number's day.
-fn of_number(number: Number) -> Chosen {
+fn of_number(rt: &HostRuntime, number: Number) -> Chosen {
     match number {
         Number::Value(n) => Chosen::Day((n % 65_536) as u16),
         Number::Nothing => Chosen::Over(fail(
+            rt,
             b"DAY: not a decimal number from 0 to 65535 without leading zeros",
         )),
     }

@@ -3,56 +3,56 @@
 ghost use Rattle.std.specs.Prelude.{◌^◌, ◌<◌};
 
 use crate::input::day_at;
-use command_io::{Number, Options, Status, fail, if_written};
+use command_io::{Number, Options, Status, arg_count, fail, if_written};
 use text_dates::put_date;
 
 // The command.
-pub fn date(o: Options) -> Status {
+pub fn date(rt: &HostRuntime, o: Options) -> Status {
     let first = o.first;
-    let count = os::arg_count();
+    let count = arg_count(rt);
     if count <= first {
-        return usage();
+        return usage(rt);
     }
     let words = count - first;
     if 2 < words {
-        return usage();
+        return usage(rt);
     }
-    match day_at(first) {
-        Number::Value(day) => print_from(day, first, words),
-        Number::Nothing => usage(),
+    match day_at(rt, first) {
+        Number::Value(day) => print_from(rt, day, first, words),
+        Number::Nothing => usage(rt),
     }
 }
 
 // The dates from a day on: to the second word, or this one alone.
-fn print_from(day: u32, first: usize, words: usize) -> Status
+fn print_from(rt: &HostRuntime, day: u32, first: usize, words: usize) -> Status
     requires { day < 2 ^ 16 }
 {
     if words == 1 {
-        return if_written(print_days(day, day), Status::Done);
+        return if_written(print_days(rt, day, day), Status::Done);
     }
-    match day_at(std::num::wrapping_add_usize(first, 1)) {
-        Number::Value(last) => print_rising(day, last),
-        Number::Nothing => usage(),
+    match day_at(rt, std::num::wrapping_add_usize(first, 1)) {
+        Number::Value(last) => print_rising(rt, day, last),
+        Number::Nothing => usage(rt),
     }
 }
 
 // The dates from a day to a last one, which is not before it.
-fn print_rising(first: u32, last: u32) -> Status
+fn print_rising(rt: &HostRuntime, first: u32, last: u32) -> Status
     requires { last < 2 ^ 16 }
 {
     if last < first {
-        return fail(b"LAST: a day before DAY");
+        return fail(rt, b"LAST: a day before DAY");
     }
-    if_written(print_days(first, last), Status::Done)
+    if_written(print_days(rt, first, last), Status::Done)
 }
 
 // The dates from a day to a last one, none where that is before it; whether they were written.
-fn print_days(first: u32, last: u32) -> bool
+fn print_days(rt: &HostRuntime, first: u32, last: u32) -> bool
     requires { last < 2 ^ 16 }
 {
     let mut day = first;
     while day <= last {
-        if !print_day(day as u16) {
+        if !print_day(rt, day as u16) {
             return false;
         }
         day += 1;
@@ -61,13 +61,16 @@ fn print_days(first: u32, last: u32) -> bool
 }
 
 // One date, and whether it was written.
-fn print_day(day: u16) -> bool {
+fn print_day(rt: &HostRuntime, day: u16) -> bool {
     let mut out = [b'\n'; 11];
     put_date(&mut out, 0, day);
-    command_io::write_output(&out)
+    command_io::write_output(rt, &out)
 }
 
 // What the command takes.
-fn usage() -> Status {
-    fail(b"date: it takes DAY [LAST], each a decimal number from 0 to 65535 without leading zeros")
+fn usage(rt: &HostRuntime) -> Status {
+    fail(
+        rt,
+        b"date: it takes DAY [LAST], each a decimal number from 0 to 65535 without leading zeros",
+    )
 }

@@ -4,102 +4,105 @@ ghost use Rattle.io.specs.Counts.{IsPrefixLen};
 
 use crate::found::MAX_LENGTH;
 use command_io::{
-    File, Input, fail_file_of, fail_of, made, open_held, path_at, read_input, write_synced,
+    File, Held, Input, fail_file_of, fail_of, made, open_held, open_read, path_at, read_input,
+    refused, write_synced,
 };
+use std::fs;
+use std::io::{Error, Seek, SeekFrom};
 
 // Reads the volume that an argument names, from a record's start on.
-pub(crate) fn read_record(at: usize, start: usize, out: &mut [u8]) -> Input
+pub(crate) fn read_record(rt: &HostRuntime, at: usize, start: usize, out: &mut [u8]) -> Input
     ensures { IsPrefixLen result.size out.new }
 {
     let mut path = io::buffer();
-    let size = path_at(at, &mut path);
+    let size = path_at(rt, at, &mut path);
     if size == 0 {
-        return Input {
-            size: 0,
-            failed: true,
-        };
+        return refused();
     }
-    read_at(&path[..size], start, out)
+    read_at(rt, &path[..size], start, out)
 }
 
 // Reads a file from a place on until the buffer is full or the file ends.
-fn read_at(path: &[u8], start: usize, out: &mut [u8]) -> Input
+fn read_at(rt: &HostRuntime, path: &[u8], start: usize, out: &mut [u8]) -> Input
     ensures { IsPrefixLen result.size out.new }
 {
-    let fd = os::open_read(path);
-    if fd < 0 {
-        fail_file_of(path);
-        return Input {
-            size: 0,
-            failed: true,
-        };
+    let read = read_there(rt, path, start, out);
+    if let Some(e) = read.failed {
+        fail_file_of(rt, path, e);
     }
-    let read = read_from(fd, start, out);
-    if read.failed {
-        fail_file_of(path);
-    }
-    libc::close(fd);
     read
 }
 
-// The same of an open file. From the first byte on, anything that can be read will do, such as a pipe.
-fn read_from(fd: i32, start: usize, out: &mut [u8]) -> Input
+// The same; what fails is not said.
+fn read_there(rt: &HostRuntime, path: &[u8], start: usize, out: &mut [u8]) -> Input
     ensures { IsPrefixLen result.size out.new }
 {
+    match open_read(rt, path) {
+        Ok(file) => read_from(file, start, out),
+        Err(e) => Input {
+            size: 0,
+            failed: Some(e),
+        },
+    }
+}
+
+// The same of an open file. From the first byte on, anything that can be read will do, such as a pipe.
+fn read_from(open: fs::File, start: usize, out: &mut [u8]) -> Input
+    ensures { IsPrefixLen result.size out.new }
+{
+    let mut file = open;
     if 0 < start {
-        if libc::lseek(fd, place_of(start), libc::SEEK_SET) < 0 {
+        if let Err(e) = file.seek(SeekFrom::Start(place_of(start))) {
             return Input {
                 size: 0,
-                failed: true,
+                failed: Some(e),
             };
         }
     }
-    read_input(fd, out)
+    read_input(&mut file, out)
 }
 
 // A place in the file. What is beyond the longest volume is its end.
-fn place_of(start: usize) -> i64 {
+fn place_of(start: usize) -> u64 {
     if MAX_LENGTH < start {
-        return MAX_LENGTH as i64;
+        return MAX_LENGTH as u64;
     }
-    start as i64
+    start as u64
 }
 
 // Writes the index to the file that an argument names, and answers whether it stands.
-pub(crate) fn write_index(at: usize, index: &[u8]) -> bool {
+pub(crate) fn write_index(rt: &HostRuntime, at: usize, index: &[u8]) -> bool {
     let mut path = io::buffer();
-    let size = path_at(at, &mut path);
+    let size = path_at(rt, at, &mut path);
     if size == 0 {
         return false;
     }
-    write_path(&path[..size], index)
+    write_path(rt, &path[..size], index)
 }
 
 // Writes it to a file, which is made where it is missing.
-fn write_path(path: &[u8], index: &[u8]) -> bool {
+fn write_path(rt: &HostRuntime, path: &[u8], index: &[u8]) -> bool {
     let mut room = journal_index::index_room();
-    let held = open_held(path, &mut room);
-    let file = held.file;
-    let size = held.size;
+    let Held { file, size } = open_held(rt, path, &mut room);
     if !journal_index::is_begun(&room[..size]) {
-        fail_of(path, b"it is no index, and is not written over");
+        fail_of(rt, path, b"it is no index, and is not written over");
         return false;
     }
     match file {
-        File::Open(fd) => write_over(path, fd, index),
-        File::Missing => write_new(path, index),
+        File::Open(open) => write_over(rt, path, open, index),
+        File::Missing => write_new(rt, path, index),
         File::Failed => false,
     }
 }
 
 // Makes the file.
-fn write_new(path: &[u8], index: &[u8]) -> bool {
-    match made(path, File::Missing) {
-        File::Open(fd) => {
-            if !command_io::sync_folder(b"awaqlla: ", path) {
+fn write_new(rt: &HostRuntime, path: &[u8], index: &[u8]) -> bool {
+    match made(rt, path, File::Missing) {
+        File::Open(open) => {
+            if !command_io::sync_folder(rt, b"awaqlla: ", path) {
                 return false;
             }
-            write_over(path, fd, index)
+            write_over(rt, path, open, index)
         }
         File::Missing => false,
         File::Failed => false,
@@ -108,14 +111,19 @@ fn write_new(path: &[u8], index: &[u8]) -> bool {
 
 // Empties the file, writes the index and syncs it: stopped at any point, the file is the old index, or the first bytes of the new one, which a
 // look-up and an append refuse by 14.
-fn write_over(path: &[u8], fd: i32, index: &[u8]) -> bool {
-    if libc::ftruncate(fd, 0) == 0 {
-        if write_synced(fd, 0, index) {
-            if libc::close(fd) == 0 {
-                return true;
-            }
+fn write_over(rt: &HostRuntime, path: &[u8], open: fs::File, index: &[u8]) -> bool {
+    match emptied(open, index) {
+        Ok(()) => true,
+        Err(e) => {
+            fail_file_of(rt, path, e);
+            false
         }
     }
-    fail_file_of(path);
-    false
+}
+
+// The same; what fails is not said.
+fn emptied(open: fs::File, index: &[u8]) -> Result<(), Error> {
+    let mut file = open;
+    file.set_len(0)?;
+    write_synced(&mut file, 0, index)
 }

@@ -1,6 +1,6 @@
 -- The folder of a path, gone over from its end: at a slash, before another byte, and where no byte is left.
 -- Assumes nothing.
-use Rattle.std.proofs.Common.{◌≡◌, ℕ, zero, suc, ◌-◌, ◌<◌, true, false, eqb, List, get_or, refl, arith}
+use Rattle.std.proofs.Common.{◌≡◌, ℕ, zero, suc, ◌-◌, ◌<◌, false, eqb, List, get_or, arith}
 use Rattle.command_io.specs.Paths.{slash, folder_within}
 
 pub folder_here : (path : List ℕ) (end : ℕ) → 0 < end → get_or path (end - 1) 0 ≡ 0x2f → folder_within path end ≡ end

@@ -1,6 +1,6 @@
 -- Output gathered in a room: the cases of one text, and that no byte is lost or moved: the pieces that are written, and what waits behind them,
 -- are the texts in their order. Assumes nothing.
-use Rattle.std.proofs.Common.{◌≡◌, ℕ, ◌+◌, ◌-◌, ◌<◌, ◌≤◌, Bool, true, false, List, [], ◌∷◌, ◌++◌, length, take, sym, refl, ap, ◌∙◌, append_assoc, append-nil, arith, length-take-le, le-leb, leb-true}
+use Rattle.std.proofs.Common.{◌≡◌, ℕ, ◌+◌, ◌<◌, ◌≤◌, Bool, true, false, List, [], ◌∷◌, ◌++◌, length, take, sym, refl, ap, ◌∙◌, append_assoc, append-nil, arith, length-take-le, le-leb, leb-true}
 use borrow.Author.Tests.{lt-leb}
 use lib.Seq.{paste, length-paste, take-paste, take-length}
 use Rattle.facts.proofs.Tests.{true_not_false}

@@ -1,11 +1,10 @@
 -- Numbers stored one behind another: one more where there is room, and where there is none; and the turns of reading.
 -- Assumes nothing.
-use Rattle.std.proofs.Common.{◌≡◌, ℕ, suc, ◌+◌, ◌-◌, ◌<◌, ◌≤◌, min, Bool, true, false, cond, List, [], ◌∷◌, ◌++◌, length, get_or, take, set, sym, refl, ap, ◌∙◌, append-nil, arith, length-append}
+use Rattle.std.proofs.Common.{◌≡◌, ℕ, suc, ◌+◌, ◌-◌, ◌<◌, ◌≤◌, min, Bool, true, false, cond, List, [], ◌∷◌, ◌++◌, length, set, sym, refl, ap, ◌∙◌, append-nil, arith, length-append}
 use lib.Seq.{paste, paste-zero, paste-suc, length-paste, take-append-le, get_or-append_seam}
 use Rattle.text_digits.specs.Text.{room_for, Put}
 use Rattle.command_io.specs.Arguments.{is_space, digit_after}
 use Rattle.command_io.specs.Numbers.{Read, Reads, closed_by, closed_of, turn_of, unread}
-use Rattle.command_io.specs.declared.digit.Number.{Number}
 use Rattle.command_io.specs.declared.digit.Number.TheVariants as N
 
 -- as many numbers as stand already, of these and more, are the same

@@ -4,117 +4,143 @@ ghost use Rattle.io.specs.Counts.{IsPrefixLen};
 
 use crate::input::read_input;
 use crate::message::{fail, fail_file_of, fail_of};
+use crate::system::{arg, create, open_update};
+use std::fs;
+use std::io::{Error, ErrorKind, Seek, SeekFrom, Write};
 
-// A file's descriptor; or that there is no such file; or that something failed, which is said.
-#[derive(Clone, Copy)]
+// An open file; or that there is no such file; or that something failed, which is said.
+#[derive(Drop)]
 pub enum File {
-    Open(i32),
+    Open(fs::File),
     Missing,
     Failed,
 }
 
 // A file that is opened, and how many bytes of it were read.
-#[derive(Clone, Copy)]
+#[derive(Drop)]
 pub struct Held {
     pub file: File,
     pub size: usize,
 }
 
 // The path at a place; 0 bytes where it is empty or too long, which is said.
-pub fn path_at(at: usize, path: &mut [u8]) -> usize
+pub fn path_at(rt: &HostRuntime, at: usize, path: &mut [u8]) -> usize
     ensures { IsPrefixLen result path.new }
 {
-    let size = os::arg(at, path);
+    let size = arg(rt, at, path);
     if size == 0 {
-        fail(b"FILE: an empty name, or one of more than 4096 bytes");
+        fail(rt, b"FILE: an empty name, or one of more than 4096 bytes");
     }
     size
 }
 
 // Opens a file to be read and written, and reads it to its end or until the buffer is full.
-pub fn open_held(path: &[u8], out: &mut [u8]) -> Held
+pub fn open_held(rt: &HostRuntime, path: &[u8], out: &mut [u8]) -> Held
     ensures { IsPrefixLen result.size out.new }
 {
-    let fd = os::open_update(path);
-    if fd < 0 {
-        return Held {
-            file: not_opened(path),
+    match open_update(rt, path) {
+        Ok(file) => read_held(rt, path, file, out),
+        Err(e) => Held {
+            file: not_opened(rt, path, e),
             size: 0,
-        };
+        },
     }
-    if !has_places(fd) {
-        fail_of(path, b"not a regular file");
+}
+
+// The same of a file that is open.
+fn read_held(rt: &HostRuntime, path: &[u8], open: fs::File, out: &mut [u8]) -> Held
+    ensures { IsPrefixLen result.size out.new }
+{
+    let mut file = open;
+    if !has_places(&mut file) {
+        fail_of(rt, path, b"not a regular file");
         return Held {
             file: File::Failed,
             size: 0,
         };
     }
-    let read = read_input(fd, out);
+    let read = read_input(&mut file, out);
     let size = read.size;
-    if read.failed {
-        fail_file_of(path);
-        return Held {
-            file: File::Failed,
-            size: 0,
-        };
-    }
-    Held {
-        file: File::Open(fd),
-        size,
+    match read.failed {
+        Some(e) => {
+            fail_file_of(rt, path, e);
+            Held {
+                file: File::Failed,
+                size: 0,
+            }
+        }
+        None => Held {
+            file: File::Open(file),
+            size,
+        },
     }
 }
 
 // Why a file could not be opened.
-fn not_opened(path: &[u8]) -> File {
-    if os::errno() == libc::ENOENT {
-        return File::Missing;
+fn not_opened(rt: &HostRuntime, path: &[u8], error: Error) -> File {
+    match error.kind() {
+        ErrorKind::NotFound => File::Missing,
+        _ => {
+            fail_file_of(rt, path, error);
+            File::Failed
+        }
     }
-    fail_file_of(path);
-    File::Failed
 }
 
 // Whether a position can be set, as in a regular file: a pipe and a terminal refuse it, and such devices as /dev/null stay at their start.
 // The position is the start afterwards.
-fn has_places(fd: i32) -> bool {
-    if libc::lseek(fd, 1, libc::SEEK_SET) != 1 {
-        return false;
+fn has_places(file: &mut fs::File) -> bool {
+    match file.seek(SeekFrom::Start(1)) {
+        Ok(1) => is_at_start(file),
+        _ => false,
     }
-    libc::lseek(fd, 0, libc::SEEK_SET) == 0
+}
+
+// Whether the position can be set to the start.
+fn is_at_start(file: &mut fs::File) -> bool {
+    match file.seek(SeekFrom::Start(0)) {
+        Ok(0) => true,
+        _ => false,
+    }
 }
 
 // The file, made where there is none. A name that is taken although no file was found is a link to none.
-pub fn made(path: &[u8], file: File) -> File {
+pub fn made(rt: &HostRuntime, path: &[u8], file: File) -> File {
     match file {
-        File::Open(fd) => File::Open(fd),
-        File::Missing => make_new(path),
+        File::Open(open) => File::Open(open),
+        File::Missing => make_new(rt, path),
         File::Failed => File::Failed,
     }
 }
 
 // Makes a file.
-fn make_new(path: &[u8]) -> File {
-    let fd = os::create(path);
-    if 0 <= fd {
-        return File::Open(fd);
+fn make_new(rt: &HostRuntime, path: &[u8]) -> File {
+    match create(rt, path) {
+        Ok(open) => File::Open(open),
+        Err(e) => not_made(rt, path, e),
     }
-    if os::errno() == libc::EEXIST {
-        fail_of(
-            path,
-            b"a link to a missing file, or made by another program meanwhile",
-        );
-        return File::Failed;
+}
+
+// Why a file could not be made.
+fn not_made(rt: &HostRuntime, path: &[u8], error: Error) -> File {
+    match error.kind() {
+        ErrorKind::AlreadyExists => {
+            fail_of(
+                rt,
+                path,
+                b"a link to a missing file, or made by another program meanwhile",
+            );
+        }
+        _ => {
+            fail_file_of(rt, path, error);
+        }
     }
-    fail_file_of(path);
     File::Failed
 }
 
-// Writes bytes to an open file from a place on, and syncs it; answers whether they are there.
-pub fn write_synced(fd: i32, place: i64, bytes: &[u8]) -> bool {
-    if libc::lseek(fd, place, libc::SEEK_SET) != place {
-        return false;
-    }
-    if !io::write_all(fd, bytes) {
-        return false;
-    }
-    libc::fsync(fd) == 0
+// Writes bytes to an open file from a place on, and syncs it; they are there where it answers no error.
+pub fn write_synced(file: &mut fs::File, place: i64, bytes: &[u8]) -> Result<(), Error> {
+    file.seek(SeekFrom::Start(place.cast_unsigned()))?;
+    file.write_all(bytes)?;
+    file.sync_all()
 }

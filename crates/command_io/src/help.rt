@@ -3,6 +3,7 @@
 ghost use Rattle.std.specs.Prelude.{◌≡◌};
 ghost use Rattle.command_io.specs.Arguments.{is_help};
 
+use crate::system::arg;
 use text_digits::same;
 
 // Whether a word is `--help`.
@@ -13,8 +14,8 @@ pub fn is_help(word: &[u8]) -> bool
 }
 
 // Whether the argument at a place is a word, of at most 32 bytes.
-pub fn is_argument(at: usize, word: &[u8]) -> bool {
+pub fn is_argument(rt: &HostRuntime, at: usize, word: &[u8]) -> bool {
     let mut bytes = [0u8; 32];
-    let size = os::arg(at, &mut bytes);
+    let size = arg(rt, at, &mut bytes);
     same(&bytes[..size], word)
 }

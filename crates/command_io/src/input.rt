@@ -1,13 +1,25 @@
-// What a descriptor gives until its end. A read that answers nothing ends the input, so that at a terminal one end of file is enough,
+// What a reader gives until its end. A read that answers nothing ends the input, so that at a terminal one end of file is enough,
 // and is told from a read that fails.
 ghost use Rattle.std.specs.Prelude.{◌≡◌, ◌+◌, ◌≤◌, length, replicate};
 ghost use Rattle.io.specs.Counts.{IsPrefixLen};
 
-// How many bytes were read, and whether a read failed, of which `os::errno` then tells.
+use std::io::{Error, ErrorKind, Read};
+
+// How many bytes were read, and why a read failed, if one did.
 #[derive(Clone, Copy)]
 pub struct Input {
     pub size: usize,
-    pub failed: bool,
+    pub failed: Option<Error>,
+}
+
+// An input that is not read, and why not is said already.
+pub fn refused() -> Input
+    ensures { result.size ≡ 0 }
+{
+    Input {
+        size: 0,
+        failed: Some(Error::from(ErrorKind::InvalidInput)),
+    }
 }
 
 // Room for the longest journal, or ticks' text, and one byte more, which shows that an input is too long; all zero. The second `ensures` is
@@ -20,12 +32,12 @@ pub fn input_room() -> [u8; 65_537]
 }
 
 // Reads until the input ends, a read fails or the buffer is full.
-pub fn read_input(fd: i32, out: &mut [u8]) -> Input
+pub fn read_input<R: Read>(from: &mut R, out: &mut [u8]) -> Input
     ensures { IsPrefixLen result.size out.new }
 {
     let mut size = 0;
     while size < out.len() {
-        let more = read_at(fd, out, size);
+        let more = read_at(from, out, size);
         if more.size == 0 {
             return Input {
                 size,
@@ -34,28 +46,26 @@ pub fn read_input(fd: i32, out: &mut [u8]) -> Input
         }
         size += more.size;
     }
-    Input {
-        size,
-        failed: false,
-    }
+    Input { size, failed: None }
 }
 
 // One read into the buffer from a place on.
-fn read_at(fd: i32, out: &mut [u8], at: usize) -> Input
+fn read_at<R: Read>(from: &mut R, out: &mut [u8], at: usize) -> Input
     requires { at ≤ length out.old }
     ensures { at + result.size ≤ length out.old }
 {
-    read_some(fd, &mut out[at..])
+    read_some(from, &mut out[at..])
 }
 
 // One read. It gives nothing where the input has ended and where it fails.
-fn read_some(fd: i32, out: &mut [u8]) -> Input
+fn read_some<R: Read>(from: &mut R, out: &mut [u8]) -> Input
     ensures { result.size ≤ length out.old }
 {
-    let got = libc::read(fd, out);
-    let size = io::count(got, out);
-    Input {
-        size,
-        failed: got < 0,
+    match from.read(out) {
+        Ok(size) => Input { size, failed: None },
+        Err(e) => Input {
+            size: 0,
+            failed: Some(e),
+        },
     }
 }

@@ -1,4 +1,4 @@
-// What stands at a file's name, as command/awaqlla.c finds it before a command runs, and whether a command may read it.
+// What stands at a file's name, as the program awaqlla finds it before a command runs, and whether a command may read it.
 // Nothing is printed into a file that is read or written.
 ghost use Rattle.std.specs.Prelude.{◌≡◌, if◌then◌else◌, slice_index};
 ghost use Rattle.command_io.specs.Kinds.{has_bit, apart_of, readable_of};
@@ -25,7 +25,7 @@ pub enum Access {
     Printed,
 }
 
-// The kind of the argument at a place; nothing where C has told of none.
+// The kind of the argument at a place; nothing where the program has told of none.
 pub fn kind_at(kinds: &[u8], at: usize) -> u8
     ensures { result ≡ slice_index kinds.now at }
 {
@@ -80,25 +80,25 @@ fn access_if(test: bool, yes: Access, no: Access) -> Access
 }
 
 // Whether the file at a place can be read, and nothing is printed into it; if not, what is wrong is said.
-pub fn readable(kinds: &[u8], at: usize) -> bool {
+pub fn readable(rt: &HostRuntime, kinds: &[u8], at: usize) -> bool {
     let mut word = [0u8; 2];
-    if argument(at, &mut word) == 0 {
-        fail(b"FILE: an empty name");
+    if argument(rt, at, &mut word) == 0 {
+        fail(rt, b"FILE: an empty name");
         return false;
     }
-    is_free(at, readable_of(kind_at(kinds, at)))
+    is_free(rt, at, readable_of(kind_at(kinds, at)))
 }
 
 // Whether nothing is printed into the file at a place; if not, that is said.
-pub fn apart(kinds: &[u8], at: usize) -> bool {
-    is_free(at, apart_of(kind_at(kinds, at)))
+pub fn apart(rt: &HostRuntime, kinds: &[u8], at: usize) -> bool {
+    is_free(rt, at, apart_of(kind_at(kinds, at)))
 }
 
 // The same of standard input.
-pub fn input_apart(kinds: &[u8]) -> bool {
+pub fn input_apart(rt: &HostRuntime, kinds: &[u8]) -> bool {
     match apart_of(kind_at(kinds, 0)) {
         Access::Printed => {
-            fail(b"standard input: what is printed would go into it");
+            fail(rt, b"standard input: what is printed would go into it");
             false
         }
         _ => true,
@@ -106,13 +106,13 @@ pub fn input_apart(kinds: &[u8]) -> bool {
 }
 
 // Whether it is free; if not, why not is said.
-fn is_free(at: usize, access: Access) -> bool {
+fn is_free(rt: &HostRuntime, at: usize, access: Access) -> bool {
     match access {
         Access::Free => return true,
-        Access::Missing => fail_argument(at, b"there is no such file"),
-        Access::Folder => fail_argument(at, b"it is a folder"),
-        Access::Unreadable => fail_argument(at, b"it cannot be read"),
-        Access::Printed => fail_argument(at, b"what is printed would go into it"),
+        Access::Missing => fail_argument(rt, at, b"there is no such file"),
+        Access::Folder => fail_argument(rt, at, b"it is a folder"),
+        Access::Unreadable => fail_argument(rt, at, b"it cannot be read"),
+        Access::Printed => fail_argument(rt, at, b"what is printed would go into it"),
         Access::Quiet => crate::ending::Status::Failed,
     };
     false

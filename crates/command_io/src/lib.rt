@@ -1,5 +1,7 @@
 // What the programs share. They read the word `--help`, a decimal number, decimal numbers separated by white space, and an input to its end;
 // they print their help, gather their output, and say where standard output or a file fails. No public function has a `requires`.
+#![tactic(auto)]
+
 mod digit;
 mod ending;
 mod file;
@@ -16,13 +18,14 @@ mod path;
 mod pieces;
 mod places;
 mod shown;
+mod system;
 
 pub use digit::Number;
 pub use ending::{Status, if_written, status_number};
 pub use file::{File, Held, made, open_held, path_at, write_synced};
 pub use files::{complain, fail_file, read_argument, read_named, streams_are_open, sync_folder};
 pub use help::{is_argument, is_help};
-pub use input::{Input, input_room, read_input};
+pub use input::{Input, input_room, read_input, refused};
 pub use kinds::{
     Access, DANGLING, FOLDER, MISSING, PLAIN, apart, input_apart, is_guarded, kind_at, readable,
     stands,
@@ -39,3 +42,7 @@ pub use path::folder_end;
 pub use pieces::{Gathered, flush, gather};
 pub use places::{behind, inside, words_from};
 pub use shown::put_shown;
+pub use system::{
+    arg, arg_count, create, fail_system, open_read, open_update, rename, text_of, unlink,
+    write_error, write_error_decimal,
+};

@@ -5,63 +5,72 @@ ghost use Rattle.io.specs.Counts.{IsPrefixLen};
 
 use crate::ending::Status;
 use crate::shown::put_shown;
+use crate::system::{fail_system, write_error};
+use std::env::{Env, FillError};
+use std::io::{Error, IsTerminal};
 
 // Says a line.
-pub fn say(what: &[u8]) {
-    io::write_all(libc::STDERR_FILENO, b"awaqlla: ");
-    io::write_all(libc::STDERR_FILENO, what);
-    io::write_all(libc::STDERR_FILENO, b"\n");
+pub fn say(rt: &HostRuntime, what: &[u8]) {
+    write_error(rt, b"awaqlla: ");
+    write_error(rt, what);
+    write_error(rt, b"\n");
 }
 
 // Says a line, and fails.
-pub fn fail(what: &[u8]) -> Status {
-    say(what);
+pub fn fail(rt: &HostRuntime, what: &[u8]) -> Status {
+    say(rt, what);
     Status::Failed
 }
 
 // Says what is wrong with a text that was handed in, and fails.
-pub fn fail_of(text: &[u8], what: &[u8]) -> Status {
-    io::write_all(libc::STDERR_FILENO, b"awaqlla: ");
-    write_shown(text);
-    io::write_all(libc::STDERR_FILENO, b": ");
-    io::write_all(libc::STDERR_FILENO, what);
-    io::write_all(libc::STDERR_FILENO, b"\n");
+pub fn fail_of(rt: &HostRuntime, text: &[u8], what: &[u8]) -> Status {
+    write_error(rt, b"awaqlla: ");
+    write_shown(rt, text);
+    write_error(rt, b": ");
+    write_error(rt, what);
+    write_error(rt, b"\n");
     Status::Failed
 }
 
 // The same with a second text that was handed in, between two parts of what is wrong.
-pub fn fail_between(text: &[u8], what: &[u8], word: &[u8], more: &[u8]) -> Status {
-    io::write_all(libc::STDERR_FILENO, b"awaqlla: ");
-    write_shown(text);
-    io::write_all(libc::STDERR_FILENO, b": ");
-    io::write_all(libc::STDERR_FILENO, what);
-    write_shown(word);
-    io::write_all(libc::STDERR_FILENO, more);
-    io::write_all(libc::STDERR_FILENO, b"\n");
+pub fn fail_between(
+    rt: &HostRuntime,
+    text: &[u8],
+    what: &[u8],
+    word: &[u8],
+    more: &[u8],
+) -> Status {
+    write_error(rt, b"awaqlla: ");
+    write_shown(rt, text);
+    write_error(rt, b": ");
+    write_error(rt, what);
+    write_shown(rt, word);
+    write_error(rt, more);
+    write_error(rt, b"\n");
     Status::Failed
 }
 
 // Says what is wrong with the argument at a place, and fails.
-pub fn fail_argument(at: usize, what: &[u8]) -> Status {
+pub fn fail_argument(rt: &HostRuntime, at: usize, what: &[u8]) -> Status {
     let mut word = io::buffer();
-    let size = argument(at, &mut word);
-    fail_of(&word[..size], what)
+    let size = argument(rt, at, &mut word);
+    fail_of(rt, &word[..size], what)
 }
 
-// Says what the last call that failed says of a file, and fails. No call may come between, since the system's number of the error is read here.
-pub fn fail_file_of(path: &[u8]) -> Status {
+// Says what an error says of a file, and fails.
+pub fn fail_file_of(rt: &HostRuntime, path: &[u8], error: Error) -> Status {
     let mut line = shown_room();
     let size = put_shown(&mut line, 0, path);
-    io::write_all(libc::STDERR_FILENO, b"awaqlla: ");
-    os::fail(&line[..size]);
+    write_error(rt, b"awaqlla: ");
+    fail_system(rt, &line[..size], error);
     Status::Failed
 }
 
 // Writes a text to standard error as it is shown.
-pub fn write_shown(text: &[u8]) {
+pub fn write_shown(rt: &HostRuntime, text: &[u8]) {
     let mut line = shown_room();
     let size = put_shown(&mut line, 0, text);
-    io::write_all(libc::STDERR_FILENO, &line[..size]);
+    write_error(rt, &line[..size]);
 }
 
 // Room for the longest path as it is shown, four bytes for one (`shown-longest`).
@@ -72,42 +81,42 @@ fn shown_room() -> [u8; 16_384]
 }
 
 // The argument at a place, or as much of it as there is room for; how many bytes of the buffer it takes.
-pub fn argument(at: usize, out: &mut [u8]) -> usize
+pub fn argument(rt: &HostRuntime, at: usize, out: &mut [u8]) -> usize
     ensures { IsPrefixLen result out.new }
 {
-    let size = os::arg(at, out);
-    if os::errno() == libc::ENAMETOOLONG {
-        return out.len();
+    match rt.arg(at, out) {
+        Ok(size) => size,
+        Err(FillError::TooLong) => out.len(),
+        Err(FillError::NotPresent) => 0,
     }
-    size
 }
 
 // At a terminal, says what is read from it.
-pub fn await_input(what: &[u8]) {
-    if libc::isatty(libc::STDIN_FILENO) == 1 {
-        say(what);
+pub fn await_input(rt: &HostRuntime, what: &[u8]) {
+    if rt.stdin().is_terminal() {
+        say(rt, what);
     }
 }
 
 // Writes a text to standard output, and answers whether all of it is written; if not, that is said.
-pub fn write_output(text: &[u8]) -> bool {
-    crate::output::print(text, b"awaqlla: standard output: it cannot be written")
+pub fn write_output(rt: &HostRuntime, text: &[u8]) -> bool {
+    crate::output::print(rt, text, b"awaqlla: standard output: it cannot be written")
 }
 
 // The same of a verdict, a line whose end is its last byte: it is then said too.
-pub fn print_verdict(line: &[u8]) -> bool {
-    if write_output(line) {
+pub fn print_verdict(rt: &HostRuntime, line: &[u8]) -> bool {
+    if write_output(rt, line) {
         return true;
     }
-    say_last(line);
+    say_last(rt, line);
     false
 }
 
 // Says which line would have been the last; its end is its last byte.
-pub fn say_last(line: &[u8]) {
-    io::write_all(
-        libc::STDERR_FILENO,
+pub fn say_last(rt: &HostRuntime, line: &[u8]) {
+    write_error(
+        rt,
         b"awaqlla: standard output: it cannot be written; the last line was: ",
     );
-    io::write_all(libc::STDERR_FILENO, line);
+    write_error(rt, line);
 }

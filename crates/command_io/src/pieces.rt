@@ -15,7 +15,13 @@ pub struct Gathered {
 
 // Puts a text behind what waits. Where it has no place there, what waits is written and the text starts the room anew; a text longer than the
 // room is written at once. `output` starts the message where a write fails, as in `list: standard output`; then nothing more is written.
-pub fn gather(room: &mut [u8], waiting: usize, text: &[u8], output: &[u8]) -> Gathered
+pub fn gather(
+    rt: &HostRuntime,
+    room: &mut [u8],
+    waiting: usize,
+    text: &[u8],
+    output: &[u8],
+) -> Gathered
     ensures { Gathers room.old waiting text.now result room.new }
 {
     if fits(room, waiting, text) {
@@ -25,7 +31,7 @@ pub fn gather(room: &mut [u8], waiting: usize, text: &[u8], output: &[u8]) -> Ga
             written: true,
         };
     }
-    if !flush(room, waiting, output) {
+    if !flush(rt, room, waiting, output) {
         return Gathered {
             waiting: 0,
             written: false,
@@ -38,7 +44,7 @@ pub fn gather(room: &mut [u8], waiting: usize, text: &[u8], output: &[u8]) -> Ga
             written: true,
         };
     }
-    let written = print(text, output);
+    let written = print(rt, text, output);
     Gathered {
         waiting: 0,
         written,
@@ -46,9 +52,9 @@ pub fn gather(room: &mut [u8], waiting: usize, text: &[u8], output: &[u8]) -> Ga
 }
 
 // Writes what waits, and answers whether all of it is written; a message says so if not.
-pub fn flush(room: &[u8], waiting: usize, output: &[u8]) -> bool {
+pub fn flush(rt: &HostRuntime, room: &[u8], waiting: usize, output: &[u8]) -> bool {
     let size = counted(room, waiting);
-    print(&room[..size], output)
+    print(rt, &room[..size], output)
 }
 
 // Whether a text has place in the room behind what waits.

@@ -2,9 +2,11 @@
 // Nothing is asked of the numbers.
 ghost use Rattle.io.specs.Counts.{IsPrefixLen};
 
+use crate::system::arg_count;
+
 // How many words stand from a place on.
-pub fn words_from(at: usize) -> usize {
-    let count = os::arg_count();
+pub fn words_from(rt: &HostRuntime, at: usize) -> usize {
+    let count = arg_count(rt);
     if count < at {
         return 0;
     }

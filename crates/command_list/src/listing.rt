@@ -25,35 +25,40 @@ pub struct Listed {
 }
 
 // The command.
-pub fn list(o: Options, kinds: &[u8]) -> command_io::Status {
+pub fn list(rt: &HostRuntime, o: Options, kinds: &[u8]) -> command_io::Status {
     let mut room = command_io::input_room();
-    let read = read_volume(o.first, kinds, &mut room);
-    if read.failed {
+    let read = read_volume(rt, o.first, kinds, &mut room);
+    if read.failed.is_some() {
         return command_io::Status::Failed;
     }
     let size = read.size;
-    list_volume(&room[..size], rule_of(o))
+    list_volume(rt, &room[..size], rule_of(o))
 }
 
 // The listing of a journal, and what is said of its end state.
-fn list_volume(v: &[u8], rule: Rule) -> command_io::Status {
-    let listed = print_listing(v, rule, b"awaqlla: standard output: it cannot be written");
+fn list_volume(rt: &HostRuntime, v: &[u8], rule: Rule) -> command_io::Status {
+    let listed = print_listing(
+        rt,
+        v,
+        rule,
+        b"awaqlla: standard output: it cannot be written",
+    );
     let status = listed.status;
     if listed.written {
-        return ended(status);
+        return ended(rt, status);
     }
-    say_state(v, status)
+    say_state(rt, v, status)
 }
 
 // The records' lines, and then that of the end state. They are gathered, so that a write takes many.
-pub fn print_listing(v: &[u8], rule: Rule, output: &[u8]) -> Listed {
+pub fn print_listing(rt: &HostRuntime, v: &[u8], rule: Rule, output: &[u8]) -> Listed {
     let mut space = io::large_buffer();
     let room: &mut [u8] = &mut space;
     let mut waiting: usize = 0;
     let mut cursor = journal_listing::start(v, rule);
     let status = cursor.status;
     while cursor.left > 0 {
-        let printed = print_line(v, cursor, room, waiting, output);
+        let printed = print_line(rt, v, cursor, room, waiting, output);
         if !printed.written {
             return Listed {
                 written: false,
@@ -63,28 +68,42 @@ pub fn print_listing(v: &[u8], rule: Rule, output: &[u8]) -> Listed {
         waiting = printed.waiting;
         cursor = printed.cursor;
     }
-    let written = print_last(v, cursor, room, waiting, output);
+    let written = print_last(rt, v, cursor, room, waiting, output);
     Listed { written, status }
 }
 
 // The last line, and all that waits.
-fn print_last(v: &[u8], cursor: Cursor, room: &mut [u8], waiting: usize, output: &[u8]) -> bool {
-    let last = print_line(v, cursor, room, waiting, output);
+fn print_last(
+    rt: &HostRuntime,
+    v: &[u8],
+    cursor: Cursor,
+    room: &mut [u8],
+    waiting: usize,
+    output: &[u8],
+) -> bool {
+    let last = print_line(rt, v, cursor, room, waiting, output);
     if !last.written {
         return false;
     }
-    command_io::flush(room, last.waiting, output)
+    command_io::flush(rt, room, last.waiting, output)
 }
 
 // The next line, behind what waits in the room.
-fn print_line(v: &[u8], cursor: Cursor, room: &mut [u8], waiting: usize, output: &[u8]) -> Printed
+fn print_line(
+    rt: &HostRuntime,
+    v: &[u8],
+    cursor: Cursor,
+    room: &mut [u8],
+    waiting: usize,
+    output: &[u8],
+) -> Printed
     ensures { position_of result.cursor ≡ (step (position_of cursor) v.now).position }
 {
     let mut out = [0u8; journal_listing::MAX_LINE];
     let line = journal_listing::next_line(v, cursor, &mut out);
     let size = line.size;
     let next = line.cursor;
-    let g = command_io::gather(room, waiting, &out[..size], output);
+    let g = command_io::gather(rt, room, waiting, &out[..size], output);
     Printed {
         written: g.written,
         waiting: g.waiting,

@@ -43,7 +43,7 @@ pub fn end_status(status: Status) -> command_io::Status
 }
 
 // Says in words what an end state is, where it is not whole, and answers its exit status.
-pub fn ended(status: Status) -> command_io::Status {
+pub fn ended(rt: &HostRuntime, status: Status) -> command_io::Status {
     match status {
         Status::Whole {
             records: _,
@@ -52,50 +52,54 @@ pub fn ended(status: Status) -> command_io::Status {
         Status::Torn {
             records: _,
             committed,
-        } => command_words::torn(committed as u64),
-        Status::Damaged(fault) => command_words::damaged(fault.number as u64, fault.place as u64),
+        } => command_words::torn(rt, committed as u64),
+        Status::Damaged(fault) => command_words::damaged(
+            rt,
+            fault.number as u64,
+            fault.place as u64,
+        ),
     }
 }
 
 // The command survey: the line of the end state.
-pub fn survey(o: Options, kinds: &[u8]) -> command_io::Status {
+pub fn survey(rt: &HostRuntime, o: Options, kinds: &[u8]) -> command_io::Status {
     let mut room = command_io::input_room();
-    let read = read_volume(o.first, kinds, &mut room);
-    if read.failed {
+    let read = read_volume(rt, o.first, kinds, &mut room);
+    if read.failed.is_some() {
         return command_io::Status::Failed;
     }
     let size = read.size;
-    print_state(&room[..size], rule_of(o))
+    print_state(rt, &room[..size], rule_of(o))
 }
 
 // The line of a journal's end state, and what is said of it.
-fn print_state(v: &[u8], rule: Rule) -> command_io::Status {
+fn print_state(rt: &HostRuntime, v: &[u8], rule: Rule) -> command_io::Status {
     let status = journal_listing::start(v, rule).status;
-    close_with(v, status, true)
+    close_with(rt, v, status, true)
 }
 
 // The line of an end state where what stands before it was written; where not, it is said that this would be the last line.
-pub fn close_with(v: &[u8], status: Status, written: bool) -> command_io::Status {
+pub fn close_with(rt: &HostRuntime, v: &[u8], status: Status, written: bool) -> command_io::Status {
     if !written {
-        return say_state(v, status);
+        return say_state(rt, v, status);
     }
-    if print_end(v, status) {
-        return ended(status);
+    if print_end(rt, v, status) {
+        return ended(rt, status);
     }
     command_io::Status::Failed
 }
 
 // Prints the line of an end state; whether it was written.
-fn print_end(v: &[u8], status: Status) -> bool {
+fn print_end(rt: &HostRuntime, v: &[u8], status: Status) -> bool {
     let mut out = [0u8; journal_listing::MAX_LINE];
     let size = state_line(v, status, &mut out);
-    command_io::print_verdict(&out[..size])
+    command_io::print_verdict(rt, &out[..size])
 }
 
 // Says that the end state's line would have been the last, where it could not be written.
-pub(crate) fn say_state(v: &[u8], status: Status) -> command_io::Status {
+pub(crate) fn say_state(rt: &HostRuntime, v: &[u8], status: Status) -> command_io::Status {
     let mut out = [0u8; journal_listing::MAX_LINE];
     let size = state_line(v, status, &mut out);
-    command_io::say_last(&out[..size]);
+    command_io::say_last(rt, &out[..size]);
     command_io::Status::Failed
 }

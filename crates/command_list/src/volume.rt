@@ -14,44 +14,40 @@ pub fn rule_of(o: Options) -> Rule {
 }
 
 // Reads a volume, as much as there is room for; where that fails, what is wrong is said.
-pub fn read_volume(at: usize, kinds: &[u8], out: &mut [u8]) -> Input
+pub fn read_volume(rt: &HostRuntime, at: usize, kinds: &[u8], out: &mut [u8]) -> Input
     ensures { IsPrefixLen result.size out.new }
 {
-    if at < os::arg_count() {
-        return read_file(at, kinds, out);
+    if at < command_io::arg_count(rt) {
+        return read_file(rt, at, kinds, out);
     }
     command_io::await_input(
+        rt,
         b"a volume on standard input, since no FILE is named; Ctrl-C ends this",
     );
-    read_standard(kinds, out)
+    read_standard(rt, kinds, out)
 }
 
 // The same of standard input.
-fn read_standard(kinds: &[u8], out: &mut [u8]) -> Input
+fn read_standard(rt: &HostRuntime, kinds: &[u8], out: &mut [u8]) -> Input
     ensures { IsPrefixLen result.size out.new }
 {
-    if !command_io::input_apart(kinds) {
-        return Input {
-            size: 0,
-            failed: true,
-        };
+    if !command_io::input_apart(rt, kinds) {
+        return command_io::refused();
     }
-    let read = command_io::read_input(0, out);
-    if read.failed {
-        os::fail(b"awaqlla: standard input");
+    let mut input = rt.stdin();
+    let read = command_io::read_input(&mut input, out);
+    if let Some(e) = read.failed {
+        command_io::fail_system(rt, b"awaqlla: standard input", e);
     }
     read
 }
 
 // The same of a file.
-fn read_file(at: usize, kinds: &[u8], out: &mut [u8]) -> Input
+fn read_file(rt: &HostRuntime, at: usize, kinds: &[u8], out: &mut [u8]) -> Input
     ensures { IsPrefixLen result.size out.new }
 {
-    if !command_io::readable(kinds, at) {
-        return Input {
-            size: 0,
-            failed: true,
-        };
+    if !command_io::readable(rt, kinds, at) {
+        return command_io::refused();
     }
-    command_io::read_named(at, out)
+    command_io::read_named(rt, at, out)
 }

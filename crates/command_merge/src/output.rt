@@ -6,36 +6,36 @@ use journal::Fault;
 use journal_merge::{Merged, Whose};
 
 // Prints the verdict, as the last line of the output, and answers the status.
-pub(crate) fn answered(answer: Merged) -> Status {
+pub(crate) fn answered(rt: &HostRuntime, answer: Merged) -> Status {
     let mut out = [0u8; journal_listing::MAX_LINE];
     let size = verdict_line(answer, &mut out);
-    let written = print_verdict(&out[..size]);
+    let written = print_verdict(rt, &out[..size]);
     if written {
-        explain(answer);
+        explain(rt, answer);
     }
     if_written(written, status_of(answer))
 }
 
 // What the verdict means.
-fn explain(answer: Merged) {
+fn explain(rt: &HostRuntime, answer: Merged) {
     match answer {
         Merged::Length(_) => {}
         Merged::Declined(_) => {
-            command_words::full_merge();
+            command_words::full_merge(rt);
         }
         Merged::DeclinedAt(f) => {
-            command_words::refused_merge(f.number as u64, f.place as u64);
+            command_words::refused_merge(rt, f.number as u64, f.place as u64);
         }
         Merged::DeclinedOf { whose, number: _ } => {
-            command_words::refused_torn(is_second(whose));
+            command_words::refused_torn(rt, is_second(whose));
         }
-        Merged::Damaged { whose, fault } => explain_damage(fault, whose),
+        Merged::Damaged { whose, fault } => explain_damage(rt, fault, whose),
     }
 }
 
 // The same of a fault.
-fn explain_damage(f: Fault, whose: Whose) {
-    command_words::damaged_of(f.number as u64, f.place as u64, is_second(whose));
+fn explain_damage(rt: &HostRuntime, f: Fault, whose: Whose) {
+    command_words::damaged_of(rt, f.number as u64, f.place as u64, is_second(whose));
 }
 
 // Whether it is the second volume's.

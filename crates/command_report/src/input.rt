@@ -2,7 +2,7 @@
 // A name may start with a dash; `--` may stand before it.
 ghost use Rattle.std.specs.Prelude.{◌<◌, ◌≤◌, length};
 
-use command_io::{Number, argument, is_argument};
+use command_io::{Number, arg_count, argument, is_argument};
 use limit::{MAX_CHANCE, MIN_CHANCE};
 
 // The most chances of a record, and so of those asked for.
@@ -19,8 +19,8 @@ pub(crate) enum Asked {
 }
 
 // Which record the words from a place on ask for.
-pub(crate) fn question(at: usize) -> Asked {
-    let end = os::arg_count();
+pub(crate) fn question(rt: &HostRuntime, at: usize) -> Asked {
+    let end = arg_count(rt);
     if end <= at {
         return Asked::Nothing;
     }
@@ -29,22 +29,22 @@ pub(crate) fn question(at: usize) -> Asked {
         return Asked::Name(at);
     }
     if count == 2 {
-        return option_at(at);
+        return option_at(rt, at);
     }
     Asked::Nothing
 }
 
 // Two words: `--at I`, or `-- NAME`.
-fn option_at(i: usize) -> Asked {
+fn option_at(rt: &HostRuntime, i: usize) -> Asked {
     let next = std::num::wrapping_add_usize(i, 1);
-    if is_argument(i, b"--") {
+    if is_argument(rt, i, b"--") {
         return Asked::Name(next);
     }
-    if !is_argument(i, b"--at") {
+    if !is_argument(rt, i, b"--at") {
         return Asked::Nothing;
     }
     let mut text = [0u8; 32];
-    let size = argument(next, &mut text);
+    let size = argument(rt, next, &mut text);
     match command_io::read_number(&text[..size], 65_535) {
         Number::Value(n) => Asked::At(n),
         Number::Nothing => Asked::WrongPosition,
@@ -52,16 +52,16 @@ fn option_at(i: usize) -> Asked {
 }
 
 // Which of the arguments from one on, counted from 1, is no chance or one too many; 0 where none is.
-pub(crate) fn wrong_chance(first: usize) -> usize
+pub(crate) fn wrong_chance(rt: &HostRuntime, first: usize) -> usize
     requires { first < 100 }
 {
-    let end = os::arg_count();
+    let end = arg_count(rt);
     let mut n = 0;
     while n < MAX_CHANCES {
         if end <= first + n {
             return 0;
         }
-        if !is_chance(first + n) {
+        if !is_chance(rt, first + n) {
             return n + 1;
         }
         n += 1;
@@ -73,15 +73,15 @@ pub(crate) fn wrong_chance(first: usize) -> usize
 }
 
 // Whether an argument is a chance.
-fn is_chance(i: usize) -> bool {
-    MIN_CHANCE <= chance(i) as u64
+fn is_chance(rt: &HostRuntime, i: usize) -> bool {
+    MIN_CHANCE <= chance(rt, i) as u64
 }
 
 // The chances among the arguments from one on, as many as there are and have room; their number.
-pub(crate) fn chances(first: usize, out: &mut [u32]) -> usize
+pub(crate) fn chances(rt: &HostRuntime, first: usize, out: &mut [u32]) -> usize
     ensures { result ≤ length out.new }
 {
-    let end = os::arg_count();
+    let end = arg_count(rt);
     if end < first {
         return 0;
     }
@@ -91,23 +91,23 @@ pub(crate) fn chances(first: usize, out: &mut [u32]) -> usize
         if wanted <= n {
             return n;
         }
-        out[n] = chance(std::num::wrapping_add_usize(first, n));
+        out[n] = chance(rt, std::num::wrapping_add_usize(first, n));
         n += 1;
     }
     n
 }
 
 // The chance in an argument, or 0, which is none.
-fn chance(i: usize) -> u32 {
-    match number(i) {
+fn chance(rt: &HostRuntime, i: usize) -> u32 {
+    match number(rt, i) {
         Number::Value(n) => n,
         Number::Nothing => 0,
     }
 }
 
 // The number in an argument, of those up to the largest chance.
-fn number(i: usize) -> Number {
+fn number(rt: &HostRuntime, i: usize) -> Number {
     let mut text = [0u8; 32];
-    let size = argument(i, &mut text);
+    let size = argument(rt, i, &mut text);
     command_io::read_number(&text[..size], MAX_CHANCE as u32)
 }

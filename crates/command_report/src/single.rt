@@ -9,39 +9,42 @@ use journal_index::index_room;
 use journal_report::begin;
 
 // The command.
-pub fn record(o: Options, kinds: &[u8]) -> command_io::Status {
-    let asked = question(std::num::wrapping_add_usize(o.first, 1));
+pub fn record(rt: &HostRuntime, o: Options, kinds: &[u8]) -> command_io::Status {
+    let asked = question(rt, std::num::wrapping_add_usize(o.first, 1));
     match asked {
         Asked::Nothing => fail(
+            rt,
             b"record takes [--ticks] FILE and NAME or --at I; awaqlla --help says more",
         ),
         Asked::WrongPosition => fail(
+            rt,
             b"I: not a decimal number from 0 to 65535 without leading zeros",
         ),
-        _ => read_record(o, kinds, asked),
+        _ => read_record(rt, o, kinds, asked),
     }
 }
 
 // The volume's bytes.
-fn read_record(o: Options, kinds: &[u8], asked: Asked) -> command_io::Status {
+fn read_record(rt: &HostRuntime, o: Options, kinds: &[u8], asked: Asked) -> command_io::Status {
     let mut room = command_io::input_room();
-    let read = command_list::read_volume(o.first, kinds, &mut room);
-    if read.failed {
+    let read = command_list::read_volume(rt, o.first, kinds, &mut room);
+    if read.failed.is_some() {
         return command_io::Status::Failed;
     }
     let size = read.size;
-    print_asked(&room[..size], asked, o.ticks)
+    print_asked(rt, &room[..size], asked, o.ticks)
 }
 
 // What is asked for. The volume is scanned once.
-fn print_asked(v: &[u8], asked: Asked, ticks: bool) -> command_io::Status {
+fn print_asked(rt: &HostRuntime, v: &[u8], asked: Asked, ticks: bool) -> command_io::Status {
     let mut index = index_room();
     let begun = begin(v, &mut index);
     let status = begun.status;
     let records = records_of(status);
     match asked {
-        Asked::Name(word) => print_named(v, &index, records, word, ticks, status),
+        Asked::Name(word) => print_named(rt, v, &index, records, word, ticks, status),
         Asked::At(i) => print_record(
+            rt,
             v,
             records,
             at_position(v, records, i as usize),
@@ -69,6 +72,7 @@ fn records_of(status: Status) -> usize {
 
 // The last record of the name in an argument.
 fn print_named(
+    rt: &HostRuntime,
     v: &[u8],
     index: &[u8],
     records: usize,
@@ -77,13 +81,14 @@ fn print_named(
     status: Status,
 ) -> command_io::Status {
     let mut name = [0u8; 33];
-    let size = argument(word, &mut name);
+    let size = argument(rt, word, &mut name);
     let place = last_named(v, index, records, &name[..size]);
-    print_record(v, records, place, ticks, status)
+    print_record(rt, v, records, place, ticks, status)
 }
 
 // The record at a place; or the volume's fault, or that there is no such record.
 fn print_record(
+    rt: &HostRuntime,
     v: &[u8],
     records: usize,
     place: Place,
@@ -92,23 +97,26 @@ fn print_record(
 ) -> command_io::Status {
     if place.found {
         if ticks {
-            return if_written(lines::print_times(v, place.at), command_io::Status::Done);
+            return if_written(
+                lines::print_times(rt, v, place.at),
+                command_io::Status::Done,
+            );
         }
         return if_written(
-            lines::print_fields(v, records, place.i, place.at),
+            lines::print_fields(rt, v, records, place.i, place.at),
             command_io::Status::Done,
         );
     }
     match status {
-        Status::Damaged(_) => command_list::close_with(v, status, true),
-        _ => print_absent(),
+        Status::Damaged(_) => command_list::close_with(rt, v, status, true),
+        _ => print_absent(rt),
     }
 }
 
 // That there is no such record.
-fn print_absent() -> command_io::Status {
-    if command_io::print_verdict(b"refused 10\n") {
-        return command_words::refused(10);
+fn print_absent(rt: &HostRuntime) -> command_io::Status {
+    if command_io::print_verdict(rt, b"refused 10\n") {
+        return command_words::refused(rt, 10);
     }
     command_io::Status::Failed
 }

@@ -1,5 +1,7 @@
 // `awaqlla selftest`: replays stored answers, and says whether this machine gives their bits.
 // They are the Rust's and the papers' (tools/selftest-stored), of quantile, limit, listing, and an append cut after every byte.
+#![tactic(auto)]
+
 ghost use Rattle.std.specs.Prelude.{◌≡◌};
 ghost use Rattle.command_selftest.specs.Replay.{ending_of};
 
@@ -15,37 +17,45 @@ use quantiles::quantiles_differing;
 use stored::{ANSWERS, ARGUMENTS, LIMITS};
 
 // A line for each part, and the verdict: `same`, or `differs`.
-pub fn selftest() -> Status {
+pub fn selftest(rt: &HostRuntime) -> Status {
     let quantiles = quantiles_differing(&ARGUMENTS, &ANSWERS) == 0;
     let limits = limits_differing() == 0;
     let listing = volume::is_listed();
     let cuts = volume::cuts_differing() == 0;
     let same = quantiles && limits && listing && cuts;
-    let written = told(b"quantile: 64 answers of the Rust", quantiles)
-        && told(b"limit: 12 limits of two times, four figures each", limits)
-        && told(b"listing: a volume of 12 records", listing)
-        && told(b"append: cut after each of 61 bytes, and finished", cuts)
-        && verdict(same);
+    let written = told(rt, b"quantile: 64 answers of the Rust", quantiles)
+        && told(
+            rt,
+            b"limit: 12 limits of two times, four figures each",
+            limits,
+        )
+        && told(rt, b"listing: a volume of 12 records", listing)
+        && told(
+            rt,
+            b"append: cut after each of 61 bytes, and finished",
+            cuts,
+        )
+        && verdict(rt, same);
     if_written(written, ending(same))
 }
 
 // A part's line; whether it is written.
-fn told(what: &[u8], same: bool) -> bool {
-    if !write_output(what) {
+fn told(rt: &HostRuntime, what: &[u8], same: bool) -> bool {
+    if !write_output(rt, what) {
         return false;
     }
     if same {
-        return write_output(b": the same\n");
+        return write_output(rt, b": the same\n");
     }
-    write_output(b": OTHER BITS\n")
+    write_output(rt, b": OTHER BITS\n")
 }
 
 // The last line; whether it is written.
-fn verdict(same: bool) -> bool {
+fn verdict(rt: &HostRuntime, same: bool) -> bool {
     if same {
-        return print_verdict(b"same\n");
+        return print_verdict(rt, b"same\n");
     }
-    print_verdict(b"differs\n")
+    print_verdict(rt, b"differs\n")
 }
 
 // How the command ends.

@@ -6,9 +6,16 @@ use journal::Fault;
 use journal_trial::Unknown;
 
 // The first bytes of a buffer, as a line that ends in them, behind what waits in the room.
-pub(crate) fn gather_line(room: &mut [u8], waiting: usize, line: &[u8], size: usize) -> Gathered {
+pub(crate) fn gather_line(
+    rt: &HostRuntime,
+    room: &mut [u8],
+    waiting: usize,
+    line: &[u8],
+    size: usize,
+) -> Gathered {
     let count = inside(size, line);
     command_io::gather(
+        rt,
         room,
         waiting,
         &line[..count],
@@ -17,14 +24,20 @@ pub(crate) fn gather_line(room: &mut [u8], waiting: usize, line: &[u8], size: us
 }
 
 // The lines with unknown names, as the last line, behind what waits in the room.
-pub(crate) fn print_unknown(room: &mut [u8], waiting: usize, lines: u64) -> Status {
+pub(crate) fn print_unknown(
+    rt: &HostRuntime,
+    room: &mut [u8],
+    waiting: usize,
+    lines: u64,
+) -> Status {
     let mut out = [0u8; 64];
     let size = put_unknown(&mut out, lines);
-    let last = gather_line(room, waiting, &out, size);
+    let last = gather_line(rt, room, waiting, &out, size);
     if !last.written {
         return Status::Failed;
     }
     let written = command_io::flush(
+        rt,
         room,
         last.waiting,
         b"awaqlla: standard output: it cannot be written",
@@ -33,39 +46,39 @@ pub(crate) fn print_unknown(room: &mut [u8], waiting: usize, lines: u64) -> Stat
 }
 
 // A refusal and its place, as the only line; then what it means.
-pub(crate) fn refuse(answer: Unknown) -> Status {
+pub(crate) fn refuse(rt: &HostRuntime, answer: Unknown) -> Status {
     match answer {
         Unknown::Lines(_) => Status::Done,
-        Unknown::Declined(n) => refuse_call(n),
-        Unknown::Damaged(f) => refuse_volume(f),
-        Unknown::DeclinedAt(f) => refuse_log(f),
+        Unknown::Declined(n) => refuse_call(rt, n),
+        Unknown::Damaged(f) => refuse_volume(rt, f),
+        Unknown::DeclinedAt(f) => refuse_log(rt, f),
     }
 }
 
-fn refuse_call(n: u32) -> Status {
-    if !print_refusal(b"declined", n, 0) {
+fn refuse_call(rt: &HostRuntime, n: u32) -> Status {
+    if !print_refusal(rt, b"declined", n, 0) {
         return Status::Failed;
     }
-    command_words::refused(n as u64)
+    command_words::refused(rt, n as u64)
 }
 
-fn refuse_volume(f: Fault) -> Status {
-    if !print_refusal(b"damaged", f.number, f.place) {
+fn refuse_volume(rt: &HostRuntime, f: Fault) -> Status {
+    if !print_refusal(rt, b"damaged", f.number, f.place) {
         return Status::Failed;
     }
-    command_words::damaged(f.number as u64, f.place as u64)
+    command_words::damaged(rt, f.number as u64, f.place as u64)
 }
 
-fn refuse_log(f: Fault) -> Status {
-    if !print_refusal(b"log", f.number, f.place) {
+fn refuse_log(rt: &HostRuntime, f: Fault) -> Status {
+    if !print_refusal(rt, b"log", f.number, f.place) {
         return Status::Failed;
     }
-    command_words::refused_log(f.number as u64, f.place as u64)
+    command_words::refused_log(rt, f.number as u64, f.place as u64)
 }
 
-fn print_refusal(word: &[u8], number: u32, place: usize) -> bool {
+fn print_refusal(rt: &HostRuntime, word: &[u8], number: u32, place: usize) -> bool {
     let mut out = [0u8; journal_listing::MAX_LINE];
     let size = journal_listing::put_words(&mut out, word, number as u64, place as u64);
     let count = inside(size, &out);
-    print_verdict(&out[..count])
+    print_verdict(rt, &out[..count])
 }

@@ -6,9 +6,10 @@ use crate::output::{gather_line, print_unknown, refuse};
 use crate::passes::try_pieces;
 use crate::table::{count_at, table_room};
 use crate::text::{put_chance, put_head};
-use command_io::{Gathered, Status};
+use command_io::{Gathered, Status, fail_system};
 use journal_parts::{Span, number_in, spans_at};
 use journal_trial::Unknown;
+use std::io::Read;
 use text_digits::put;
 
 // Room for a line.
@@ -18,45 +19,46 @@ fn line_room() -> [u8; 1_024]
     [0; 1_024]
 }
 
-// Tries the log of a descriptor on the journal that is all of a slice.
-pub(crate) fn try_log(fd: i32, v: &[u8]) -> Status {
+// Tries the log of a reader on the journal that is all of a slice.
+pub(crate) fn try_log<R: Read>(rt: &HostRuntime, log: &mut R, v: &[u8]) -> Status {
     let mut index = journal_index::index_room();
     journal_index::make_index(v, v.len(), &mut index);
     let mut table = table_room();
-    let p = try_pieces(fd, v, &index, &mut table);
-    if p.failed {
-        os::fail(b"awaqlla: the log");
+    let p = try_pieces(log, v, &index, &mut table);
+    if let Some(e) = p.failed {
+        fail_system(rt, b"awaqlla: the log", e);
         return Status::Failed;
     }
     let answer = p.answer;
     match answer {
-        Unknown::Lines(n) => print_all(v, &index, &table, n),
-        Unknown::Declined(_) => refuse(answer),
-        Unknown::Damaged(_) => refuse(answer),
-        Unknown::DeclinedAt(_) => refuse(answer),
+        Unknown::Lines(n) => print_all(rt, v, &index, &table, n),
+        Unknown::Declined(_) => refuse(rt, answer),
+        Unknown::Damaged(_) => refuse(rt, answer),
+        Unknown::DeclinedAt(_) => refuse(rt, answer),
     }
 }
 
 // The lines of all names, then the lines with unknown names. They are gathered, so that a write takes many.
-fn print_all(v: &[u8], index: &[u8], table: &[u64], unknown: u64) -> Status {
+fn print_all(rt: &HostRuntime, v: &[u8], index: &[u8], table: &[u64], unknown: u64) -> Status {
     let mut space = io::large_buffer();
     let room: &mut [u8] = &mut space;
     let count = number_in(index, 0, 2) as usize;
     let mut waiting: usize = 0;
     let mut k: usize = 0;
     while k < count {
-        let printed = print_name(v, index, table, k, room, waiting);
+        let printed = print_name(rt, v, index, table, k, room, waiting);
         if !printed.written {
             return Status::Failed;
         }
         waiting = printed.waiting;
         k += 1;
     }
-    print_unknown(room, waiting, unknown)
+    print_unknown(rt, room, waiting, unknown)
 }
 
 // The line of the name at a position, behind what waits in the room.
 fn print_name(
+    rt: &HostRuntime,
     v: &[u8],
     index: &[u8],
     table: &[u64],
@@ -66,7 +68,7 @@ fn print_name(
 ) -> Gathered {
     let mut out = line_room();
     let size = put_name(&mut out, v, index, table, k);
-    gather_line(room, waiting, &out, size)
+    gather_line(rt, room, waiting, &out, size)
 }
 
 // Puts the line of the name at a position, and answers its size; none where the index has no such entry.

@@ -3,13 +3,18 @@
 use command_io::{Status, if_written, write_output};
 
 // The help.
-pub fn print_help() -> Status {
-    let written = print_part1() && print_part2() && print_part3() && print_part4() && print_part5();
+pub fn print_help(rt: &HostRuntime) -> Status {
+    let written = print_part1(rt)
+        && print_part2(rt)
+        && print_part3(rt)
+        && print_part4(rt)
+        && print_part5(rt);
     if_written(written, Status::Done)
 }
 
-fn print_part1() -> bool {
+fn print_part1(rt: &HostRuntime) -> bool {
     write_output(
+        rt,
         b"usage: awaqlla append [--profile] [--index INDEX] [--wait SECONDS] FILE DATE|DAY NAME CHANCE.. < TICKS\n\
         \x20                                                            appends a record to the volume FILE, made if it is missing; keeps its INDEX\n\
         \x20      awaqlla append [--profile] [--index INDEX] [--wait SECONDS] --log FILE DATE|DAY NAME CHANCE.. < LOG\n\
@@ -21,8 +26,9 @@ fn print_part1() -> bool {
     )
 }
 
-fn print_part2() -> bool {
+fn print_part2(rt: &HostRuntime) -> bool {
     write_output(
+        rt,
         b"\x20      awaqlla record [--ticks] FILE --at I                  the same of the record at position I, counted from 0\n\
         \x20      awaqlla plot FILE NAME > PICTURE.svg                  a name's times, means and limits over its records, for a browser\n\
         \x20      awaqlla page FILE.. > PAGE.html                       a page for a browser that reads the volumes and works every limit again\n\
@@ -34,8 +40,9 @@ fn print_part2() -> bool {
     )
 }
 
-fn print_part3() -> bool {
+fn print_part3(rt: &HostRuntime) -> bool {
     write_output(
+        rt,
         b"\x20      awaqlla band SHARE TICKS..                            the shortest and the longest time with a share of links inside; needs cc\n\
         \x20      awaqlla day DATE                                      the day of a date, as a record holds it\n\
         \x20      awaqlla date DAY [LAST]                               the date of a day, or of each day to LAST, a line each\n\
@@ -49,8 +56,9 @@ fn print_part3() -> bool {
     )
 }
 
-fn print_part4() -> bool {
+fn print_part4(rt: &HostRuntime) -> bool {
     write_output(
+        rt,
         b"10 microseconds, separated by white space. A LOG has lines of a name, one space and a number of ticks; it may be of any size.\n\
         With --profile the volume is one for safety controllers: each record has form 2, the chances 1 10 100 1000 and 32 ticks or more.\n\
         Options stand before FILE, in any order. A FILE that starts with a dash stands behind --; without FILE, standard input is read, and\n\
@@ -62,8 +70,9 @@ fn print_part4() -> bool {
     )
 }
 
-fn print_part5() -> bool {
+fn print_part5(rt: &HostRuntime) -> bool {
     write_output(
+        rt,
         b"makes no OUT.\n\
         Exit status: 0 extended, merged, whole or what was asked for; 1 declined, log, damaged, torn or refused; 2 wrong usage, or something\n\
         cannot be read or written.\n",

@@ -1,5 +1,7 @@
 // What awaqlla says in words: its help, what a refusal's number means, and what follows a verdict on standard error.
 // A function that says what was refused answers the exit status of a refusal.
+#![tactic(auto)]
+
 mod answer;
 mod help;
 mod refusal;

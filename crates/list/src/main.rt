@@ -1,34 +1,38 @@
 // Prints the listing of a journal, document 01's volume, that it reads from standard input: a line for each record, then the end state.
 // The lines are made by crate journal_listing and written by crate command_list; here the volume is read.
+#![tactic(auto)]
+
 use journal::Rule;
 
-fn main() {
-    if os::arg_count() == 1 {
-        run(Rule::Plain);
+fn main(rt: HostRuntime) {
+    if command_io::arg_count(&rt) == 1 {
+        run(&rt, Rule::Plain);
         return;
     }
-    if os::arg_count() == 2 && command_io::is_argument(1, b"--profile") {
-        run(Rule::Profile);
+    if command_io::arg_count(&rt) == 2 && command_io::is_argument(&rt, 1, b"--profile") {
+        run(&rt, Rule::Profile);
         return;
     }
-    usage();
+    usage(&rt);
 }
 
 // By a rule.
-fn run(rule: Rule) {
+fn run(rt: &HostRuntime, rule: Rule) {
     let mut room = command_io::input_room();
-    let read = command_io::read_input(0, &mut room);
-    if read.failed {
-        os::fail(b"list: standard input");
+    let mut input = rt.stdin();
+    let read = command_io::read_input(&mut input, &mut room);
+    if let Some(e) = read.failed {
+        command_io::fail_system(rt, b"list: standard input", e);
         return;
     }
     let size = read.size;
-    command_list::print_listing(&room[..size], rule, b"list: standard output");
+    command_list::print_listing(rt, &room[..size], rule, b"list: standard output");
 }
 
 // The help, if it is what the first argument asks for; any other argument is wrong.
-fn usage() {
+fn usage(rt: &HostRuntime) {
     command_io::usage(
+        rt,
         b"usage: list [--profile] < VOLUME\n\
         Prints a line for each record of the volume: name, day, mark, mean, spread, then chance:limit for each chance.\n\
         The last line is the end state: whole or torn with records and committed bytes,\n\

@@ -1,0 +1,2 @@
+-- The program's proofs need no law of its own.
+-- Assumes nothing.

@@ -1,0 +1,2 @@
+-- No definitions: the program is thin over crate command.
+-- Assumes nothing.

@@ -1,0 +1,10 @@
+-- `asked_of` makes its rows from the last to the first.
+-- Assumes nothing.
+use Rattle.command_io.specs.Words.{bytes_of}
+use Rattle.command_io.specs.Options.{asked_of}
+use Rattle.command_io.proofs.options.asked_of.Goals as goal
+
+pub returns : goal.returns
+unfolding bytes_of asked_of
+returns c =
+    rw (c.command_if.ensures, c.command_if-rest1.ensures, c.command_if-rest2.ensures)

@@ -1,0 +1,10 @@
+-- `end_of` makes its rows from the last to the first.
+-- Assumes nothing.
+use Rattle.command_io.specs.Words.{bytes_of}
+use Rattle.command_io.specs.Options.{end_of}
+use Rattle.command_io.proofs.options.end_of.Goals as goal
+
+pub returns : goal.returns
+unfolding bytes_of end_of
+returns c =
+    rw (c.flag_if.ensures, c.flag_if-rest1.ensures, c.flag_if-rest2.ensures, c.dash_of-rest3.ensures)

@@ -1,0 +1,13 @@
+-- `put_torn` puts the number and whose end is torn.
+-- Assumes nothing.
+use Rattle.journal_listing.specs.Listing.{word_declined}
+use Rattle.journal_listing.proofs.Putting.{put_put, put_as}
+use Rattle.command_merge.specs.Verdict.{verdict_line}
+use Rattle.command_merge.proofs.Lines.{whose_line}
+use Rattle.command_merge.proofs.verdict.put_torn.Goals as goal
+
+pub returns : goal.returns
+unfolding verdict_line word_declined
+returns c =
+    let number = put_put _ _ _ _ _ _ _ _ c.put-p.ensures c.put_number-q.ensures in
+    put_as _ _ _ _ _ _ (whose_line _ _ _) (put_put _ _ _ _ _ _ _ _ number c.put_whose.ensures)

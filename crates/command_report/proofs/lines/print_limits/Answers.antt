@@ -1,0 +1,16 @@
+-- `print_limits` ends: each line leaves fewer limits. Nothing has to hold from line to line.
+-- Assumes nothing.
+use Rattle.std.proofs.Common.{arith}
+use Rattle.command_report.proofs.lines.print_limits.Goals as goal
+
+pub overflow_add-i : goal.overflow_add-i
+overflow_add-i c = omega arith
+
+pub loop-i-smaller : goal.loop-i-smaller
+loop-i-smaller c = omega arith
+
+pub loop-i-init : goal.loop-i-init
+loop-i-init c = tt
+
+pub loop-i-preserved : goal.loop-i-preserved
+loop-i-preserved c = tt
