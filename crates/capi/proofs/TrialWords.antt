@@ -1,7 +1,6 @@
 -- The words of the code's answers are those of the definition's.
 -- Assumes nothing.
 use mathlib.Core.Path.{◌≡◌, refl}
-use mathlib.Core.List.{replicate}
 use Rattle.journal_trial_spec.specs.Trial.{declined_at, damaged, declined, TrialResult, tried, untried, UnknownResult, unknown, uncounted}
 use Rattle.journal_trial.specs.Counting.{eight}
 use Rattle.journal_trial.specs.Answers.{padded, refused_by, answered_by}

@@ -14,8 +14,7 @@ ghost use Rattle.capi.specs.Append.{append_words, rule_of, handed_by, left_in};
 use journal::{Appended, Asked, Budget, Rule};
 use journal_index::{append_beside, append_log_beside};
 
-#[unsafe(no_mangle)]
-pub extern "C" fn journal_append(
+pub fn journal_append(
     v: &mut [u8],
     len: usize,
     day: u16,
@@ -33,8 +32,7 @@ pub extern "C" fn journal_append(
     put_words(a, out);
 }
 
-#[unsafe(no_mangle)]
-pub extern "C" fn journal_append_upto(
+pub fn journal_append_upto(
     v: &mut [u8],
     len: usize,
     day: u16,
@@ -53,8 +51,7 @@ pub extern "C" fn journal_append_upto(
     put_words(a, out);
 }
 
-#[unsafe(no_mangle)]
-pub extern "C" fn journal_append_log(
+pub fn journal_append_log(
     v: &mut [u8],
     len: usize,
     day: u16,
@@ -72,8 +69,7 @@ pub extern "C" fn journal_append_log(
     put_words(a, out);
 }
 
-#[unsafe(no_mangle)]
-pub extern "C" fn journal_append_log_upto(
+pub fn journal_append_log_upto(
     v: &mut [u8],
     len: usize,
     day: u16,
@@ -92,8 +88,7 @@ pub extern "C" fn journal_append_log_upto(
     put_words(a, out);
 }
 
-#[unsafe(no_mangle)]
-pub extern "C" fn journal_append_with(
+pub fn journal_append_with(
     v: &mut [u8],
     len: usize,
     day: u16,
@@ -118,8 +113,7 @@ pub extern "C" fn journal_append_with(
     put_words(a, out);
 }
 
-#[unsafe(no_mangle)]
-pub extern "C" fn journal_append_log_with(
+pub fn journal_append_log_with(
     v: &mut [u8],
     len: usize,
     day: u16,

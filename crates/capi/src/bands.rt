@@ -7,8 +7,7 @@ ghost use Rattle.capi.specs.Band.{band_words};
 use band::Answer;
 use double_bits::bits_of;
 
-#[unsafe(no_mangle)]
-pub extern "C" fn band_bits(times: &[u32], share: u32, out: &mut [u64; 3])
+pub fn band_bits(times: &[u32], share: u32, out: &mut [u64; 3])
     ensures { out.new ≡ band_words (band_of times.now share) }
 {
     let a = band::band(times, share);

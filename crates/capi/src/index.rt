@@ -7,8 +7,7 @@ ghost use Rattle.capi.specs.Index.{index_words};
 
 use journal_index::IndexMade;
 
-#[unsafe(no_mangle)]
-pub extern "C" fn journal_index(v: &[u8], len: usize, index: &mut [u8], out: &mut [u64; 3])
+pub fn journal_index(v: &[u8], len: usize, index: &mut [u8], out: &mut [u64; 3])
     ensures index_after { index.new ≡ (make_index_of (record { slice = v.now; len = len }) index.old).buffer }
     ensures out_after { out.new ≡ index_words (make_index_of (record { slice = v.now; len = len }) index.old).answer }
 {

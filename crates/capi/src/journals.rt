@@ -10,24 +10,21 @@ ghost use Rattle.capi.specs.Journal.{scan_words, part_words, mark_word};
 use journal::marks::letter_of;
 use journal::{Marked, Part, Rule, Status};
 
-#[unsafe(no_mangle)]
-pub extern "C" fn journal_scan(v: &[u8], len: usize, out: &mut [u64; 3])
+pub fn journal_scan(v: &[u8], len: usize, out: &mut [u64; 3])
     ensures { out.new ≡ scan_words (scan_of plain v.now len) }
 {
     let s = journal::scan(v, len);
     put_status(s, out);
 }
 
-#[unsafe(no_mangle)]
-pub extern "C" fn journal_part(v: &[u8], len: usize, i: usize, out: &mut [u64; 2])
+pub fn journal_part(v: &[u8], len: usize, i: usize, out: &mut [u64; 2])
     ensures { out.new ≡ part_words (part_place plain v.now len i) }
 {
     let p = journal::part_place(v, len, i);
     put_part(p, out);
 }
 
-#[unsafe(no_mangle)]
-pub extern "C" fn journal_mark(v: &[u8], len: usize, i: usize) -> u64
+pub fn journal_mark(v: &[u8], len: usize, i: usize) -> u64
     ensures { result ≡ mark_word (read_mark plain v.now len i) }
 {
     let m = journal::mark(v, len, i);
@@ -35,24 +32,21 @@ pub extern "C" fn journal_mark(v: &[u8], len: usize, i: usize) -> u64
 }
 
 // Request 2026-14's profile calls: a record that breaks the profile is a fault, number 19, at its first byte.
-#[unsafe(no_mangle)]
-pub extern "C" fn journal_profile_scan(v: &[u8], len: usize, out: &mut [u64; 3])
+pub fn journal_profile_scan(v: &[u8], len: usize, out: &mut [u64; 3])
     ensures { out.new ≡ scan_words (scan_of profile v.now len) }
 {
     let s = journal::scan_by(v, len, Rule::Profile);
     put_status(s, out);
 }
 
-#[unsafe(no_mangle)]
-pub extern "C" fn journal_profile_part(v: &[u8], len: usize, i: usize, out: &mut [u64; 2])
+pub fn journal_profile_part(v: &[u8], len: usize, i: usize, out: &mut [u64; 2])
     ensures { out.new ≡ part_words (part_place profile v.now len i) }
 {
     let p = journal::part_place_by(v, len, i, Rule::Profile);
     put_part(p, out);
 }
 
-#[unsafe(no_mangle)]
-pub extern "C" fn journal_profile_mark(v: &[u8], len: usize, i: usize) -> u64
+pub fn journal_profile_mark(v: &[u8], len: usize, i: usize) -> u64
     ensures { result ≡ mark_word (read_mark profile v.now len i) }
 {
     let m = journal::mark_by(v, len, i, Rule::Profile);

@@ -7,8 +7,7 @@ ghost use Rattle.capi.specs.Limit.{limit_words};
 use double_bits::bits_of;
 use limit::Answer;
 
-#[unsafe(no_mangle)]
-pub extern "C" fn limit_bits(form: u32, times: &[u32], chance: u32, out: &mut [u64; 5])
+pub fn limit_bits(form: u32, times: &[u32], chance: u32, out: &mut [u64; 5])
     ensures { out.new ≡ limit_words (limit_of form times.now chance) }
 {
     let a = limit::limit(form as u64, times, chance);

@@ -9,8 +9,7 @@ use journal::Rule;
 use journal_listing::Cursor;
 
 // Writes line i, counted from 0, as much of it as there is room for, and answers how many bytes that is: 0 where there is no such line.
-#[unsafe(no_mangle)]
-pub extern "C" fn journal_line(v: &[u8], i: usize, out: &mut [u8]) -> usize
+pub fn journal_line(v: &[u8], i: usize, out: &mut [u8]) -> usize
     ensures { Put out.old 0 (line_at i v.now) out.new result }
 {
     let cursor = cursor_before(v, i);

@@ -7,15 +7,7 @@ ghost use Rattle.capi.specs.Merge.{whose_word, merge_words};
 
 use journal_merge::{Merged, Whose};
 
-#[unsafe(no_mangle)]
-pub extern "C" fn journal_merge(
-    a: &[u8],
-    alen: usize,
-    b: &[u8],
-    blen: usize,
-    c: &mut [u8],
-    out: &mut [u64; 4],
-)
+pub fn journal_merge(a: &[u8], alen: usize, b: &[u8], blen: usize, c: &mut [u8], out: &mut [u64; 4])
     ensures c_after { c.new ≡ (merge_of a.now alen b.now blen c.old).buffer }
     ensures out_after { out.new ≡ merge_words (merge_of a.now alen b.now blen c.old).answer }
 {

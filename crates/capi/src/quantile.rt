@@ -7,22 +7,19 @@ ghost use Rattle.sqrt.specs.Sqrt.{sqrt_of};
 ghost use Rattle.pxfm.specs.Inverfc.{f_erfcinv_bits};
 ghost use Rattle.pxfm.specs.Inverf.{f_erfinv_bits};
 
-#[unsafe(no_mangle)]
-pub extern "C" fn sqrt_bits(x: u64) -> u64
+pub fn sqrt_bits(x: u64) -> u64
     ensures { result ≡ to_bits binary64 (sqrt_of (of_bits binary64 x)) }
 {
     sqrt::sqrt_bits(x)
 }
 
-#[unsafe(no_mangle)]
-pub extern "C" fn f_erfcinv_bits(x: u64) -> u64
+pub fn f_erfcinv_bits(x: u64) -> u64
     ensures { result ≡ f_erfcinv_bits x }
 {
     pxfm::err::inverfc::f_erfcinv_bits(x)
 }
 
-#[unsafe(no_mangle)]
-pub extern "C" fn f_erfinv_bits(x: u64) -> u64
+pub fn f_erfinv_bits(x: u64) -> u64
     ensures { result ≡ f_erfinv_bits x }
 {
     pxfm::err::inverf::f_erfinv_bits(x)

@@ -7,8 +7,7 @@ ghost use Rattle.capi.specs.Trial.{trial_words, words_of, unknown_words, words_o
 
 use journal_trial::{Answer, Trial, Unknown};
 
-#[unsafe(no_mangle)]
-pub extern "C" fn journal_trial(
+pub fn journal_trial(
     log: &[u8],
     v: &[u8],
     len: usize,
@@ -22,14 +21,7 @@ pub extern "C" fn journal_trial(
     put_trial(t, out);
 }
 
-#[unsafe(no_mangle)]
-pub extern "C" fn journal_trial_unknown(
-    log: &[u8],
-    v: &[u8],
-    len: usize,
-    index: &[u8],
-    out: &mut [u64; 3],
-)
+pub fn journal_trial_unknown(log: &[u8], v: &[u8], len: usize, index: &[u8], out: &mut [u64; 3])
     ensures { out.new ≡ unknown_words (try_unknown log.now v.now len index.now) }
 {
     let u = journal_trial::try_unknown(log, v, len, index);

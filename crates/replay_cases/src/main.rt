@@ -1,5 +1,7 @@
 // Replays stored cases of the journal's scan and reading: reads lines from standard input that put bytes into a buffer or
 // expect an answer, and compares each answer. The output's last line is the verdict.
+#![tactic(auto)]
+
 mod compare;
 mod line;
 mod store;
@@ -7,7 +9,8 @@ mod tally;
 
 ghost use Rattle.std.specs.Prelude.{◌≡◌, length};
 
-use replay_lines::{Tally, print, print_verdict};
+use replay_lines::{Tally, print, print_verdict, read_full};
+use std::env::{Env, FillError};
 use tally::tally_chunk;
 
 pub(crate) const PROGRAM: [u8; 12] = *b"replay_cases";
@@ -19,21 +22,32 @@ struct Turn {
     more: bool,
 }
 
-fn main() {
-    if os::arg_count() > 1 {
-        print(&PROGRAM, b"usage: replay_cases < CASES\n");
+fn main(rt: HostRuntime) {
+    if has_words(&rt) {
+        print(&rt, &PROGRAM, b"usage: replay_cases < CASES\n");
         print(
+            &rt,
             &PROGRAM,
             b"A line is as tools/make-cases writes it: bytes for the buffer, or a question and its answer.\n",
         );
         return;
     }
-    print_verdict(&PROGRAM, replay());
+    print_verdict(&rt, &PROGRAM, replay(&rt));
+}
+
+// Whether the program was given a word.
+fn has_words(rt: &HostRuntime) -> bool {
+    let mut first = [0u8; 1];
+    match rt.arg(1, &mut first) {
+        Ok(_) => true,
+        Err(FillError::TooLong) => true,
+        Err(FillError::NotPresent) => false,
+    }
 }
 
 // Reads to the end of the input. A proved loop has to end, and nothing says that an input does:
 // the turns count down from a number that no run uses up.
-fn replay() -> Tally {
+fn replay(rt: &HostRuntime) -> Tally {
     let mut turn = Turn {
         tally: Tally::ZERO,
         more: true,
@@ -42,17 +56,17 @@ fn replay() -> Tally {
     let mut turns = u64::MAX;
     while turns > 0 && turn.more {
         let tally = turn.tally;
-        turn = replay_some(tally, &mut v);
+        turn = replay_some(rt, tally, &mut v);
         turns -= 1;
     }
     turn.tally
 }
 
 // Reads as many lines as the buffer holds, all but the last time.
-fn replay_some(t: Tally, v: &mut [u8]) -> Turn {
+fn replay_some(rt: &HostRuntime, t: Tally, v: &mut [u8]) -> Turn {
     let mut buf = lines_buffer();
-    let n = io::read_full(0, &mut buf);
-    let tally = tally_chunk(&buf[..n], v, t);
+    let n = read_full(rt, &mut buf);
+    let tally = tally_chunk(rt, &buf[..n], v, t);
     Turn {
         tally,
         more: n == 4032,

@@ -10,7 +10,7 @@ use crate::store::store;
 use replay_lines::{Tally, compared_more, line_end, malformed_more, print, print_malformed};
 
 // The lines of a chunk, one after another; the last may be cut short, and is malformed then.
-pub(crate) fn tally_chunk(chunk: &[u8], v: &mut [u8], t: Tally) -> Tally
+pub(crate) fn tally_chunk(rt: &HostRuntime, chunk: &[u8], v: &mut [u8], t: Tally) -> Tally
     ensures value { result ≡ (replayed chunk.now v.old t).tally }
     ensures v_after { v.new ≡ (replayed chunk.now v.old t).bytes }
 {
@@ -23,7 +23,7 @@ pub(crate) fn tally_chunk(chunk: &[u8], v: &mut [u8], t: Tally) -> Tally
         let compared = compare(line, a, v);
         store(a, v);
         tally = count(tally, compared);
-        show(tally, line, compared);
+        show(rt, tally, line, compared);
         at = end;
     }
     tally
@@ -42,16 +42,16 @@ fn count(t: Tally, c: Compared) -> Tally
 }
 
 // Writes the line out unless it is as expected.
-fn show(t: Tally, line: &[u8], c: Compared) {
+fn show(rt: &HostRuntime, t: Tally, line: &[u8], c: Compared) {
     match c {
         Compared::Stored => {}
         Compared::Same => {}
         Compared::Differs => {
-            print(&PROGRAM, b"differs: ");
-            print(&PROGRAM, line);
+            print(rt, &PROGRAM, b"differs: ");
+            print(rt, &PROGRAM, line);
         }
         Compared::Malformed => {
-            print_malformed(&PROGRAM, t);
+            print_malformed(rt, &PROGRAM, t);
         }
     }
 }

@@ -1,5 +1,7 @@
 // What the programs that replay stored lines share: where a line ends, the numbers in it, the tally of lines,
 // the end of the input, and what they print. No public function has a `requires`.
+#![tactic(auto)]
+
 mod count;
 mod field;
 mod input;
@@ -9,7 +11,7 @@ mod tally;
 
 pub use count::one_more;
 pub use field::{Field, number_at};
-pub use input::input_ended;
+pub use input::{input_ended, read_full};
 pub use place::line_end;
 pub use report::{is_read_to_end, print, print_malformed, print_number, print_verdict};
 pub use tally::{Tally, compared_more, malformed_more};

@@ -1,10 +1,9 @@
 -- Where all bits are compared, a line is beyond its bound, which is 0, exactly if the bits differ; and the mirror's never do. Assumes nothing.
-use Rattle.std.proofs.Common.{◌≡◌, ℕ, ◌+◌, ◌-◌, ◌*◌, ◌/◌, ◌^◌, ◌<◌, true, false, not, eqb, ltb, sym, refl, ◌∙◌, arith, ltb-false, ltb-true, le-ltb, lt-ltb, eq-eqb, eqb-true}
+use Rattle.std.proofs.Common.{◌≡◌, ℕ, ◌+◌, ◌-◌, ◌*◌, ◌/◌, ◌^◌, ◌<◌, true, false, not, eqb, ltb, refl, arith, ltb-false, ltb-true, le-ltb, lt-ltb, eq-eqb, eqb-true}
 use borrow.Author.Tests.{eqb-false}
 use Rattle.facts.proofs.Tests.{by_test_lem}
 use Rattle.facts.proofs.Orders.{by_order}
 use Rattle.pxfm.specs.Inverfc.{f_erfcinv_bits}
-use Rattle.law_mirror.specs.Mirror.{flip_sign, mirror_bits}
 use Rattle.law_mirror.proofs.Patterns.{mirror_patterns}
 use Rattle.replay_numbers.specs.Numbers.{distance_of, steps_above, steps_below, ten_thousandths, answer_of, value_of, measured_at, NeverDiffers}
 

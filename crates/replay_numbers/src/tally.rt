@@ -15,7 +15,7 @@ pub(crate) struct Groups {
 }
 
 // The lines of a chunk, one after another; the last may be cut short, and is malformed then.
-pub(crate) fn tally_chunk(chunk: &[u8], t: Groups) -> Groups
+pub(crate) fn tally_chunk(rt: &HostRuntime, chunk: &[u8], t: Groups) -> Groups
     ensures { result.all ≡ tallied chunk.now t.all }
 {
     let mut tally = t;
@@ -24,7 +24,7 @@ pub(crate) fn tally_chunk(chunk: &[u8], t: Groups) -> Groups
         let end = line_end(at, 45, chunk.len());
         let measured = measure(&chunk[at..end]);
         tally = count(tally, measured);
-        show(measured);
+        show(rt, measured);
         at = end;
     }
     tally

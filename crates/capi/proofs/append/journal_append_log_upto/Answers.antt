@@ -1,0 +1,11 @@
+-- `journal_append_log_upto` hands the slice on and has the words of the answer written.
+-- Assumes nothing.
+use Rattle.capi.proofs.AppendOutcome.{outcome_told}
+use Rattle.capi.proofs.append.journal_append_log_upto.Goals as goal
+
+pub returns : goal.returns
+returns c =
+    let called = c.append_log_upto-a in
+    let told = outcome_told _ called.result _ _ _ called.ensures c.put_words.ensures
+    in
+    record { v_after = told.0; out_after = told.1 }
