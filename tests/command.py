@@ -1,21 +1,18 @@
 """The command as these tests start it, quickly: its words, its input from a file, what it prints and says, its exit status.
 
-The one program is target/awaqlla, of command/awaqlla.c and the crates command_..; a preloaded library needs it linked with the machine's C library,
-which `dynamic` does. Where there is no command/awaqlla.c, the programs of target/bin stand for it, and these have no exit status."""
+The one program is target/awaqlla, of crate awaqlla and the crates command_..; a preloaded library needs it linked with the machine's C library, which
+`dynamic` does."""
 
 import os
 import signal
 import subprocess
 import sys
 
-from checking import TOP, build, read
+from checking import TOP, read
 
 TRIED = os.environ.get("AWAQLLA_TRIED")  # another program to be tried in its place, linked with the machine's C library: tools/mutants makes one
 STOPS = "AWAQLLA_STOPS" in os.environ  # the test is over at the first case with something wrong
-IS_ONE = bool(TRIED) or os.path.exists(os.path.join(TOP, "command", "awaqlla.c"))
-AWAQLLA = TRIED or os.path.join(TOP, "target" if IS_ONE else "", "awaqlla")
-PARTS = {"slots": ["report", "slots"], "record": ["report", "record"]}
-PROGRAMS = ("append", "list", "survey", "index", "merge", "trial", "report")
+AWAQLLA = TRIED or os.path.join(TOP, "target", "awaqlla")
 WAIT = 10  # seconds after which a run counts as hanging
 
 
@@ -35,21 +32,16 @@ def made(*words):
 
 def ready():
     """Builds the command where it is missing or old."""
-    if not IS_ONE:
-        build(*PROGRAMS)
-    elif not TRIED:
+    if not TRIED:
         made(os.path.join(TOP, "tools", "program"))
 
 
 def dynamic():
-    """What stands before a command's other words: the same objects as the program's, linked so that a library can be preloaded."""
+    """What stands before a command's other words: the same object as the program's, linked so that a library can be preloaded."""
     ready()
-    if not IS_ONE:
-        return lambda name: [os.path.join(TOP, "target", "bin", word) if i == 0 else word for i, word in enumerate(PARTS.get(name, [name]))]
     path = TRIED or os.path.join(TOP, "target", "awaqlla-dynamic")
     if not TRIED:
-        kit = os.path.dirname(os.path.dirname(made("rt", "doc").strip()))
-        made("cc", "-std=gnu99", "-O2", "-o", path, "command/awaqlla.c", "target/staticlib/libcommand.a", os.path.join(kit, "lib", "libos_c.a"))
+        made(os.path.join(TOP, "tools", "program"), path)
     return lambda name: [path, name]
 
 

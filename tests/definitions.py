@@ -5,7 +5,7 @@ and whole numbers with + - *. The operations on doubles are those of tools/recom
 """
 import re
 
-TOKEN = re.compile(r"\s+(\.\w+)|\s*(0x[0-9a-f_]+|\d[\d_]*|\w+|\[\]|∷|\+\+|\|\||&&|[()={};*+-])")
+TOKEN = re.compile(r"(\.\w+)|\s*(0x[0-9a-f_]+|\d[\d_]*|\w+'*|\[\]|∷|\+\+|\|\||&&|==|[()={};*+-])")
 FIELDS = {"lo": 0, "hi": 1}
 
 
@@ -25,7 +25,7 @@ def tokens(text):
 class Parser:
     """Expressions as tuples: ("let", name, value, body), ("call", head, arguments), ("field", of, name), ("op", sign, left, right) .."""
 
-    RANKS = (("∷", "++"), ("||",), ("&&",), ("+", "-"), ("*",))
+    RANKS = (("∷", "++"), ("||",), ("&&",), ("==",), ("+", "-"), ("*",))
 
     def __init__(self, text):
         self.left = tokens(text)[::-1]
@@ -63,15 +63,18 @@ class Parser:
     def application(self):
         head = self.atom()
         arguments = []
-        while self.peek() is not None and re.match(r"[.\w(]|\[\]", self.peek()) and self.peek() not in ("in", "let"):
-            if self.peek().startswith("."):
-                head = ("field", ("call", head, arguments) if arguments else head, self.next()[1:])
-                arguments = []
-            else:
-                arguments.append(self.atom())
+        while self.peek() is not None and re.match(r"[\w(]|\[\]", self.peek()) and self.peek() not in ("in", "let"):
+            arguments.append(self.atom())
         return ("call", head, arguments) if arguments else head
 
     def atom(self):
+        """An argument, with the projections that are written tight behind it."""
+        found = self.bare()
+        while self.peek() is not None and self.peek().startswith("."):
+            found = ("field", found, self.next()[1:])
+        return found
+
+    def bare(self):
         token = self.next()
         if token == "(":
             inner = self.expression()
@@ -116,25 +119,29 @@ class Definitions:
             "mul": lambda _, x, y: r.mul(x, y),
             "div": lambda _, x, y: r.div(x, y),
             "neg": lambda x: r.negated(x),
-            "sqrtOf": lambda x: r.root(x),
+            "sqrt_of": lambda x: r.root(x),
             "lt": lambda x, y: r.less(x, y),
             "le": lambda x, y: r.at_most(x, y),
             "eq": lambda x, y: r.equal(x, y),
             "eqb": lambda m, n: m == n,
             "leb": lambda m, n: m <= n,
             "ltb": lambda m, n: m < n,
-            "firstOf": lambda numbers: next((n for n in numbers if n), 0),
-            "ofBits": lambda _, bits: bits,
-            "toBits": lambda _, x: x,
-            "ofInt": lambda _, n: r.double(n),
+            "first_of": lambda numbers: next((n for n in numbers if n), 0),
+            "nat_le": lambda m, n: m <= n,
+            "nat_lt": lambda m, n: m < n,
+            "of_bits": lambda _, bits: bits,
+            "from_bits": lambda _, bits: bits,
+            "to_bits": lambda _, x: x,
+            "of_int": lambda _, n: r.double(n),
             "pos": lambda n: n,
-            "getD": lambda entries, i, default: entries[i] if i < len(entries) else default,
-            "scaledOf": lambda b: {"m": b, "e": b},
-            "indexOf": lambda b: r.reduction(b)[0],
-            "reducedOf": lambda b: r.reduction(b)[1],
-            "exponentOf": lambda b, _: r.reduction(b)[2],
-            "fErfcinv": lambda x: r.quantile(x),
-            "fErfinv": lambda x: r.inverse(x),
+            "slice_index_or": lambda entries, i, default: entries[i] if i < len(entries) else default,
+            "get_or": lambda entries, i, default: entries[i] if i < len(entries) else default,
+            "scaled_of": lambda b: {"m": b, "e": b},
+            "index_of": lambda b: r.reduction(b)[0],
+            "reduced_of": lambda b: r.reduction(b)[1],
+            "exponent_of": lambda b, _: r.reduction(b)[2],
+            "f_erfcinv": lambda x: r.quantile(x),
+            "f_erfinv": lambda x: r.inverse(x),
             "binary64": None,
             "nan": None,
         }
@@ -192,4 +199,6 @@ class Definitions:
             return [left] + right
         if sign == "++":
             return left + right
+        if sign == "==":
+            return left == right
         return {"+": left + right, "-": left - right, "*": left * right}[sign]

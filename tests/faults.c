@@ -307,6 +307,15 @@ OF_PATH(chmod, "fchmod", WITH mode_t mode, WITH mode)
 OF_PATH(stat, "stat", WITH struct stat *status, WITH status)
 OF_PATH(lstat, "stat", WITH struct stat *status, WITH status)
 
+/* What stands at a name; of an open file where the path is empty. */
+int statx(int folder, const char *path, int flags, unsigned int mask, struct statx *status)
+{
+    NEXT("statx", int, int, const char *, int, unsigned int, struct statx *);
+    if ((*path ? turn("stat", path, 'p', path) : turn_of("fstat", folder)) == REFUSE)
+        return -1;
+    return next(folder, path, flags, mask, status);
+}
+
 #define OF_PATHS(name, word, parameters, ...)                                            \
     int name(int folder, const char *path, int other, const char *to parameters)         \
     {                                                                                    \

@@ -7,8 +7,10 @@ import re
 from typing import NamedTuple, Optional
 
 HEAD = re.compile(r"# ([a-z_0-9]+)(?: \(([^ ()]+\.[^ ().]+)\))?: ")
-# Errors that only say that something before failed, or that the proof no longer fits the code.
-ECHO = re.compile("so this cannot be checked|has no .Need|has no field")
+# Errors that only say that something before failed, or that the proof names a goal which the code no longer has.
+ECHO = re.compile("so this cannot be checked|has no field|has no `|is not in scope|was rejected|not admitted|not checked|exports no")
+# What rt prints of an edit, and where the first error stands.
+TRIED = re.compile(r"rt: must-fail ([a-z_0-9]+)/([A-Za-z0-9_.-]+\.edit): ((?:refused, as it must be|NOT REFUSED|NOT TRIED|BAD EDIT).*)")
 
 
 class Wrong(NamedTuple):
@@ -55,16 +57,20 @@ def paragraphs(path):
 
 
 def said_in(log):
-    """What has an error of its own in a log of the prover: FILE.LAW, or 'fn FUNCTION' where no proof was found."""
-    found = set()
+    """What has an error of its own in a log of the prover: FILE.LAW, or 'fn FUNCTION' where a goal that the code has now was left open."""
+    found, is_open = set(), False
     for line in log.splitlines():
         error = re.match(r"\S*/proofs/(\S*)\.antt:\d*:\d*: error:* (.*)", line)
         if error and not ECHO.search(line):
             law = re.match("`([^`]*)`: ", error.group(2))
             found.add(f"{error.group(1)}.{law.group(1)}".split(" ")[0] if law else error.group(1))
-        unproved = re.match(r"fn \S*::([a-z_0-9]*): no proof: .*does not close", line)
-        if unproved:
+        if re.match(r"note: src/\S+: it is not proved that ", line):
+            is_open = True
+        unproved = re.match(r"fn \S*?([a-z_0-9]*): (not proved|no proof: .*did not prove)", line)
+        if unproved and (is_open or unproved.group(2) != "not proved"):
             found.add("fn " + unproved.group(1))
+        if line.startswith("fn "):
+            is_open = False
     return sorted(found)
 
 
@@ -72,4 +78,4 @@ def refuses(said, wrong):
     """Whether what was said is an error of the law that is named, or of the function's own proof."""
     if wrong.law:
         return wrong.law in said
-    return any(line == "fn " + wrong.name or re.fullmatch(rf"(.*/)?{wrong.name}/Proof(\..*)?", line) for line in said)
+    return any(line == "fn " + wrong.name or re.fullmatch(rf"(.*/)?{wrong.name}/(Proof|Answers|Invariants)(\..*)?", line) for line in said)

@@ -1,4 +1,4 @@
-// The archive of crate capi without the library's guard, which sets the floating-point environment around each call: the port is timed by it beside the
+// The archive of crate capi_c without the library's guard, which sets the floating-point environment around each call: the port is timed by it beside the
 // Rust, which has no guard either. And what the guard costs: the same functions through the archive and through the library.
 
 use crate::{call_bits, drawn, race, OnBits, CALLS};

@@ -1,4 +1,4 @@
-// Our functions: the library's calls, as the crate awaqlla has them, and what the archive of crate capi_port exports.
+// Our functions: the library's calls, as the crate awaqlla has them, and what the archive of crate capi_port_c exports.
 // Nothing checks the declaration against that crate, which rules.
 
 #[path = "../awaqlla/src/calls.rs"]
