@@ -1,0 +1,2 @@
+-- The definitions that the contracts cite: the papers' number for each refusal.
+pub mod Refusals
