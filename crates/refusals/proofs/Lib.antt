@@ -1,0 +1,2 @@
+-- Laws on the refusals' numbers.
+pub mod Numbers
