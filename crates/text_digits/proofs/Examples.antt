@@ -2,7 +2,8 @@
 use mathlib.Core.Path.{◌≡◌, refl}
 use mathlib.Core.List.{[], ◌∷◌}
 use Rattle.text_digits.specs.Hex.{glyph_of, digits, hex_digits, or_more, places_in, places_of, decimal_digits, digit_of, after_digit, read_digits, read_hex}
-use Rattle.text_digits.specs.declared.read.Number.TheVariants as N
+use Rattle.std.specs.Prelude.{Ok, Err}
+use Rattle.text_digits.specs.declared.read.HexError.TheVariants as H
 
 -- 4059000000000000, the bits of 100
 hundred : hex_digits 16 0x4059000000000000
@@ -21,14 +22,14 @@ unfolding digits glyph_of or_more places_in places_of decimal_digits
 nought = refl
 
 -- "7fF": the capital F at place 2 is no digit; two digits are 127; four are too many for the bytes
-capital : read_hex (55 ∷ 102 ∷ 70 ∷ []) 0 3 ≡ N.NoDigit 2
+capital : read_hex (55 ∷ 102 ∷ 70 ∷ []) 0 3 ≡ Err (H.NoDigit 2)
 unfolding read_hex read_digits after_digit digit_of
 capital = refl
 
-two : read_hex (55 ∷ 102 ∷ 70 ∷ []) 0 2 ≡ N.Value 127
+two : read_hex (55 ∷ 102 ∷ 70 ∷ []) 0 2 ≡ Ok 127
 unfolding read_hex read_digits after_digit digit_of
 two = refl
 
-short : read_hex (55 ∷ 102 ∷ 70 ∷ []) 0 4 ≡ N.Short
+short : read_hex (55 ∷ 102 ∷ 70 ∷ []) 0 4 ≡ Err H.Short
 unfolding read_hex
 short = refl

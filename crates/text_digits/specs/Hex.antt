@@ -1,10 +1,8 @@
 -- Numbers as digits of ASCII, at any width and base: what is written, and what reading gives or refuses.
 -- Assumes nothing.
-use Rattle.std.specs.Prelude.{ℕ, zero, suc, ◌+◌, ◌-◌, ◌*◌, ◌/◌, ◌%◌, Bool, true, false, cond, List, [], ◌∷◌, ◌++◌, leb, ltb, length, get_or, drop, replicate}
-use Rattle.text_digits.specs.declared.digit.Digit.{Digit}
-use Rattle.text_digits.specs.declared.digit.Digit.TheVariants as D
-use Rattle.text_digits.specs.declared.read.Number.{Number}
-use Rattle.text_digits.specs.declared.read.Number.TheVariants as N
+use Rattle.std.specs.Prelude.{ℕ, zero, suc, ◌+◌, ◌-◌, ◌*◌, ◌/◌, ◌%◌, Bool, true, false, cond, List, [], ◌∷◌, ◌++◌, leb, ltb, length, get_or, drop, replicate, Option, Some, None, Result, Ok, Err}
+use Rattle.text_digits.specs.declared.read.HexError.{HexError}
+use Rattle.text_digits.specs.declared.read.HexError.TheVariants as H
 use Rattle.text_digits.specs.declared.write.Decimal.{Decimal}
 
 -- the ASCII code of a digit below 16: 0 to 9, then a to f
@@ -43,27 +41,27 @@ unfoldable pub decimal_of : ℕ → Decimal
 decimal_of n = record { digits = decimal_digits n ++ drop (places_of n) (replicate 20 0); count = places_of n }
 
 -- the value of the lowercase hexadecimal digit with the ASCII code c
-unfoldable pub digit_of : ℕ → Digit
+unfoldable pub digit_of : ℕ → Option ℕ
 digit_of c =
-    cond (ltb c 48) D.Other
-    (cond (ltb c 58) (D.Value (c - 48))
-    (cond (ltb c 97) D.Other
-    (cond (ltb c 103) (D.Value (c - 87))
-    D.Other)))
+    cond (ltb c 48) None
+    (cond (ltb c 58) (Some (c - 48))
+    (cond (ltb c 97) None
+    (cond (ltb c 103) (Some (c - 87))
+    None)))
 
 -- a digit's value goes on, anything else is refused with its place
-unfoldable pub after_digit : Digit → ℕ → (ℕ → Number) → Number
-after_digit (D.Value d) place next = next d
-after_digit D.Other place next = N.NoDigit place
+unfoldable pub after_digit : Option ℕ → ℕ → (ℕ → Result ℕ HexError) → Result ℕ HexError
+after_digit (Some d) place next = next d
+after_digit None place next = Err (H.NoDigit place)
 
 -- the number that k hexadecimal digits from a place on make, behind the number n of those before them
-unfoldable pub read_digits : ℕ → List ℕ → ℕ → ℕ → Number
-read_digits zero s place n = N.Value n
+unfoldable pub read_digits : ℕ → List ℕ → ℕ → ℕ → Result ℕ HexError
+read_digits zero s place n = Ok n
 read_digits (suc k) s place n = after_digit (digit_of (get_or s place 0)) place (λ d. read_digits k s (place + 1) (n * 16 + d))
 
 -- the number in `width` hexadecimal digits from a place on: too wide above 16 digits, short where the bytes run out
-unfoldable pub read_hex : List ℕ → ℕ → ℕ → Number
+unfoldable pub read_hex : List ℕ → ℕ → ℕ → Result ℕ HexError
 read_hex s place width =
-    cond (ltb 16 width) N.TooWide
+    cond (ltb 16 width) (Err H.TooWide)
     (cond (leb (place + width) (length s)) (read_digits width s place 0)
-    N.Short)
+    (Err H.Short))

@@ -3,45 +3,26 @@
 ghost use Rattle.std.specs.Prelude.{◌≡◌, ◌<◌};
 ghost use Rattle.text_digits.specs.Hex.{glyph_of, digit_of};
 
-// A byte as a hexadecimal digit.
-#[derive(Clone, Copy)]
-pub enum Digit {
-    Value(u64),
-    Other,
-}
-
-// The value of a digit, or that the byte is none.
-pub fn digit_of(c: u8) -> Digit
+// The value of a byte as a hexadecimal digit, where it is one.
+#[tactic(auto, unfolding(crate::specs::Hex::digit_of))]
+pub fn digit_of(c: u8) -> Option<u64>
     ensures { result ≡ digit_of c }
 {
-    if c < 48 {
-        return Digit::Other;
+    match c {
+        b'0'..=b'9' => Some(u64::from(c - b'0')),
+        b'a'..=b'f' => Some(u64::from(c - b'a') + 10),
+        _ => None,
     }
-    if c < 58 {
-        return Digit::Value(wide(c) - 48);
-    }
-    if c < 97 {
-        return Digit::Other;
-    }
-    if c < 103 {
-        return Digit::Value(wide(c) - 87);
-    }
-    Digit::Other
 }
 
 // The code of a digit.
+#[tactic(auto, unfolding(crate::specs::Hex::glyph_of))]
 pub(crate) fn glyph(d: u64) -> u8
     requires { d < 16 }
     ensures { result ≡ glyph_of d }
 {
     if d < 10 {
-        return 48 + d as u8;
+        return b'0' + d as u8;
     }
-    87 + d as u8
-}
-
-fn wide(c: u8) -> u64
-    ensures { result ≡ c }
-{
-    c as u64
+    b'a' + (d - 10) as u8
 }

@@ -9,7 +9,7 @@ mod text;
 mod write;
 
 pub use compare::same;
-pub use digit::{Digit, digit_of};
-pub use read::{Number, read_hex};
+pub use digit::digit_of;
+pub use read::{HexError, read_hex};
 pub use text::{put, put_decimal};
 pub use write::{Decimal, decimal_into, decimal_of, hex_into, hex_of};

@@ -3,12 +3,11 @@
 ghost use Rattle.std.specs.Prelude.{◌≡◌, ◌+◌, ◌≤◌, length};
 ghost use Rattle.text_digits.specs.Hex.{read_hex, read_digits};
 
-use crate::digit::{Digit, digit_of};
+use crate::digit::digit_of;
 
-// What stands at a place.
-#[derive(Clone, Copy)]
-pub enum Number {
-    Value(u64),
+// Why no number was read.
+#[derive(Clone, Copy, Debug, PartialEq, Eq)]
+pub enum HexError {
     // more digits were asked for than a u64 has
     TooWide,
     // the bytes run out before the last digit
@@ -18,38 +17,30 @@ pub enum Number {
 }
 
 // The number in `width` digits from a place on.
-pub fn read_hex(s: &[u8], place: usize, width: usize) -> Number
+#[tactic(auto, unfolding(crate::specs::Hex::read_hex))]
+pub fn read_hex(s: &[u8], place: usize, width: usize) -> Result<u64, HexError>
     ensures { result ≡ read_hex s.now place width }
 {
     if width > 16 {
-        return Number::TooWide;
+        return Err(HexError::TooWide);
     }
-    if s.len() < width {
-        return Number::Short;
-    }
-    if s.len() - width < place {
-        return Number::Short;
+    if s.len() < width || s.len() - width < place {
+        return Err(HexError::Short);
     }
     digits_from(s, place, width)
 }
 
 // The digits one after another, where they all stand in the slice and fit a u64.
-fn digits_from(s: &[u8], place: usize, width: usize) -> Number
+fn digits_from(s: &[u8], place: usize, width: usize) -> Result<u64, HexError>
     requires { (width ≤ 16) × (place + width ≤ length s.now) }
     ensures { result ≡ read_digits width s.now place 0 }
 {
     let mut n: u64 = 0;
-    let mut at = place;
-    let mut left = width;
-    while left > 0 {
-        match digit_of(s[at]) {
-            Digit::Value(d) => {
-                n = n * 16 + d;
-                at += 1;
-                left -= 1;
-            }
-            Digit::Other => return Number::NoDigit(at),
-        }
+    for at in place..place + width {
+        let Some(d) = digit_of(s[at]) else {
+            return Err(HexError::NoDigit(at));
+        };
+        n = n * 16 + d;
     }
-    Number::Value(n)
+    Ok(n)
 }

@@ -6,6 +6,7 @@ ghost use Rattle.text_digits.specs.Hex.{digits, hex_digits, places_of, decimal_o
 use crate::digit::glyph;
 
 // A number's decimal digits at the start of an array, zeros behind them, and their number.
+// They stand so, with their number beside them, since the libraries use no heap.
 #[derive(Clone, Copy)]
 pub struct Decimal {
     pub digits: [u8; 20],
@@ -53,7 +54,7 @@ fn places(n: u64) -> usize
     let mut count: usize = 1;
     let mut rest = n;
     while rest >= 10 {
-        rest = rest / 10;
+        rest /= 10;
         count += 1;
     }
     count
@@ -64,11 +65,9 @@ fn spell(n: u64, base: u64, out: &mut [u8])
     requires { (0 < base) × (base ≤ 16) }
     ensures { out.new ≡ digits base (length out.old) n }
 {
-    let mut i = out.len();
     let mut rest = n;
-    while i > 0 {
-        i -= 1;
+    for i in (0..out.len()).rev() {
         out[i] = glyph(rest % base);
-        rest = rest / base;
+        rest /= base;
     }
 }
