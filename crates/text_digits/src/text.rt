@@ -1,5 +1,6 @@
 // Bytes put into a lent line, one text behind another.
 // What has no room is left out, so that any line and any place are fine.
+ghost use Rattle.std.specs.Prelude.{◌≡◌, ◌-◌, min};
 ghost use Rattle.text_digits.specs.Hex.{decimal_digits};
 ghost use Rattle.text_digits.specs.Text.{Put};
 
@@ -10,12 +11,18 @@ use crate::write::decimal_of;
 pub fn put(line: &mut [u8], place: usize, text: &[u8]) -> usize
     ensures { Put line.old place text.now line.new result }
 {
-    let room = line.len().saturating_sub(place);
-    let count = text.len().min(room);
+    let count = room_for(line.len(), place, text.len());
     if count > 0 {
         line[place..place + count].copy_from_slice(&text[..count]);
     }
     place + count
+}
+
+// How many of the wanted bytes have room from a place on.
+fn room_for(size: usize, place: usize, wanted: usize) -> usize
+    ensures { result ≡ min wanted (size - place) }
+{
+    wanted.min(size.saturating_sub(place))
 }
 
 // Puts the decimal digits of a number, with no zero in front.
