@@ -3,7 +3,7 @@
 use mathlib.Core.Path.{◌≡◌, sym, ap, ◌∙◌}
 use Prim.Native.Nat.{ℕ, ◌+◌, ◌-◌}
 use mathlib.Core.List.{List, ◌∷◌}
-use native.Mathlib.Omega.{arith}
+use native.Mathlib.Nat.{zero-add}
 use lib.ListN.{length, take, drop, length-drop}
 use lib.Seq.{take-length}
 use Rattle.journal_spec.specs.Record.{Record, record_bytes}
@@ -19,7 +19,7 @@ module _ (b : List ℕ) (at : ℕ) (r : Record) (rs : List Record) (c : Cursor b
 
   pub front_size : record_size (drop at b) ≡ length (record_bytes r)
   unfolding record_size
-  front_size = omega (arith, here.next)
+  front_size = here.next ∙ zero-add (length (record_bytes r))
 
   pub front_name : record_name (drop at b) ≡ r.name
   unfolding record_name spans_at

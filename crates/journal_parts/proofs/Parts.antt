@@ -5,6 +5,7 @@ use Prim.Native.Nat.{ℕ, ◌+◌, ◌*◌, ◌-◌, ◌^◌, ◌≤◌, ◌<◌
 use mathlib.Core.List.{List, [], ◌∷◌, ◌++◌, append_assoc}
 use mathlib.Core.Bool.{true}
 use native.Mathlib.Omega.{arith}
+use Rattle.std.proofs.Common.{Some}
 use lib.ListN.{length, take, drop, length-append, length-drop}
 use lib.Seq.{take_at, drop_at, drop-drop}
 use Rattle.journal_spec.specs.Bytes.{bytes_of, number_at, joined}
@@ -19,9 +20,10 @@ use Rattle.journal_spec.proofs.Ranged.{reads_back, encoding_length}
 use Rattle.journal_spec.proofs.Pieces.{number_at_lem, name_bytes}
 use Rattle.journal_spec.proofs.Cursor.{Cursor}
 use Rattle.journal_parts.specs.Plain.{unjudged, plain_record_at}
-use Rattle.journal_parts.specs.Spans.{form_at, day_at, head_at, span_with, span_at, span_after, name_span, spans_at, part_of, record_in, span_of, spans_of}
+use Rattle.journal_parts.specs.Spans.{form_at, day_at, head_at, span_with, span_at, span_after, name_span, spans_at, all_of, next_of, part_of, record_in, span_of, sections_of, spans_of}
 use Rattle.journal_parts.specs.declared.spans.Span.{Span}
 use Rattle.journal_parts.specs.declared.spans.Spans.{Spans}
+use Rattle.journal_parts.specs.declared.spans.Sections.{Sections}
 use Rattle.journal_parts.proofs.Plainly.{plain_finds}
 use Rattle.journal_parts.proofs.Reached.{span_stands, head_stands, record_stands}
 use Rattle.journal_parts.proofs.Insides.{part_inside}
@@ -60,9 +62,9 @@ pieces at b x xs rest n next e h k =
 
 -- at a place: its span, and its bytes
 record SpanHere (w at : ℕ) (b xs : List ℕ) : Type 0 where
-  span : span_at w at b ≡ span_of w at xs
+  span : span_at w at b ≡ Some (span_of w at xs)
   inside : at + 2 + length xs * w ≤ length b
-  part : part_of (span_of w at xs) b ≡ number_bytes w xs
+  part : part_of (Some (span_of w at xs)) b ≡ number_bytes w xs
 
 module _ (w at : ℕ) (b xs rest : List ℕ) (low : at ≤ length b) (e : drop at b ≡ section_bytes w xs ++ rest) where
   section_inside : at + 2 + length xs * w ≤ length b
@@ -85,7 +87,7 @@ module _ (w at : ℕ) (b xs rest : List ℕ) (low : at ≤ length b) (e : drop a
       let n = section_count h in
       let size : at + 2 + length xs * w - (at + 2) ≡ length xs * w = omega arith in
       record {
-        span = span_stands w at b (rw n section_inside) ∙ ap (span_with w at) n;
+        span = span_stands w at b (rw n section_inside) ∙ ap (λ (k : ℕ). Some (span_with w at k)) n;
         inside = section_inside;
         part = part_inside (span_with w at (length xs)) b (omega arith) section_inside
             ∙ rw size (ap (take (length xs * w)) section_bytes_lem ∙ take_at (number_bytes w xs) rest (length xs * w) (length_numbers w xs));
@@ -94,13 +96,14 @@ module _ (w at : ℕ) (b xs rest : List ℕ) (low : at ≤ length b) (e : drop a
 -- ---- a record
 
 -- where the sections stand, one behind another
-spans_by : (at : ℕ) (b : List ℕ) (n c t l : Span) → name_span at b ≡ n → span_after 4 n b ≡ c → span_after 4 c b ≡ t → span_after 8 t b ≡ l
-    → spans_at at b ≡ record { name = n; chances = c; times = t; limits = l }
+spans_by : (at : ℕ) (b : List ℕ) (n c t l : Span) → name_span at b ≡ Some n → span_after 4 (Some n) b ≡ Some c
+    → span_after 4 (Some c) b ≡ Some t → span_after 8 (Some t) b ≡ Some l
+    → spans_at at b ≡ record { name = Some n; chances = Some c; times = Some t; limits = Some l }
 unfolding spans_at
 spans_by at b n c t l e₁ e₂ e₃ e₄ = rw (e₁, e₂, e₃, e₄) refl
 
 -- behind a section that stands
-after_span : (w v at : ℕ) (b xs : List ℕ) → span_after w (span_of v at xs) b ≡ span_at w (at + 2 + length xs * v) b
+after_span : (w v at : ℕ) (b xs : List ℕ) → span_after w (Some (span_of v at xs)) b ≡ span_at w (at + 2 + length xs * v) b
 unfolding span_after span_of
 after_span w v at b xs = refl
 
@@ -116,11 +119,11 @@ pub record Parts (b : List ℕ) (at : ℕ) (r : Record) : Type 0 where
   pub form : form_at b at ≡ r.form
   pub day : day_at b at ≡ r.day
   pub spans : spans_at at b ≡ spans_of at r
-  pub next : (spans_at at b).limits.next ≡ at + length (record_bytes r)
+  pub next : next_of (spans_at at b).limits ≡ at + length (record_bytes r)
   pub name : part_of (spans_of at r).name b ≡ r.name
   pub chances : part_of (spans_of at r).chances b ≡ number_bytes 4 r.chances
   pub limits : part_of (spans_of at r).limits b ≡ number_bytes 8 r.limits
-  pub is : record_in at (spans_at at b) b ≡ r
+  pub is : record_in at (sections_of at r) b ≡ r
 
 module _ (b : List ℕ) (at : ℕ) (last : Last) (r : Record) (rest : List ℕ) (low : at ≤ length b) (g : RecordRanges last r)
     (e : drop at b ≡ record_bytes r ++ rest) where
@@ -128,15 +131,14 @@ module _ (b : List ℕ) (at : ℕ) (last : Last) (r : Record) (rest : List ℕ) 
   record_inside = omega (arith, ap length e, length-append (record_bytes r) rest, length-drop at b, low, encoding_length last r g)
 
   -- what is found there is the record in the places of its sections
-  record_read_lem : (spans_at at b).limits.stands ≡ true → (record_in at (spans_at at b) b ≡ r) × ((spans_at at b).limits.next ≡ at + length (record_bytes r))
-  record_read_lem t =
-      let same : found (record_in at (spans_at at b) b) (spans_at at b).limits.next (drop (spans_at at b).limits.next b)
-      ≡ found r (at + length (record_bytes r)) rest =
-      sym (record_stands at b t) ∙ record_found b at last r rest g e in
+  record_read_lem : (s : Sections) → all_of (spans_at at b) ≡ Some s → (record_in at s b ≡ r) × (s.limits.next ≡ at + length (record_bytes r))
+  record_read_lem s t =
+      let same : found (record_in at s b) s.limits.next (drop s.limits.next b) ≡ found r (at + length (record_bytes r)) rest =
+      sym (record_stands at b s t) ∙ record_found b at last r rest g e in
       (cc, cc)
 
   pub parts_are : Parts b at r
-  unfolding record_bytes spans_of span_of
+  unfolding record_bytes sections_of span_of all_of
   parts_are =
       let names : ℕ = length r.name in
       let chances : ℕ = length r.chances in
@@ -161,7 +163,7 @@ module _ (b : List ℕ) (at : ℕ) (last : Last) (r : Record) (rest : List ℕ) 
       (after_span 4 1 (at + 4) b r.name ∙ s₄.span)
       (after_span 4 4 at₄ b r.chances ∙ s₅.span)
       (after_span 8 4 at₅ b r.times ∙ s₆.span) in
-      let read = record_read_lem (ap (λ (s : Spans). s.limits.stands) spans) in
+      let read = record_read_lem (sections_of at r) (ap all_of spans) in
       record {
         inside = record_inside;
         length' = omega (arith, length_record r, g.limit_count);
@@ -169,7 +171,7 @@ module _ (b : List ℕ) (at : ℕ) (last : Last) (r : Record) (rest : List ℕ) 
         form = number_at_lem 2 at b r.form _ p₁.0 (omega (arith, g.form));
         day = number_at_lem 2 (at + 2) b r.day _ p₂.0 (omega (arith, g.day_fits));
         spans = spans;
-        next = read.1;
+        next = ap (λ (s : Spans). next_of s.limits) spans ∙ read.1;
         name = s₃.part ∙ name_bytes r.name g.name.bytes;
         chances = s₄.part;
         limits = s₆.part;

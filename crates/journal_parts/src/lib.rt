@@ -11,21 +11,21 @@ mod number;
 mod spans;
 
 pub use number::{number_at, number_in};
-pub use spans::{Span, Spans, part_of, spans_at};
+pub use spans::{Sections, Span, Spans, part_of, spans_at};
 
 // The number of bytes of the record at the front.
+#[tactic(auto, unfolding(crate::specs::Front::record_size))]
 pub fn record_size(b: &[u8]) -> usize
     ensures { result ≡ record_size b.now }
 {
-    let s = spans_at(b, 0);
-    let last = s.limits;
-    last.next
+    let last = spans_at(b, 0).limits;
+    last.map_or(0, |s| s.next)
 }
 
 // The name's bytes.
+#[tactic(auto, unfolding(crate::specs::Front::record_name))]
 pub fn record_name<'a>(b: &'a [u8]) -> &'a [u8]
     ensures { result.now ≡ record_name b.now }
 {
-    let name = name_at(b, 0);
-    part_of(b, name)
+    part_of(b, name_at(b, 0))
 }
