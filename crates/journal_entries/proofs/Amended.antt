@@ -9,6 +9,7 @@ use native.Mathlib.Nat.{zero-add}
 use lib.ListN.{length, take, drop, length-append, length-drop, take-append-drop}
 use lib.Seq.{take_at, drop_at, drop-drop, take-append-le, take-take, length-take-le}
 use lib.Dec.{leb}
+use Rattle.std.specs.Prelude.{Result, Ok, Err, is_ok}
 use borrow.Author.Tests.{le-leb, lt-leb, leb-true, leb-false}
 use Rattle.facts.proofs.Tests.{true_not_false, by_test_lem}
 use Rattle.text_digits.specs.Text.{Put}
@@ -21,9 +22,8 @@ use Rattle.journal_spec.proofs.Numbers.{length_bytes}
 use Rattle.journal_spec.specs.Index.{entries_size}
 use Rattle.journal_spec.proofs.IndexLoop.{entry_size, entries_size_lem, index_size, size_append, entries_least, entries_append}
 use Rattle.journal_entries.specs.Entries.{entries_in}
-use Rattle.journal_entries.specs.Places.{end_of, found_by, find_in}
+use Rattle.journal_entries.specs.Places.{end_of, place_of, found_by, find_in}
 use Rattle.journal_entries.specs.Amending.{next_bytes, amended_in, Opened}
-use Rattle.journal_entries.specs.declared.finding.Found.{Found}
 use Rattle.journal_entries.specs.declared.walking.End.{End}
 use Rattle.journal_entries.proofs.Indexed.{Entries}
 use Rattle.journal_entries.proofs.Parsed.{entries_here}
@@ -32,13 +32,13 @@ use Rattle.journal_entries.proofs.Putting.{put_written}
 -- ---- the entries about a name's place
 
 -- those before the place, and those behind the name's entry or the place
-pub record Parts (new : IndexEntry) (at : ℕ) (es : List IndexEntry) (f : Found) : Type 0 where
+pub record Parts (new : IndexEntry) (at : ℕ) (es : List IndexEntry) (f : Result ℕ ℕ) : Type 0 where
   pub front : List IndexEntry
   pub back : List IndexEntry
   pub is : amend new es ≡ front ++ new ∷ back
-  pub place : f.place ≡ at + entries_size front
-  pub had : f.there ≡ true → (s : ℕ) × (es ≡ front ++ record { name = new.name; start = s } ∷ back)
-  pub lacked : f.there ≡ false → es ≡ front ++ back
+  pub place : place_of f ≡ at + entries_size front
+  pub had : is_ok f ≡ true → (s : ℕ) × (es ≡ front ++ record { name = new.name; start = s } ∷ back)
+  pub lacked : is_ok f ≡ false → es ≡ front ++ back
 
 pub parts_of_lem : (new : IndexEntry) (at : ℕ) (es : List IndexEntry) → Parts new at es (find_in new.name at es)
 unfolding find_in
@@ -46,7 +46,7 @@ parts_of_lem new at [] = record {
   front = [];
   back = [];
   is = unfold amend in refl;
-  place = unfold entries_size in omega arith;
+  place = unfold place_of entries_size in omega arith;
   had = λ h. absurd (true_not_false (sym h));
   lacked = λ h. refl;
 }
@@ -58,7 +58,7 @@ parts_of_lem new at (e ∷ es) = go (parts_of_lem new (at + length e.name + 6) e
       front = [];
       back = e ∷ es;
       is = unfold amend in rw (k, amend) refl;
-      place = unfold found_by entries_size in omega arith;
+      place = unfold found_by place_of entries_size in omega arith;
       had = unfold found_by in λ h. absurd (true_not_false (sym h));
       lacked = λ h. refl;
     }
@@ -66,7 +66,7 @@ parts_of_lem new at (e ∷ es) = go (parts_of_lem new (at + length e.name + 6) e
       front = [];
       back = es;
       is = unfold amend in rw (k, amend) refl;
-      place = unfold found_by entries_size in omega arith;
+      place = unfold found_by place_of entries_size in omega arith;
       had = λ h. (e.start, ap (λ (n : List ℕ). record { name = n; start = e.start } ∷ es) (sym (order_equal new.name e.name k)));
       lacked = unfold found_by in λ h. absurd (true_not_false h);
     }
@@ -149,7 +149,7 @@ pub amend_none : (b : List ℕ) (new : IndexEntry) → leb (length (next_bytes n
 unfolding amended_in
 amend_none b new h = rw h refl
 
-module _ (b : List ℕ) (new : IndexEntry) (f : Found) (end : End) (found : f ≡ find_in new.name 2 (entries_in b)) (ends : end ≡ end_of (entries_in b)) where
+module _ (b : List ℕ) (new : IndexEntry) (f : Result ℕ ℕ) (end : End) (found : f ≡ find_in new.name 2 (entries_in b)) (ends : end ≡ end_of (entries_in b)) where
   parts : Parts new 2 (entries_in b) f
   parts = subst (Parts new 2 (entries_in b)) (sym found) (parts_of_lem new 2 (entries_in b))
 
@@ -167,7 +167,7 @@ module _ (b : List ℕ) (new : IndexEntry) (f : Found) (end : End) (found : f �
       index_size (amend new (entries_in b)) ∙ ap (λ (l : List IndexEntry). 2 + entries_size l) parts.is
       ∙ ap (λ (n : ℕ). 2 + n) (size_append parts.front (new ∷ parts.back))
 
-  pub size_there : f.there ≡ true → length (next_bytes new b) ≡ end.place
+  pub size_there : is_ok f ≡ true → length (next_bytes new b) ≡ end.place
   unfolding entries_size
   size_there t =
       let x = parts.had t in
@@ -176,16 +176,16 @@ module _ (b : List ℕ) (new : IndexEntry) (f : Found) (end : End) (found : f �
       ap entries_size x.1 ∙ size_append parts.front (old ∷ parts.back) in
       omega (arith, s, next_size, end_place)
 
-  pub size_lacked : f.there ≡ false → length (next_bytes new b) ≡ end.place + (length new.name + 6)
+  pub size_lacked : is_ok f ≡ false → length (next_bytes new b) ≡ end.place + (length new.name + 6)
   size_lacked t =
       let s : entries_size (entries_in b) ≡ entries_size parts.front + entries_size parts.back =
       ap entries_size (parts.lacked t) ∙ size_append parts.front parts.back in
       omega (arith, s, next_size, end_place)
 
   -- the place is among the entries
-  pub place_among : f.place ≤ end.place
+  pub place_among : (place_of f) ≤ end.place
   place_among =
-      by_test_lem f.there
+      by_test_lem (is_ok f)
       (λ t. omega (arith, parts.place, size_there t, next_size))
       (λ t. omega (arith, parts.place, size_lacked t, next_size))
 
@@ -195,19 +195,17 @@ module _ (b : List ℕ) (new : IndexEntry) (f : Found) (end : End) (found : f �
   pub room_cut : length b < end.place → false ≡ leb (length (next_bytes new b)) (length b)
   room_cut h =
       sym (lt-leb (length (next_bytes new b)) (length b)
-      (by_test_lem f.there (λ t. omega (arith, size_there t)) (λ t. omega (arith, size_lacked t))))
+      (by_test_lem (is_ok f) (λ t. omega (arith, size_there t)) (λ t. omega (arith, size_lacked t))))
 
-  pub room_there : end.place ≤ length b → f.there ≡ true → true ≡ leb (length (next_bytes new b)) (length b)
+  pub room_there : end.place ≤ length b → is_ok f ≡ true → true ≡ leb (length (next_bytes new b)) (length b)
   room_there h t = sym (le-leb (length (next_bytes new b)) (length b) (omega (arith, size_there t)))
 
-  pub room_none : f.there ≡ false → length b < end.place + 6 → false ≡ leb (length (next_bytes new b)) (length b)
-  room_none t h = sym (lt-leb (length (next_bytes new b)) (length b) (omega (arith, size_lacked t)))
-
-  pub room_for_lem : f.there ≡ false → end.place + 6 ≤ length b → leb (length new.name) (length b - end.place - 6) ≡ leb (length (next_bytes new b)) (length b)
-  room_for_lem t h =
-      by_test_lem (leb (length new.name) (length b - end.place - 6))
-      (λ y. y ∙ sym (le-leb (length (next_bytes new b)) (length b) (omega (arith, size_lacked t, leb-true (length new.name) (length b - end.place - 6) y))))
-      (λ y. y ∙ sym (lt-leb (length (next_bytes new b)) (length b) (omega (arith, size_lacked t, leb-false (length new.name) (length b - end.place - 6) y))))
+  pub room_lacked : is_ok f ≡ false → (room : ℕ) → end.place ≤ length b → length b - end.place ≡ room
+      → leb (length new.name + 6) room ≡ leb (length (next_bytes new b)) (length b)
+  room_lacked t room h e =
+      by_test_lem (leb (length new.name + 6) room)
+      (λ y. y ∙ sym (le-leb (length (next_bytes new b)) (length b) (omega (arith, size_lacked t, leb-true (length new.name + 6) room y))))
+      (λ y. y ∙ sym (lt-leb (length (next_bytes new b)) (length b) (omega (arith, size_lacked t, leb-false (length new.name + 6) room y))))
 
   -- ---- amended
 
@@ -227,11 +225,11 @@ module _ (b : List ℕ) (new : IndexEntry) (f : Found) (end : End) (found : f �
         ∙ ap (λ (n : ℕ). n + length entries.rest) (entries_size_lem (entries_in b)) in
         (omega (arith, s, two, end_place), omega (arith, s, two, end_count, entries_least (entries_in b)))
 
-    pub opening_room : f.there ≡ false → end.place + (length new.name + 6) ≤ length b
+    pub opening_room : is_ok f ≡ false → end.place + (length new.name + 6) ≤ length b
     opening_room t = omega (arith, size_lacked t, room)
 
     -- the entry fits at the place
-    pub entry_room : f.place + length new.name + 6 ≤ length b
+    pub entry_room : (place_of f) + length new.name + 6 ≤ length b
     entry_room = omega (arith, parts.place, next_size, room)
 
     -- ---- the buffer with room for the entry
@@ -242,7 +240,7 @@ module _ (b : List ℕ) (new : IndexEntry) (f : Found) (end : End) (found : f �
     head_long : length head ≡ 2
     head_long = length-take-le 2 b two
 
-    place_is : f.place ≡ length head + length (bytes_in parts.front)
+    place_is : place_of f ≡ length head + length (bytes_in parts.front)
     place_is = omega (arith, parts.place, head_long, entries_size_lem parts.front)
 
     halves : (x : List ℕ) → bytes_in (entries_in b) ≡ bytes_in parts.front ++ x → b ≡ head ++ (bytes_in parts.front ++ (x ++ entries.rest))
@@ -252,7 +250,7 @@ module _ (b : List ℕ) (new : IndexEntry) (f : Found) (end : End) (found : f �
         (entries.bytes ∙ ap (λ (l : List ℕ). l ++ entries.rest) e ∙ append_assoc (bytes_in parts.front) x entries.rest)
 
     module _ (size count : ℕ) (after : List ℕ) (sized : size ≡ length new.name + 6) (o : Opened b f end size count after) where
-      there : f.there ≡ true → Ready b head (bytes_in parts.front) (bytes_in parts.back) f.place size after
+      there : is_ok f ≡ true → Ready b head (bytes_in parts.front) (bytes_in parts.back) (place_of f) size after
       unfolding joined
       there t =
           let x = parts.had t in
@@ -260,26 +258,26 @@ module _ (b : List ℕ) (new : IndexEntry) (f : Found) (end : End) (found : f �
           let e : b ≡ head ++ (bytes_in parts.front ++ (entry_bytes old ++ (bytes_in parts.back ++ entries.rest))) =
           halves (entry_bytes old ++ bytes_in parts.back) (ap bytes_in x.1 ∙ entries_append parts.front (old ∷ parts.back))
           ∙ ap (λ (l : List ℕ). head ++ (bytes_in parts.front ++ l)) (append_assoc (entry_bytes old) (bytes_in parts.back) entries.rest) in
-          subst (Ready b head (bytes_in parts.front) (bytes_in parts.back) f.place size) (sym (o.kept t).0)
-          (ready_there b head (bytes_in parts.front) (entry_bytes old) (bytes_in parts.back) entries.rest f.place size e place_is
+          subst (Ready b head (bytes_in parts.front) (bytes_in parts.back) (place_of f) size) (sym (o.kept t).0)
+          (ready_there b head (bytes_in parts.front) (entry_bytes old) (bytes_in parts.back) entries.rest (place_of f) size e place_is
           (omega (arith, entry_size old, sized)))
 
-      lacked : f.there ≡ false → Ready b head (bytes_in parts.front) (bytes_in parts.back) f.place size after
+      lacked : is_ok f ≡ false → Ready b head (bytes_in parts.front) (bytes_in parts.back) (place_of f) size after
       lacked t =
           let e = halves (bytes_in parts.back) (ap bytes_in (parts.lacked t) ∙ entries_append parts.front parts.back) in
-          let n : length (bytes_in parts.back) ≡ end.place - f.place =
+          let n : length (bytes_in parts.back) ≡ end.place - (place_of f) =
           omega (arith, entries_size_lem parts.back, parts.place, size_lacked t, next_size) in
-          ready_moved b head (bytes_in parts.front) (bytes_in parts.back) entries.rest after f.place size (end.place - f.place) e place_is n
+          ready_moved b head (bytes_in parts.front) (bytes_in parts.back) entries.rest after (place_of f) size (end.place - (place_of f)) e place_is n
           (omega (arith, entry_room, sized)) (o.moved t).0
 
-      ready : Ready b head (bytes_in parts.front) (bytes_in parts.back) f.place size after
-      ready = by_test_lem f.there there lacked
+      ready : Ready b head (bytes_in parts.front) (bytes_in parts.back) (place_of f) size after
+      ready = by_test_lem (is_ok f) there lacked
 
       counted : count ≡ length (amend new (entries_in b))
       counted =
           let k : length (amend new (entries_in b)) ≡ length parts.front + suc (length parts.back) =
           ap length parts.is ∙ length-append parts.front (new ∷ parts.back) in
-          by_test_lem f.there
+          by_test_lem (is_ok f)
           (λ t.
           let x = parts.had t in
           let n : length (entries_in b) ≡ length parts.front + suc (length parts.back) =
@@ -298,23 +296,27 @@ module _ (b : List ℕ) (new : IndexEntry) (f : Found) (end : End) (found : f �
           (ap bytes_in parts.is ∙ entries_append parts.front (new ∷ parts.back))
 
       -- the entry put at the place, and then the count
-      pub amend_written : (l m : List ℕ) (p q : ℕ) → length after ≡ length b → Put after f.place (entry_bytes new) l p → Put l 0 (bytes_of 2 count) m q
+      put_at_place : (l m : List ℕ) (p q : ℕ) → length after ≡ length b → Put after (place_of f) (entry_bytes new) l p → Put l 0 (bytes_of 2 count) m q
           → m ≡ amended_in new b
       unfolding amended_in
-      amend_written l m p q long e c =
+      put_at_place l m p q long e c =
           let r = ready in
-          let fits : f.place + length (entry_bytes new) ≤ length after = omega (arith, entry_room, entry_size new, long) in
-          let x : l ≡ written after f.place (entry_bytes new) = put_written after f.place (entry_bytes new) l p e fits in
+          let fits : (place_of f) + length (entry_bytes new) ≤ length after = omega (arith, entry_room, entry_size new, long) in
+          let x : l ≡ written after (place_of f) (entry_bytes new) = put_written after (place_of f) (entry_bytes new) l p e fits in
           let y : m ≡ written l 0 (bytes_of 2 count) =
           put_written l 0 (bytes_of 2 count) m q c
-          (omega (arith, length_bytes 2 count, two, long, (put_whole after f.place (entry_bytes new) l p e fits).size)) in
-          let n : f.place + size + length (bytes_in parts.back) ≡ length (next_bytes new b) =
+          (omega (arith, length_bytes 2 count, two, long, (put_whole after (place_of f) (entry_bytes new) l p e fits).size)) in
+          let n : (place_of f) + size + length (bytes_in parts.back) ≡ length (next_bytes new b) =
           omega (arith, parts.place, sized, entries_size_lem parts.back, next_size) in
           y ∙ ap (λ (z : List ℕ). written z 0 (bytes_of 2 count)) x
-          ∙ laid after head (bytes_in parts.front) (entry_bytes new) (bytes_in parts.back) (drop (f.place + size + length (bytes_in parts.back)) b)
-          (bytes_of 2 count) f.place size head_long (length_bytes 2 count) (omega (arith, entry_size new, sized)) r.front r.back
+          ∙ laid after head (bytes_in parts.front) (entry_bytes new) (bytes_in parts.back) (drop ((place_of f) + size + length (bytes_in parts.back)) b)
+          (bytes_of 2 count) (place_of f) size head_long (length_bytes 2 count) (omega (arith, entry_size new, sized)) r.front r.back
           ∙ ap₂ (λ (z : List ℕ) (k : ℕ). z ++ drop k b) (sym next_is) n
           ∙ rw (le-leb (length (next_bytes new b)) (length b) room) (unfold written in in_front_lem)
         where
           in_front_lem : next_bytes new b ++ drop (length (next_bytes new b)) b ≡ next_bytes new b ++ drop (0 + length (next_bytes new b)) b
           in_front_lem = ap (λ (k : ℕ). next_bytes new b ++ drop k b) (sym (zero-add (length (next_bytes new b))))
+
+      pub amend_written : (l m : List ℕ) (p q place : ℕ) → place_of f ≡ place → length after ≡ length b → Put after place (entry_bytes new) l p
+          → Put l 0 (bytes_of 2 count) m q → m ≡ amended_in new b
+      amend_written l m p q place s long e c = put_at_place l m p q long (rw s e) c

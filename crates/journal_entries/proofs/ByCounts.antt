@@ -1,7 +1,7 @@
 -- Going over the entries by their counts: an entry at a place and the others behind it, or their end; and a pass that adds up sizes.
 -- Assumes nothing.
 use mathlib.Core.Path.{◌≡◌, refl, sym, ap, ap₂, ◌∙◌}
-use Prim.Native.Nat.{ℕ, zero, suc, ◌+◌, ◌-◌, ◌≤◌, ◌<◌}
+use Prim.Native.Nat.{ℕ, zero, suc, ◌+◌, ◌-◌, ◌≤◌, ◌<◌, min}
 use mathlib.Core.List.{List, [], ◌∷◌}
 use mathlib.Core.Bool.{true, false}
 use native.Mathlib.Omega.{arith}
@@ -16,17 +16,17 @@ use Rattle.journal_spec.specs.Index.{IndexEntry}
 use Rattle.journal_spec.specs.Index.{entries_size}
 use Rattle.journal_parts.specs.Numbers.{number_in}
 use Rattle.journal_parts.proofs.NumberStands.{number_stands}
-use Rattle.journal_entries.specs.Entries.{name_at, start_at, behind_entry, size_at, start_in, entries_from, entries_in}
+use Rattle.journal_entries.specs.Entries.{EntryIs, name_at, start_at, behind_entry, size_at, start_in, entries_from, entries_in}
 use Rattle.journal_entries.specs.Places.{end_of}
 
 -- ---- an entry at a place
 
 module _ (b : List ℕ) (at : ℕ) where
-  pub size_none : length b < at + 6 → 0 ≡ size_at b at
+  pub size_none : length b < at + 6 → size_at b at ≡ 0
   unfolding size_at behind_entry
   size_none h = rw (lt-leb (at + number_at 2 at b + 6) (length b) (omega arith)) refl
 
-  pub size_beyond : (n : ℕ) → at + 6 ≤ length b → n ≡ number_in 2 at b → length b < at + 6 + n → 0 ≡ size_at b at
+  pub size_beyond : (n : ℕ) → at + 6 ≤ length b → n ≡ number_in 2 at b → length b < at + 6 + n → size_at b at ≡ 0
   unfolding size_at behind_entry
   size_beyond n h e k =
       let m : n ≡ number_at 2 at b = e ∙ number_stands 2 at b (omega arith) (omega arith) in
@@ -65,16 +65,12 @@ module _ (b : List ℕ) (at : ℕ) where
       })
       (λ t. let z : size ≡ 0 = e ∙ rw t refl in absurd (omega (arith, z)))
 
-  size_gone : 0 ≡ size_at b at → leb (behind_entry b at) (length b) ≡ false
+  pub size_gone : 0 ≡ size_at b at → leb (behind_entry b at) (length b) ≡ false
   unfolding size_at
   size_gone e =
       by_test_lem (leb (behind_entry b at) (length b))
       (λ t. let z : 0 ≡ number_at 2 at b + 6 = e ∙ rw t refl in absurd (omega (arith, z)))
       (λ t. t)
-
-  pub start_none : (size : ℕ) → size ≡ size_at b at → size ≡ 0 → 0 ≡ start_in b at
-  unfolding start_in
-  start_none size e z = rw (size_gone (sym z ∙ e)) refl
 
   pub start_is : (size n : ℕ) → size ≡ size_at b at → n ≡ number_in 4 (at + size - 4) b → 0 < size → n ≡ start_in b at
   unfolding start_in start_at
@@ -109,6 +105,35 @@ module _ (b : List ℕ) (at : ℕ) where
       let m : suc n - 1 ≡ n = omega arith in
       rw (x.stands, m, ← x.behind) refl
 
+  -- an entry that stands whole, by its name and its start
+  module _ (name : List ℕ) (start : ℕ) (x : EntryIs b at name start) where
+    pub entry_here : Here (length name + 6)
+    entry_here = size_here (length name + 6) x.size (omega arith)
+
+    pub entry_inside : at + (length name + 6) ≤ length b
+    entry_inside = entry_here.inside
+
+    pub entry_more : (n : ℕ) → 0 < n → entries_from b n at ≡ record { name = name; start = start } ∷ entries_from b (n - 1) (at + (length name + 6))
+    entry_more n k =
+        entries_more n (length name + 6) k x.size (omega arith)
+        ∙ ap₂ (λ (m : List ℕ) (s : ℕ). record { name = m; start = s } ∷ entries_from b (n - 1) (at + (length name + 6)))
+        (sym x.name_is) (sym (x.start_is ∙ start_stands entry_here.stands))
+
+  -- the bytes of one that does
+  pub entry_is : (n start : ℕ) → at + 6 + n ≤ length b → n ≡ number_in 2 at b → start ≡ number_in 4 (at + 2 + n) b
+      → EntryIs b at (take (at + 2 + n - (at + 2)) (drop (at + 2) b)) start
+  entry_is n start h e f =
+      let w : n + 6 ≡ size_at b at = size_whole n h e in
+      let x = size_here (n + 6) w (omega arith) in
+      let k : at + 2 + n - (at + 2) ≡ at + (n + 6) - 4 - (at + 2) = omega arith in
+      let p : at + 2 + n ≡ at + (n + 6) - 4 = omega arith in
+      let q : take (at + 2 + n - (at + 2)) (drop (at + 2) b) ≡ name_at b at = ap (λ (m : ℕ). take m (drop (at + 2) b)) k ∙ x.part in
+      record {
+        size = ap (λ (m : ℕ). m + 6) (ap length q ∙ x.named ∙ omega arith) ∙ w;
+        name_is = q;
+        start_is = start_is (n + 6) start w (f ∙ ap (λ (m : ℕ). number_in 4 m b) p) (omega arith);
+      }
+
 pub entries_none : (b : List ℕ) (n at : ℕ) → n ≡ 0 → entries_from b n at ≡ []
 unfolding entries_from
 entries_none b n at e = rw e refl
@@ -122,7 +147,7 @@ count_read b n e =
     by_test_lem (leb 2 (length b))
     (λ t. ap (λ (k : ℕ). entries_from b k 2) (e ∙ number_stands 2 0 b (omega arith) (leb-true 2 (length b) t)))
     (λ t.
-    let gone = size_none b 2 (omega (arith, leb-false 2 (length b) t)) in
+    let gone = sym (size_none b 2 (omega (arith, leb-false 2 (length b) t))) in
     entries_end b 2 n gone ∙ sym (entries_end b 2 (number_at 2 0 b) gone))
 
 pub few : (b : List ℕ) (n at : ℕ) → length (entries_from b n at) ≤ n
@@ -165,29 +190,33 @@ module _ (b : List ℕ) (n : ℕ) where
         let c' : count ≡ length (entries_from b n 2) = omega (arith, c) in
         ap₂ (λ (x y : ℕ). record { place = x; count = y }) p' c'
 
-    pub walk_short : (size : ℕ) → size ≡ size_at b place → size ≡ 0 → record { place = place; count = count } ≡ end_of (entries_from b n 2)
-    walk_short size e z = ends (entries_end b place left (sym z ∙ e))
+    pub walk_short : size_at b place ≡ 0 → record { place = place; count = count } ≡ end_of (entries_from b n 2)
+    walk_short z = ends (entries_end b place left (sym z))
 
-    pub walk_done : left ≡ 0 → record { place = place; count = count } ≡ end_of (entries_from b n 2)
+    walk_done : left ≡ 0 → record { place = place; count = count } ≡ end_of (entries_from b n 2)
     walk_done e = ends (entries_none b left place e)
 
-    pub walk_next : (size : ℕ) → size ≡ size_at b place → 0 < size → 0 < left → Walk b n (left - 1) (place + size) (count + 1)
+    -- all are passed
+    pub walk_ends : left ≡ 0 → count ≡ n → record { place = place; count = n } ≡ end_of (entries_from b n 2)
+    walk_ends e c = ap (λ (k : ℕ). record { place = place; count = k }) (sym c) ∙ walk_done e
+
+    pub walk_next : (name : List ℕ) (start rest behind : ℕ) → EntryIs b place name start → 0 < left → rest ≡ left - 1 → behind ≡ place + (length name + 6)
+        → Walk b n rest behind (count + 1)
     unfolding entries_size
-    walk_next size e k h =
-        let x = size_here b place size e k in
-        let m = entries_more b place left size h e k in
-        let s : entries_size (entries_from b left place) ≡ 6 + length (name_at b place) + entries_size (entries_from b (left - 1) (place + size)) =
+    walk_next name start rest behind x h r p =
+        let m = entry_more b place name start x left h in
+        let s : entries_size (entries_from b left place) ≡ 6 + length name + entries_size (entries_from b (left - 1) (place + (length name + 6))) =
         ap entries_size m in
-        let c : length (entries_from b left place) ≡ suc (length (entries_from b (left - 1) (place + size))) = ap length m in
-        record {
+        let c : length (entries_from b left place) ≡ suc (length (entries_from b (left - 1) (place + (length name + 6)))) = ap length m in
+        rw (r, p) (record {
           sum = omega (arith, w.sum);
-          size = omega (arith, w.size, s, x.named, x.count);
+          size = omega (arith, w.size, s);
           number = omega (arith, w.number, c);
-        }
+        })
 
 -- ---- the place of the entry at a position
 
-pub place_beyond : (b : List ℕ) (count position : ℕ) → count ≡ number_in 2 0 b → count < position
+place_beyond : (b : List ℕ) (count position : ℕ) → count ≡ number_in 2 0 b → count < position
     → (end_of (entries_from b count 2)).place ≡ 2 + entries_size (take position (entries_in b))
 unfolding end_of
 place_beyond b count position e h =
@@ -202,9 +231,18 @@ place_beyond b count position e h =
     all (suc k) [] i = refl
     all (suc k) (x ∷ xs) i = ap (λ (l : List IndexEntry). x ∷ l) (all k xs (omega arith))
 
-pub place_at : (b : List ℕ) (count position : ℕ) → count ≡ number_in 2 0 b → position ≤ count
+place_at : (b : List ℕ) (count position : ℕ) → count ≡ number_in 2 0 b → position ≤ count
     → (end_of (entries_from b position 2)).place ≡ 2 + entries_size (take position (entries_in b))
 unfolding end_of
 place_at b count position e h =
     ap (λ (l : List IndexEntry). 2 + entries_size l)
     (entries_front b position count 2 h ∙ ap (take position) (count_read b count e))
+
+pub place_within : (b : List ℕ) (count position k : ℕ) → count ≡ number_in 2 0 b → k ≡ min position count
+    → (end_of (entries_from b k 2)).place ≡ 2 + entries_size (take position (entries_in b))
+place_within b count position k e m =
+    by_test_lem (leb position count)
+    (λ t. let h : position ≤ count = leb-true position count t in
+    let s : k ≡ position = omega (arith, m, h) in rw s (place_at b count position e h))
+    (λ t. let h : count < position = leb-false position count t in
+    let s : k ≡ count = omega (arith, m, h) in rw s (place_beyond b count position e h))

@@ -1,45 +1,37 @@
--- The order of two names from a place on, where all bytes before it are the same: the byte there decides, or the rest.
+-- The order of two names is that of slices of bytes: the library's `cmp` and `<` answer it. And equal names end alike.
 -- Assumes nothing.
-use mathlib.Core.Path.{◌≡◌, refl}
-use Prim.Native.Nat.{ℕ, suc, ◌+◌, ◌≤◌, ◌<◌}
-use mathlib.Core.List.{List}
-use mathlib.Core.Bool.{cond}
+use mathlib.Core.Path.{◌≡◌, refl, sym, ap, subst, ◌∙◌}
+use Prim.Native.Nat.{ℕ, ◌-◌, ◌<◌}
+use mathlib.Core.List.{List, [], ◌∷◌}
+use mathlib.Core.Bool.{Bool}
 use native.Mathlib.Omega.{arith}
-use native.Mathlib.Numerals.{add-one}
+use lib.Dec.{ltb, eqb}
 use borrow.Author.Tests.{lt-ltb, le-ltb}
-use lib.Dec.{ltb}
-use lib.ListN.{length, drop, get_or, drop_of_length-le}
-use lib.Seq.{drop-cons}
-use Rattle.journal_spec.specs.Index.{lower, equal, higher, order_of}
+use Rattle.std.specs.Prelude.{Option, Some}
+use Rattle.std.specs.Cmp.Lexicographic.{slice_cmp, slice_partial_cmp}
+use Rattle.std.specs.Ordering.{nat_cmp, is_lt, is_some_and, MatchOrdering}
+use Rattle.std.specs.declared.cmp.Ordering.{Ordering}
+use Rattle.std.specs.declared.cmp.Ordering.TheVariants.{Less, Equal, Greater}
+use Rattle.std.proofs.lemmas.Bool.Decides.{nat_tests}
+use Rattle.std.proofs.lemmas.Cmp.{same_from_slice_cmp_tested}
+use Rattle.journal_spec.specs.Index.{order_of}
+use Rattle.journal_entries.specs.Shape.{is_lower, is_below}
+use Rattle.journal_entries.specs.Answers.{order_meaning}
 
-module _ (a b : List ℕ) (i : ℕ) where
-  -- one byte of each stands before the rest
-  both_stand : i < length a → i < length b
-      → order_of (drop i a) (drop i b)
-      ≡ cond (ltb (get_or a i 0) (get_or b i 0)) lower (cond (ltb (get_or b i 0) (get_or a i 0)) higher (order_of (drop (suc i) a) (drop (suc i) b)))
-  unfolding order_of
-  both_stand h k = rw (drop-cons a i 0 h, drop-cons b i 0 k) refl
+-- ---- `cmp`
 
-  pub lower_here : i < length a → i < length b → get_or a i 0 < get_or b i 0 → order_of (drop i a) (drop i b) ≡ lower
-  lower_here h k l = rw (both_stand h k, lt-ltb (get_or a i 0) (get_or b i 0) l) refl
+cmp_orders : (xs ys : List ℕ) → order_meaning (slice_cmp nat_cmp xs ys) ≡ order_of xs ys
+unfolding order_meaning order_of
+cmp_orders [] [] = refl
+cmp_orders [] (y ∷ ys) = refl
+cmp_orders (x ∷ xs) [] = refl
+cmp_orders (x ∷ xs) (y ∷ ys) = let ih = cmp_orders xs ys in grind (arith, nat_tests)
 
-  pub higher_here : i < length a → i < length b → get_or b i 0 < get_or a i 0 → order_of (drop i a) (drop i b) ≡ higher
-  higher_here h k l = rw (both_stand h k, le-ltb (get_or a i 0) (get_or b i 0) (omega arith), lt-ltb (get_or b i 0) (get_or a i 0) l) refl
+pub order_by_cmp : (xs ys : List ℕ) (r : Ordering) → r ≡ slice_cmp nat_cmp xs ys → order_meaning r ≡ order_of xs ys
+order_by_cmp xs ys r e = ap order_meaning e ∙ cmp_orders xs ys
 
-  pub same_here : i < length a → i < length b → get_or a i 0 ≤ get_or b i 0 → get_or b i 0 ≤ get_or a i 0
-      → order_of (drop i a) (drop i b) ≡ order_of (drop (i + 1) a) (drop (i + 1) b)
-  same_here h k l m = rw (add-one, both_stand h k, le-ltb (get_or a i 0) (get_or b i 0) m, le-ltb (get_or b i 0) (get_or a i 0) l) refl
+-- ---- `<`
 
-  -- ---- one of them ends
-
-  pub second_ends : i < length a → length b ≤ i → order_of (drop i a) (drop i b) ≡ higher
-  unfolding order_of
-  second_ends h k = rw (drop-cons a i 0 h, drop_of_length-le b k) refl
-
-  pub first_ends : length a ≤ i → i < length b → order_of (drop i a) (drop i b) ≡ lower
-  unfolding order_of
-  first_ends h k = rw (drop_of_length-le a h, drop-cons b i 0 k) refl
-
-  pub both_end : length a ≤ i → length b ≤ i → order_of (drop i a) (drop i b) ≡ equal
-  unfolding order_of
-  both_end h k = rw (drop_of_length-le a h, drop_of_length-le b k) refl
+pub below_by_lt : (xs ys : List ℕ) (r : Bool) → r ≡ is_some_and is_lt (slice_partial_cmp (λ x y. Some (nat_cmp x y)) xs ys) → r ≡ is_below xs ys
+unfolding is_below is_lower order_of
+below_by_lt = same_from_slice_cmp_tested nat_cmp is_lt is_below refl (λ _ _. refl) (λ _ _. refl) (λ x y xs ys o h. grind (arith, nat_tests))

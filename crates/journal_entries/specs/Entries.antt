@@ -1,6 +1,6 @@
 -- The entries of an index in a buffer of any bytes, read by their counts: a u16 count, then entries of a u16 name count, the name and a u32 start.
 -- Where an entry does not stand whole in the buffer, the entries end.
-use Rattle.std.specs.Prelude.{ℕ, zero, suc, ◌+◌, List, [], ◌∷◌, cond, length, take, drop, leb}
+use Rattle.std.specs.Prelude.{◌≡◌, ℕ, zero, suc, ◌+◌, List, [], ◌∷◌, cond, length, take, drop, leb}
 use Rattle.journal_spec.specs.Bytes.{number_at}
 use Rattle.journal_spec.specs.Index.{IndexEntry}
 
@@ -23,6 +23,12 @@ size_at b at = cond (leb (behind_entry b at) (length b)) (number_at 2 at b + 6) 
 -- its start, 0 where it does not stand whole
 unfoldable pub start_in : List ℕ → ℕ → ℕ
 start_in b at = cond (leb (behind_entry b at) (length b)) (start_at b at) 0
+
+-- a name and a start are those of the entry that stands whole at a place
+pub record EntryIs (b : List ℕ) (at : ℕ) (name : List ℕ) (start : ℕ) : Type 0 where
+  pub size : length name + 6 ≡ size_at b at
+  pub name_is : name ≡ name_at b at
+  pub start_is : start ≡ start_in b at
 
 -- ---- the entries
 

@@ -10,8 +10,8 @@ mod walking;
 mod writing;
 
 pub use amending::{amend, has_room};
-pub use finding::{Found, Start, find, is_entry, look_up};
-pub use names::{NameOrder, order_of};
+pub use finding::{find, look_up};
+pub use names::order_of;
 pub use shape::{is_below, is_index};
-pub use walking::{End, end_of, entry_place, size_at, start_at};
+pub use walking::{End, Entry, end_of, entry_at, entry_place};
 pub use writing::{put_count, put_entry};

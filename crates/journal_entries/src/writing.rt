@@ -11,37 +11,14 @@ use text_digits::put;
 pub fn put_count(out: &mut [u8], count: usize) -> usize
     ensures { Put out.old 0 (bytes_of 2 count) out.new result }
 {
-    let bytes = two_bytes(count);
-    put(out, 0, &bytes)
+    put(out, 0, &count.to_le_bytes()[..2])
 }
 
 // An entry.
 pub fn put_entry(out: &mut [u8], at: usize, name: &[u8], start: usize) -> usize
     ensures { Put out.old at (entry_bytes (record { name = name.entry.now; start = start })) out.new result }
 {
-    let count = two_bytes(name.len());
-    let place = put(out, at, &count);
+    let place = put(out, at, &name.len().to_le_bytes()[..2]);
     let behind = put(out, place, name);
-    let bytes = four_bytes(start);
-    put(out, behind, &bytes)
-}
-
-// A number's lowest two bytes.
-fn two_bytes(n: usize) -> [u8; 2]
-    ensures { result ≡ bytes_of 2 n }
-{
-    [(n % 256) as u8, (n / 256 % 256) as u8]
-}
-
-// A number's lowest four bytes.
-fn four_bytes(n: usize) -> [u8; 4]
-    ensures { result ≡ bytes_of 4 n }
-{
-    let rest = n / 65_536;
-    [
-        (n % 256) as u8,
-        (n / 256 % 256) as u8,
-        (rest % 256) as u8,
-        (rest / 256 % 256) as u8,
-    ]
+    put(out, behind, &start.to_le_bytes()[..4])
 }

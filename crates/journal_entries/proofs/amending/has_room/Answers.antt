@@ -1,21 +1,18 @@
--- `has_room` compares the sizes without adding two lengths.
+-- `has_room` compares what is left behind the entries with what the name's would take.
 -- Assumes nothing.
+use mathlib.Core.Path.{refl, sym, ap, ◌∙◌}
 use native.Mathlib.Omega.{arith}
-use Rattle.journal_entries.proofs.Amended.{room_cut, room_there, room_none, room_for_lem}
+use Rattle.std.specs.Prelude.{is_ok}
+use Rattle.journal_entries.proofs.Amended.{room_cut, room_there, room_lacked}
 use Rattle.journal_entries.proofs.amending.has_room.Goals as goal
 
-pub returns-then-index-place : goal.returns-then-index-place
-returns-then-index-place c = λ start. room_cut _ _ _ _ c.find-f.ensures c.end_of-end.ensures (omega arith)
+pub returns-in_default : goal.returns-in_default
+returns-in_default c = λ start. room_cut _ _ _ _ refl c.end_of.ensures (omega (arith, c.in_default.ensures))
 
-pub returns-then-f : goal.returns-then-f
-returns-then-f c = λ start. room_there _ _ _ _ c.find-f.ensures c.end_of-end.ensures (omega arith) c.if-f.true
+pub returns-in-Ok : goal.returns-in-Ok
+returns-in-Ok c = λ start. room_there _ _ _ _ c.find.ensures c.end_of.ensures c.in-Some.ensures.0 (ap is_ok c.in-Ok.is)
 
-pub returns-then-room-lt6 : goal.returns-then-room-lt6
-returns-then-room-lt6 c =
+pub returns-in-Err : goal.returns-in-Err
+returns-in-Err c =
     λ start.
-    room_none _ _ _ _ c.find-f.ensures c.end_of-end.ensures c.if-f.false (omega arith)
-
-pub returns : goal.returns
-returns c =
-    λ start.
-    room_for_lem _ _ _ _ c.find-f.ensures c.end_of-end.ensures c.if-f.false (omega arith)
+    room_lacked _ _ _ _ c.find.ensures c.end_of.ensures (ap is_ok c.in-Err.is) _ c.in-Some.ensures.0 (sym c.in-Some.ensures.1)

@@ -1,45 +1,36 @@
--- `find` compares one entry a turn: those left decide. The measure is how many are left.
+-- `find` compares one entry a turn: those left decide.
 -- Assumes nothing.
+use mathlib.Core.Path.{ap, ◌∙◌}
+use Prim.Native.Nat.{ℕ, ◌+◌}
 use native.Mathlib.Omega.{arith}
-use Rattle.journal_entries.proofs.ByCounts.{size_here}
+use Rattle.journal_entries.proofs.ByCounts.{entry_inside}
 use Rattle.journal_entries.proofs.Seeking.{seek_start, seek_short, seek_done, seek_lower, seek_equal, seek_higher}
 use Rattle.journal_entries.proofs.finding.find.Goals as goal
 
-pub loop-left-init : goal.loop-left-init
-loop-left-init c = seek_start _ _ _ c.number_in-left.ensures
+pub loop-init : goal.loop-init
+loop-init c = seek_start _ _ _ (omega arith)
 
-pub returns-then-size-eq0 : goal.returns-then-size-eq0
-returns-then-size-eq0 c = let l = c.loop-left in seek_short _ _ l.left l.place l.invariant _ c.size_at-size.ensures (omega arith)
+pub returns-in_default : goal.returns-in_default
+returns-in_default c = let l = c.loop in seek_short _ _ _ _ l.invariant c.in_default.ensures
 
-pub order_at-order-requires : goal.order_at-order-requires
-order_at-order-requires c = (c.size_at-size.ensures, omega arith)
-
-pub returns-in-Lower : goal.returns-in-Lower
-returns-in-Lower c =
-    let l = c.loop-left in
-    seek_lower _ _ l.left l.place l.invariant _ _ c.size_at-size.ensures c.order_at-order.ensures
-    (omega arith) (omega arith) c.in-Lower.is
+pub returns-in-Less : goal.returns-in-Less
+returns-in-Less c =
+    let l = c.loop in
+    seek_lower _ _ _ _ l.invariant _ _ c.in-Some.ensures _ c.order_of.ensures (omega (arith, c.number_in-count.ensures)) c.in-Less.is
 
 pub returns-in-Equal : goal.returns-in-Equal
 returns-in-Equal c =
-    let l = c.loop-left in
-    seek_equal _ _ l.left l.place l.invariant _ _ c.size_at-size.ensures c.order_at-order.ensures
-    (omega arith) (omega arith) c.in-Equal.is
+    let l = c.loop in
+    seek_equal _ _ _ _ l.invariant _ _ c.in-Some.ensures _ c.order_of.ensures (omega (arith, c.number_in-count.ensures)) c.in-Equal.is
 
 pub overflow_add-place : goal.overflow_add-place
-overflow_add-place c = let x = size_here _ _ _ c.size_at-size.ensures (omega arith) in omega (arith, x.inside)
+overflow_add-place c = omega (arith, entry_inside _ _ _ _ c.in-Some.ensures)
 
-pub loop-left-preserved : goal.loop-left-preserved
-loop-left-preserved c =
-    let l = c.loop-left in
-    seek_higher _ _ l.left l.place l.invariant _ _ c.size_at-size.ensures c.order_at-order.ensures
-    (omega arith) (omega arith) c.in-Higher.is
+pub loop-preserved : goal.loop-preserved
+loop-preserved c =
+    let l = c.loop in
+    seek_higher _ _ _ _ l.invariant _ _ c.in-Some.ensures _ c.order_of.ensures (omega (arith, c.number_in-count.ensures)) _ _ (omega arith)
+    (ap (λ (n : ℕ). l.place + n) c.size-place.ensures) c.in-Greater.is
 
 pub returns : goal.returns
-returns c = let l = c.loop-left in seek_done _ _ l.left l.place l.invariant (omega arith)
-
-pub overflow_sub-left : goal.overflow_sub-left
-overflow_sub-left c = omega arith
-
-pub loop-left-smaller : goal.loop-left-smaller
-loop-left-smaller c = omega arith
+returns c = let l = c.loop in seek_done _ _ _ _ l.invariant (omega (arith, c.number_in-count.ensures))

@@ -1,10 +1,9 @@
--- `find` compares one entry a turn: those left decide. The measure is how many are left.
+-- `find` compares one entry a turn: those left decide.
 -- Assumes nothing.
+use Prim.Native.Nat.{◌-◌}
+use Rattle.journal_parts.specs.Numbers.{number_in}
 use Rattle.journal_entries.proofs.Seeking.{Sought}
 use Rattle.journal_entries.proofs.finding.find.Given as goal
 
-abbrev pub invariant-loop-left : goal.invariant-loop-left
-invariant-loop-left l = Sought l.index l.name l.left l.place
-
-abbrev pub decreases-loop-left : goal.decreases-loop-left
-decreases-loop-left l = l.left
+abbrev pub invariant-loop : goal.invariant-loop
+invariant-loop l = Sought l.index l.name (number_in 2 0 l.index - l.counter) l.place

@@ -1,10 +1,9 @@
--- `look_up` compares one entry a turn: those left decide. The measure is how many are left.
+-- `look_up` compares one entry a turn: those left decide.
 -- Assumes nothing.
+use Prim.Native.Nat.{◌-◌}
+use Rattle.journal_parts.specs.Numbers.{number_in}
 use Rattle.journal_entries.proofs.LookedUp.{Looking}
 use Rattle.journal_entries.proofs.finding.look_up.Given as goal
 
-abbrev pub invariant-loop-more : goal.invariant-loop-more
-invariant-loop-more l = Looking l.index l.name l.more l.at
-
-abbrev pub decreases-loop-more : goal.decreases-loop-more
-decreases-loop-more l = l.more
+abbrev pub invariant-loop : goal.invariant-loop
+invariant-loop l = Looking l.index l.name (number_in 2 0 l.index - l.counter) l.at

@@ -1,10 +1,9 @@
--- `is_index` passes one entry a turn: those left decide. The measure is how many are left.
+-- `is_index` passes one entry a turn: those left decide.
 -- Assumes nothing.
+use Prim.Native.Nat.{◌-◌}
+use Rattle.journal_parts.specs.Numbers.{number_in}
 use Rattle.journal_entries.proofs.Telling.{Telling}
 use Rattle.journal_entries.proofs.shape.is_index.Given as goal
 
-abbrev pub invariant-loop-left : goal.invariant-loop-left
-invariant-loop-left l = Telling l.b l.left l.low l.low_end l.at
-
-abbrev pub decreases-loop-left : goal.decreases-loop-left
-decreases-loop-left l = l.left
+abbrev pub invariant-loop : goal.invariant-loop
+invariant-loop l = Telling l.b (number_in 2 0 l.b - l.counter) l.low l.at

@@ -1,29 +1,23 @@
--- `walk` passes one entry a turn. The measure is how many are left.
+-- `walk` passes one entry a turn.
 -- Assumes nothing.
+use mathlib.Core.Path.{ap}
+use Prim.Native.Nat.{ℕ, ◌+◌}
 use native.Mathlib.Omega.{arith}
-use Rattle.journal_entries.proofs.ByCounts.{size_here, walk_start, walk_short, walk_done, walk_next}
+use Rattle.journal_entries.proofs.ByCounts.{entry_inside, walk_short, walk_ends, walk_next}
 use Rattle.journal_entries.proofs.walking.walk.Goals as goal
 
-pub loop-left-init : goal.loop-left-init
-loop-left-init c = walk_start _ _
-
-pub returns-then-size-eq0 : goal.returns-then-size-eq0
-returns-then-size-eq0 c = walk_short _ _ _ _ _ c.loop-left.invariant _ c.size_at-size.ensures (omega arith)
+pub returns-in_default : goal.returns-in_default
+returns-in_default c = walk_short _ _ _ _ _ c.loop-count.invariant c.in_default.ensures
 
 pub overflow_add-place : goal.overflow_add-place
-overflow_add-place c = let x = size_here _ _ _ c.size_at-size.ensures (omega arith) in omega (arith, x.inside)
+overflow_add-place c = omega (arith, entry_inside _ _ _ _ c.in-Some.ensures)
 
-pub loop-left-preserved : goal.loop-left-preserved
-loop-left-preserved c = walk_next _ _ _ _ _ c.loop-left.invariant _ c.size_at-size.ensures (omega arith) (omega arith)
+pub loop-count-preserved : goal.loop-count-preserved
+loop-count-preserved c =
+    let l = c.loop-count in
+    walk_next _ _ _ _ _ l.invariant _ _ _ _ c.in-Some.ensures (omega arith) (omega arith) (ap (λ (n : ℕ). l.place + n) c.size-place.ensures)
 
 pub returns : goal.returns
-returns c = walk_done _ _ _ _ _ c.loop-left.invariant (omega arith)
-
-pub overflow_add-count : goal.overflow_add-count
-overflow_add-count c = omega (arith, c.loop-left.invariant.sum)
-
-pub overflow_sub-left : goal.overflow_sub-left
-overflow_sub-left c = omega arith
-
-pub loop-left-smaller : goal.loop-left-smaller
-loop-left-smaller c = omega arith
+returns c =
+    let l = c.loop-count in
+    walk_ends _ _ _ _ _ l.invariant (omega arith) (omega arith)
