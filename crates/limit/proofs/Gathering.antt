@@ -10,7 +10,8 @@ use lib.ListN.{length, get_or, take}
 use lib.Seq.{take-suc, take_all, length-take-le}
 use Rattle.facts.proofs.Tests.{second_fails}
 use Rattle.limit.specs.declared.sums.Sums.{Sums}
-use Rattle.limit.specs.declared.sums.Gathered.TheVariants.{Within, Outside}
+use Rattle.std.specs.Prelude.{Ok, Err}
+use Rattle.refusals.specs.declared.Refusal.TheVariants.{Times}
 use Rattle.limit.specs.Times.{min_count, max_count, in_range, time_in_range, all_in_range, times_in_range, sum_of, squares_of}
 use Rattle.limit.specs.Sums.{sums_of, no_times, add_time, gathered_meaning, gather_of}
 use Rattle.limit.proofs.InRange.{at_most}
@@ -35,7 +36,7 @@ module _ (times : List ℕ) where
   gathering_start e = record { counted = e; reached = omega arith; each = refl; sums = refl }
 
   -- the count is out of range
-  pub gathering_none : in_range min_count max_count (length times) ≡ false → gathered_meaning Outside ≡ gather_of times
+  pub gathering_none : in_range min_count max_count (length times) ≡ false → gathered_meaning (Err Times) ≡ gather_of times
   unfolding gathered_meaning gather_of times_in_range
   gathering_none e = rw e
 
@@ -54,12 +55,12 @@ module _ (times : List ℕ) where
         }
 
     -- the time at i is out of range
-    pub gathering_stop : i < length times → time_in_range (get_or times i 0) ≡ false → gathered_meaning Outside ≡ gather_of times
+    pub gathering_stop : i < length times → time_in_range (get_or times i 0) ≡ false → gathered_meaning (Err Times) ≡ gather_of times
     unfolding gathered_meaning gather_of times_in_range
     gathering_stop h e = rw (g.counted, one_outside times i h e)
 
     -- every time was taken in
-    pub gathering_end : length times ≤ i → gathered_meaning (Within s) ≡ gather_of times
+    pub gathering_end : length times ≤ i → gathered_meaning (Ok s) ≡ gather_of times
     unfolding gathered_meaning gather_of times_in_range
     gathering_end h =
         let whole = take_all i times h in

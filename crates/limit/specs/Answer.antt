@@ -1,12 +1,10 @@
 -- What the limit operation answers, in document 01's words: the limit itself, with mean, spread and quantile (document 02, 2026-03), or one
 -- refusal number. `meaning` says which of the two each case of the code's answer is.
-use Rattle.std.specs.Prelude.{ℕ}
+use Rattle.std.specs.Prelude.{ℕ, Result, Ok, Err}
+use Rattle.refusals.specs.Refusals.{number_of}
+use Rattle.refusals.specs.declared.Refusal.{Refusal}
 use Rattle.limit.specs.declared.Moments.{Moments}
 use Rattle.limit.specs.declared.Figures.{Figures}
-use Rattle.limit.specs.declared.Answer.{Answer}
-use Rattle.limit.specs.declared.Answer.TheVariants.{Limit, Refused}
-use Rattle.limit.specs.declared.Worked.{Worked}
-use Rattle.limit.specs.declared.Worked.TheVariants as W
 
 -- the four figures, of which the limit is one, or one refusal number
 pub data LimitResult : Type 0 where
@@ -31,11 +29,11 @@ abbrev pub times_refusal : ℕ
 times_refusal = 6
 
 -- document 01's number and values for each case of the code's answer
-unfoldable pub meaning : Answer → LimitResult
-meaning (Limit f) = limited f
-meaning (Refused n) = refused n
+unfoldable pub meaning : Result Figures Refusal → LimitResult
+meaning (Ok f) = limited f
+meaning (Err r) = refused (number_of r)
 
 -- the same of mean and spread
-unfoldable pub moments_meaning : Worked → MomentsResult
-moments_meaning (W.Out m) = worked m
-moments_meaning (W.Refused n) = unworked n
+unfoldable pub moments_meaning : Result Moments Refusal → MomentsResult
+moments_meaning (Ok m) = worked m
+moments_meaning (Err r) = unworked (number_of r)

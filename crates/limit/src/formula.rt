@@ -2,11 +2,13 @@
 // Every whole number here is at most 2^53, so that each cast to f64 is exact.
 ghost use Rattle.std.specs.Prelude.{true, ◌≡◌, ◌^◌, ◌≤◌};
 ghost use Rattle.limit.specs.Times.{min_count, max_count};
+ghost use Rattle.limit.specs.Forms.{form_number};
 ghost use Rattle.limit.specs.Formula.{divisor_of, figures_from, limit_from, mean_of, moments_of, quantile_of, spread_by};
 ghost use Rattle.limit.specs.Sums.{is_plausible};
 
+use crate::forms::Form;
 use crate::sums::Sums;
-use crate::{Figures, Moments, SAMPLE_FORM};
+use crate::{Figures, Moments};
 
 // A chance of c in a million beyond the limit is c / 500000 in the two tails together, which is what f_erfcinv takes.
 const HALF_MILLION: f64 = 500000.0;
@@ -14,44 +16,50 @@ const HALF_MILLION: f64 = 500000.0;
 // The double nearest to the root of 2.
 const ROOT_TWO: f64 = 1.4142135623730951;
 
-// Mean and spread under a form of times with these sums.
-pub(crate) fn moments(form: u64, s: Sums) -> Moments
-    requires { is_plausible s ≡ true }
-    ensures { result ≡ moments_of form s.count s.sum s.squares }
-{
-    let n = s.count;
-    let sum = s.sum;
-    let squares = s.squares;
-    let d = n * squares - sum * sum;
-    let mean = mean_of(n, sum);
-    let spread = spread_by(divisor_of(form, n), d);
-    Moments { mean, spread }
-}
-
-// The four figures from mean, spread and quantile.
-pub(crate) fn figures(m: Moments, quantile: f64) -> Figures
-    ensures { result ≡ figures_from m quantile }
-{
-    let mean = m.mean;
-    let spread = m.spread;
-    let limit = limit_from(mean, spread, quantile);
-    Figures {
-        mean,
-        spread,
-        quantile,
-        limit,
+impl Sums {
+    // Mean and spread under a form of times with these sums.
+    pub(crate) fn moments(self, form: Form) -> Moments
+        requires { is_plausible self ≡ true }
+        ensures { result ≡ moments_of (form_number form) self.count self.sum self.squares }
+    {
+        let Sums {
+            count,
+            sum,
+            squares,
+        } = self;
+        let d = count * squares - sum * sum;
+        let mean = mean_of(count, sum);
+        let spread = spread_by(form.divisor_of(count), d);
+        Moments { mean, spread }
     }
 }
 
-// What D is divided by under a form.
-fn divisor_of(form: u64, n: u64) -> u64
-    requires { (min_count ≤ n) × (n ≤ max_count) }
-    ensures { result ≡ divisor_of form n }
-{
-    if form == SAMPLE_FORM {
-        n * (n - 1)
-    } else {
-        n * n
+impl Moments {
+    // The four figures from mean, spread and quantile.
+    pub(crate) fn figures(self, quantile: f64) -> Figures
+        ensures { result ≡ figures_from self quantile }
+    {
+        let Moments { mean, spread } = self;
+        let limit = limit_from(mean, spread, quantile);
+        Figures {
+            mean,
+            spread,
+            quantile,
+            limit,
+        }
+    }
+}
+
+impl Form {
+    // What D is divided by under the form.
+    fn divisor_of(self, n: u64) -> u64
+        requires { (min_count ≤ n) × (n ≤ max_count) }
+        ensures { result ≡ divisor_of (form_number self) n }
+    {
+        match self {
+            Form::Plain => n * n,
+            Form::Sample => n * (n - 1),
+        }
     }
 }
 

@@ -6,8 +6,5 @@ ghost use Rattle.limit.specs.Times.{in_range};
 pub(crate) fn in_range(low: u64, high: u64, x: u64) -> bool
     ensures { result ≡ in_range low high x }
 {
-    if x < low {
-        return false;
-    }
-    x <= high
+    (low..=high).contains(&x)
 }

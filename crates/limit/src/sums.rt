@@ -2,9 +2,10 @@
 // They are kept by value, so that a reader of times can take in one time after another.
 ghost use Rattle.std.specs.Prelude.{◌≡◌};
 ghost use Rattle.limit.specs.Times.{time_in_range};
-ghost use Rattle.limit.specs.Sums.{add_time, gather_of, gathered_meaning, is_plausible, no_times, saturating_add};
+ghost use Rattle.limit.specs.Sums.{add_time, gather_of, gathered_meaning, is_plausible, no_times};
 
 use crate::ranges::in_range;
+use refusals::Refusal;
 
 // The least and the greatest time, in ticks of ten microseconds.
 pub const MIN_TICKS: u64 = 1;
@@ -22,13 +23,6 @@ pub struct Sums {
     pub count: u64,
     pub sum: u64,
     pub squares: u64,
-}
-
-// The sums of times in range, or that their count or one of them is out of range.
-#[derive(Clone, Copy)]
-pub enum Gathered {
-    Within(Sums),
-    Outside,
 }
 
 impl Sums {
@@ -49,9 +43,9 @@ impl Sums {
     {
         let ticks = t as u64;
         Sums {
-            count: saturating_add(self.count, 1),
-            sum: saturating_add(self.sum, ticks),
-            squares: saturating_add(self.squares, ticks * ticks),
+            count: self.count.saturating_add(1),
+            sum: self.sum.saturating_add(ticks),
+            squares: self.squares.saturating_add(ticks * ticks),
         }
     }
 
@@ -60,27 +54,16 @@ impl Sums {
     pub(crate) fn is_plausible(self) -> bool
         ensures { result ≡ is_plausible self }
     {
-        let n = self.count;
-        let s = self.sum;
-        let q = self.squares;
-        if !in_range(MIN_COUNT, MAX_COUNT, n) {
-            return false;
-        }
-        if !in_range(n * MIN_TICKS, n * MAX_TICKS, s) {
-            return false;
-        }
-        if MAX_TICKS * s < q {
-            return false;
-        }
-        s * s <= n * q
+        let Sums {
+            count: n,
+            sum: s,
+            squares: q,
+        } = self;
+        in_range(MIN_COUNT, MAX_COUNT, n)
+            && in_range(n * MIN_TICKS, n * MAX_TICKS, s)
+            && q <= MAX_TICKS * s
+            && s * s <= n * q
     }
-}
-
-// The sum, or the largest u64 where the sum is beyond it.
-fn saturating_add(a: u64, b: u64) -> u64
-    ensures { result ≡ saturating_add a b }
-{
-    if b < u64::MAX - a { a + b } else { u64::MAX }
 }
 
 fn time_in_range(t: u32) -> bool
@@ -90,22 +73,18 @@ fn time_in_range(t: u32) -> bool
 }
 
 // The sums of the times, in one pass that ends at the first time out of range. A count out of range is seen before the pass.
-pub fn gather(times: &[u32]) -> Gathered
+pub fn gather(times: &[u32]) -> Result<Sums, Refusal>
     ensures { gathered_meaning result ≡ gather_of times.now }
 {
-    let n = times.len();
-    if !in_range(MIN_COUNT, MAX_COUNT, n as u64) {
-        return Gathered::Outside;
+    if !in_range(MIN_COUNT, MAX_COUNT, times.len() as u64) {
+        return Err(Refusal::Times);
     }
     let mut s = Sums::new();
-    let mut i: usize = 0;
-    while i < n {
-        let t = times[i];
-        if !time_in_range(t) {
-            return Gathered::Outside;
+    for t in times {
+        if !time_in_range(*t) {
+            return Err(Refusal::Times);
         }
-        s = s.add(t);
-        i += 1;
+        s = s.add(*t);
     }
-    Gathered::Within(s)
+    Ok(s)
 }

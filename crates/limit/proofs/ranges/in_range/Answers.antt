@@ -1,10 +1,11 @@
--- `in_range` answers the range test: below the least it is false, and from there on the greatest decides.
+-- `in_range` answers the range test of the range with both its ends.
 -- Assumes nothing.
-use Rattle.limit.proofs.InRange.{below, from_low}
+use Rattle.std.proofs.Common.{arith}
+use Rattle.std.proofs.lemmas.Bool.Decides.{nat_tests}
+use Rattle.std.proofs.lemmas.Grind.{common_steps}
+use Rattle.limit.specs.Times.{in_range}
 use Rattle.limit.proofs.ranges.in_range.Goals as goal
 
-pub returns-then-x-low : goal.returns-then-x-low
-returns-then-x-low c = let a = c.args in rw (below a.low a.high a.x c.if-x-low.true)
-
 pub returns : goal.returns
-returns c = let a = c.args in rw (from_low a.low a.high a.x c.if-x-low.false)
+unfolding in_range
+returns c = rw (c.contains.ensures.value, c.new.ensures.start, c.new.ensures.end, c.new.ensures.exhausted) (grind (arith, nat_tests, common_steps))

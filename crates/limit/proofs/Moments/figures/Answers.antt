@@ -1,7 +1,7 @@
 -- `figures` answers mean, spread and quantile as it got them, and the limit from the three.
 -- Assumes nothing.
 use Rattle.limit.specs.Formula.{figures_from}
-use Rattle.limit.proofs.formula.figures.Goals as goal
+use Rattle.limit.proofs.Moments.figures.Goals as goal
 
 pub returns : goal.returns
 unfolding figures_from

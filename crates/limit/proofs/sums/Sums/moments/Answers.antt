@@ -1,11 +1,12 @@
 -- `moments` is mean and spread of its sums: plausible sums keep every product inside a u64 and every cast exact.
 -- Assumes nothing.
 use native.Mathlib.Omega.{arith}
+use Rattle.limit.specs.Forms.{form_number}
 use Rattle.limit.specs.Formula.{moments_of, spread_of}
 use Rattle.limit.proofs.Plausible.{Plausible, plausible_facts}
 use Rattle.limit.proofs.Scatter.{sum_square_small, squares_product_small, scatter_at_most}
 use Rattle.limit.proofs.Divisor.{divisor_small}
-use Rattle.limit.proofs.formula.moments.Goals as goal
+use Rattle.limit.proofs.sums.Sums.moments.Goals as goal
 
 -- The two are the formula's, by the three calls.
 pub returns : goal.returns
@@ -13,14 +14,14 @@ unfolding moments_of spread_of
 returns c = rw (c.spread_by-spread.ensures, c.divisor_of.ensures, c.mean_of-mean.ensures)
 
 -- What the products, the difference and the calls ask, from the sums' bounds.
-known : (c : goal.Start) → Plausible c.args.s
-known c = plausible_facts c.args.s c.requires
+known : (c : goal.Start) → Plausible c.args.self
+known c = plausible_facts c.args.self c.requires
 
-known_2 : (c : goal.After-mean_of-mean) → Plausible c.args.s
-known_2 c = plausible_facts c.args.s c.requires
+known_2 : (c : goal.After-mean_of-mean) → Plausible c.args.self
+known_2 c = plausible_facts c.args.self c.requires
 
-known_3 : (c : goal.After-divisor_of) → Plausible c.args.s
-known_3 c = plausible_facts c.args.s c.requires
+known_3 : (c : goal.After-divisor_of) → Plausible c.args.self
+known_3 c = plausible_facts c.args.self c.requires
 
 pub overflow_mul-d : goal.overflow_mul-d
 overflow_mul-d c =
@@ -47,6 +48,6 @@ spread_by-spread-requires c =
     omega (
       arith,
       c.divisor_of.ensures,
-      divisor_small _ c.args.form p.count_high,
+      divisor_small _ (form_number c.args.form) p.count_high,
       scatter_at_most _ _ _ p.count_high p.sum_high p.squares_high,
     )
