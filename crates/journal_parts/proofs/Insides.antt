@@ -1,6 +1,6 @@
 -- Where the last section of a record stands, all its sections stand inside the bytes; and the bytes of a section, by whether they stand.
 -- Assumes nothing.
-use mathlib.Core.Path.{◌≡◌, refl, sym, ap, ◌∙◌}
+use mathlib.Core.Path.{◌≡◌, refl, sym, ◌∙◌}
 use Prim.Native.Nat.{ℕ, ◌+◌, ◌*◌, ◌-◌, ◌≤◌, ◌<◌}
 use mathlib.Core.List.{List, []}
 use mathlib.Core.Bool.{Bool, true, false, cond, ◌&&◌}
@@ -9,7 +9,6 @@ use Rattle.std.proofs.Common.{Option, Some, None}
 use Rattle.std.proofs.lemmas.Option.{none-some, same_Some}
 use lib.Dec.{leb}
 use borrow.Author.Tests.{le-leb, lt-leb}
-use Rattle.facts.proofs.Tests.{true_not_false}
 use Rattle.facts.proofs.Orders.{by_order}
 use Rattle.journal_spec.specs.Bytes.{number_at}
 use Rattle.journal_parts.specs.Spans.{head_at, span_with, span_at, span_after, name_span, spans_at, all_of, part_of, Inside}

@@ -3,7 +3,6 @@
 use mathlib.Core.Path.{◌≡◌, refl, sym, ap, ◌∙◌}
 use Prim.Native.Nat.{ℕ, ◌+◌, ◌*◌, ◌-◌, ◌^◌, ◌≤◌, ◌<◌}
 use mathlib.Core.List.{List, [], ◌∷◌, ◌++◌, append_assoc}
-use mathlib.Core.Bool.{true}
 use native.Mathlib.Omega.{arith}
 use Rattle.std.proofs.Common.{Some}
 use lib.ListN.{length, take, drop, length-append, length-drop}
@@ -20,7 +19,7 @@ use Rattle.journal_spec.proofs.Ranged.{reads_back, encoding_length}
 use Rattle.journal_spec.proofs.Pieces.{number_at_lem, name_bytes}
 use Rattle.journal_spec.proofs.Cursor.{Cursor}
 use Rattle.journal_parts.specs.Plain.{unjudged, plain_record_at}
-use Rattle.journal_parts.specs.Spans.{form_at, day_at, head_at, span_with, span_at, span_after, name_span, spans_at, all_of, next_of, part_of, record_in, span_of, sections_of, spans_of}
+use Rattle.journal_parts.specs.Spans.{form_at, day_at, span_with, span_at, span_after, name_span, spans_at, all_of, next_of, part_of, record_in, span_of, sections_of, spans_of}
 use Rattle.journal_parts.specs.declared.spans.Span.{Span}
 use Rattle.journal_parts.specs.declared.spans.Spans.{Spans}
 use Rattle.journal_parts.specs.declared.spans.Sections.{Sections}

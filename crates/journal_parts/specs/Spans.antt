@@ -1,6 +1,6 @@
 -- Where the parts of a record stand in some bytes, by its counts alone: the one account of the layout besides document 01's reader (crate
 -- journal_spec) and the writer's. Nothing is judged. Where a record stands these are its parts: law `parts_are`.
-use Rattle.std.specs.Prelude.{ℕ, ◌+◌, ◌*◌, ◌-◌, ◌≤◌, List, [], true, false, cond, ◌&&◌, length, take, drop, leb, Option, Some, None, option_and_then}
+use Rattle.std.specs.Prelude.{ℕ, ◌+◌, ◌*◌, ◌-◌, ◌≤◌, List, [], cond, ◌&&◌, length, take, drop, leb, Option, Some, None, option_and_then}
 use Rattle.journal_spec.specs.Bytes.{number_at, numbers_in}
 use Rattle.journal_spec.specs.Record.{Record}
 use Rattle.journal_parts.specs.declared.spans.Span.{Span}
