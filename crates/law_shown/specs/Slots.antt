@@ -1,7 +1,6 @@
 -- Slots beside the mean, in whole ticks: a slot is the limit rounded up, and a report shows the mean to the nearest tick. Definitions only.
-use Rattle.std.specs.Prelude.{ℕ, ◌≤◌, ◌<◌, ◌≡◌, T, length, Float}
+use Rattle.std.specs.Prelude.{ℕ, ◌≤◌, ◌<◌, ◌≡◌, T, length, Some, Float}
 use Rattle.text_ticks.specs.declared.whole.Count.{Count}
-use Rattle.text_ticks.specs.declared.whole.Ticks.TheVariants as W
 use Rattle.text_ticks.specs.Ticks.{ticks_up, ticks_near}
 use Rattle.text_ticks.specs.Meaning.{int_of, le_z}
 use Rattle.journal_spec.specs.Record.{Record, even_chance}
@@ -12,8 +11,8 @@ use Rattle.law_shown.specs.Sides.{limit_in, chance_in}
 pub record SlotAbove (mean limit : Float) : Type 0 where
   pub shown : Count
   pub slot : Count
-  pub shown_is : ticks_near mean ≡ W.Whole shown
-  pub slot_is : ticks_up limit ≡ W.Whole slot
+  pub shown_is : ticks_near mean ≡ Some shown
+  pub slot_is : ticks_up limit ≡ Some slot
   pub not_below : T (le_z (int_of shown) (int_of slot))
 
 -- Up to even chances no slot of a record is below the tick that is shown as its mean.

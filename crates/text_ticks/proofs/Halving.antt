@@ -9,7 +9,7 @@ use lib.Pow.{pow_pos}
 use lib.Ieee.{Float, binary64, odd, of_fields, of_bits}
 use lib.Ieee.Nearest.{div_same}
 use lib.Ieee.Positive.{num, den, den_pos}
-use Rattle.text_ticks.specs.declared.whole.Ticks.TheVariants as T
+use Rattle.std.specs.Prelude.{Some, None}
 use Rattle.text_ticks.specs.Ticks.{ceiling, minus_of, up_size, near_size, counted, whole_by}
 use Rattle.text_ticks.specs.Halves.{IsHalves}
 use Rattle.text_ticks.proofs.Division.{ceiling_is, ceiling_same, floor_ceiling, half_down, half_up, half_near, half_near_up}
@@ -109,10 +109,10 @@ pattern_sign b h = go (b % 2 ^ 63 / 2 ^ 52) refl
 -- ---- the answers
 
 pub whole_by_lem : (size : Bool → ℕ → ℕ → ℕ) (b n : ℕ) (s : Bool) → b % 2 ^ 63 < 1076 * 2 ^ 52 → s ≡ leb (2 ^ 63) b
-    → n ≡ size s (num (of_bits binary64 b)) (den (of_bits binary64 b)) → T.Whole (counted s n) ≡ whole_by size (of_bits binary64 b)
+    → n ≡ size s (num (of_bits binary64 b)) (den (of_bits binary64 b)) → Some (counted s n) ≡ whole_by size (of_bits binary64 b)
 unfolding whole_by
 whole_by_lem size b n s h e f = rw (pattern_in b h, pattern_sign b h, ← e, f)
 
-pub declined_by : (size : Bool → ℕ → ℕ → ℕ) (b : ℕ) → 1076 * 2 ^ 52 ≤ b % 2 ^ 63 → T.Declined ≡ whole_by size (of_bits binary64 b)
+pub declined_by : (size : Bool → ℕ → ℕ → ℕ) (b : ℕ) → 1076 * 2 ^ 52 ≤ b % 2 ^ 63 → None ≡ whole_by size (of_bits binary64 b)
 unfolding whole_by
 declined_by size b h = rw (pattern_out b h)

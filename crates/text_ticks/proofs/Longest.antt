@@ -15,7 +15,7 @@ use borrow.Author.Tests.{ltb-true}
 use Rattle.text_digits.specs.Hex.{digits, decimal_digits}
 use Rattle.text_digits.proofs.Counting.{decimal_most}
 use Rattle.text_digits.proofs.Writing.{length_digits}
-use Rattle.text_ticks.specs.declared.whole.Ticks.TheVariants as T
+use Rattle.std.specs.Prelude.{Some, None}
 use Rattle.text_ticks.specs.Ticks.{counted, minus_of, up_size, near_size, in_range, whole_by, ticks_up, ticks_near}
 use Rattle.text_ticks.specs.Text.{minus_sign, point, hundredths, count_text, ticks_text, max_text}
 
@@ -50,7 +50,7 @@ unfolding whole_by ticks_text in_range
 by_most size x k j pos h few = go (finite x) (ltb (num x) (2 ^ 53 * den x)) refl
   where
     go : (f l : Bool) → ltb (num x) (2 ^ 53 * den x) ≡ l
-        → length (ticks_text (cond (f && l) (T.Whole (counted (minus_of x) (size (minus_of x) (num x) (den x)))) T.Declined)) ≤ sign_place (minus_of x) + (j + 3)
+        → length (ticks_text (cond (f && l) (Some (counted (minus_of x) (size (minus_of x) (num x) (den x)))) None)) ≤ sign_place (minus_of x) + (j + 3)
     go true true e =
         let n = size (minus_of x) (num x) (den x) in
         count_most (minus_of x) n j pos (omega (arith, few (minus_of x) (ltb-true (num x) (2 ^ 53 * den x) e)))

@@ -1,9 +1,8 @@
 -- What it is to be the least whole number not below a double, and the nearest one: said of whole numbers with a sign, by multiplying out, with no
 -- real number. Definitions only.
-use Rattle.std.specs.Prelude.{ℕ, ◌*◌, ◌≡◌, Bool, true, false, cond, T, leb, ℤ, pos, negsuc, neg_ℤ, ◌+ℤ◌, ◌*ℤ◌, Float}
+use Rattle.std.specs.Prelude.{ℕ, ◌*◌, ◌≡◌, Bool, true, false, cond, T, leb, ℤ, pos, negsuc, neg_ℤ, Some, ◌+ℤ◌, ◌*ℤ◌, Float}
 use Rattle.std.specs.Float.Ieee.Positive.{num, den}
 use Rattle.text_ticks.specs.declared.whole.Count.{Count}
-use Rattle.text_ticks.specs.declared.whole.Ticks.TheVariants as W
 use Rattle.text_ticks.specs.Ticks.{minus_of, ticks_up, ticks_near}
 
 -- n with a sign
@@ -48,11 +47,11 @@ pub record NearestUp (x : Float) (z : ℤ) : Type 0 where
 -- of a double in range: rounded up it is the least whole number not below it
 pub record RoundsUp (x : Float) : Type 0 where
   pub count : Count
-  pub is : ticks_up x ≡ W.Whole count
+  pub is : ticks_up x ≡ Some count
   pub least : LeastNotBelow x (int_of count)
 
 -- and rounded to the nearest it is that
 pub record RoundsNear (x : Float) : Type 0 where
   pub count : Count
-  pub is : ticks_near x ≡ W.Whole count
+  pub is : ticks_near x ≡ Some count
   pub nearest : NearestUp x (int_of count)

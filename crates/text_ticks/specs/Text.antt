@@ -1,9 +1,7 @@
 -- Ticks as text, in milliseconds with two decimals: a tick is ten microseconds, 0.01 ms. Definitions only.
-use Rattle.std.specs.Prelude.{ℕ, ◌/◌, ◌%◌, cond, List, [], ◌∷◌, ◌++◌}
+use Rattle.std.specs.Prelude.{ℕ, ◌/◌, ◌%◌, cond, List, [], ◌∷◌, ◌++◌, Option, Some, None}
 use Rattle.text_digits.specs.Hex.{digits, decimal_digits}
 use Rattle.text_ticks.specs.declared.whole.Count.{Count}
-use Rattle.text_ticks.specs.declared.whole.Ticks.{Ticks}
-use Rattle.text_ticks.specs.declared.whole.Ticks.TheVariants as T
 
 -- the ASCII codes of the minus sign and of the point
 abbrev pub minus_sign : ℕ
@@ -21,10 +19,10 @@ unfolding hundredths
 count_text c = cond c.below (minus_sign ∷ []) [] ++ hundredths c.size
 
 -- a declined number is a minus sign alone
-unfoldable pub ticks_text : Ticks → List ℕ
+unfoldable pub ticks_text : Option Count → List ℕ
 unfolding count_text
-ticks_text (T.Whole c) = count_text c
-ticks_text T.Declined = minus_sign ∷ []
+ticks_text (Some c) = count_text c
+ticks_text None = minus_sign ∷ []
 
 -- the most bytes that a text has: a sign, 14 digits, a point and two digits
 abbrev pub max_text : ℕ

@@ -1,12 +1,10 @@
 -- Whole ticks of a double: the least whole number that is not below it, for a limit, and the nearest one, for a mean and a spread. Definitions only.
 -- A finite double is ±a / c, exactly: its size is the kit's fraction `num` / `den`.
-use Rattle.std.specs.Prelude.{ℕ, ◌+◌, ◌-◌, ◌*◌, ◌/◌, ◌^◌, Bool, true, false, ◌&&◌, cond, ltb, Float}
+use Rattle.std.specs.Prelude.{ℕ, ◌+◌, ◌-◌, ◌*◌, ◌/◌, ◌^◌, Bool, true, false, ◌&&◌, cond, ltb, Option, Some, None, Float}
 use Rattle.std.specs.Float.{nan, inf, fin}
 use Rattle.std.specs.Float.Ieee.Positive.{num, den}
 use Rattle.std.specs.Float.Ieee.Scale.{finite}
 use Rattle.text_ticks.specs.declared.whole.Count.{Count}
-use Rattle.text_ticks.specs.declared.whole.Ticks.{Ticks}
-use Rattle.text_ticks.specs.declared.whole.Ticks.TheVariants as T
 
 -- the least whole number not below a / c, for a c above 0
 abbrev pub ceiling : ℕ → ℕ → ℕ
@@ -37,16 +35,16 @@ unfoldable pub in_range : Float → Bool
 in_range x = finite x && ltb (num x) (2 ^ 53 * den x)
 
 -- the whole ticks of x by a rule for the size; what is not in range is declined
-unfoldable pub whole_by : (Bool → ℕ → ℕ → ℕ) → Float → Ticks
+unfoldable pub whole_by : (Bool → ℕ → ℕ → ℕ) → Float → Option Count
 unfolding in_range
-whole_by size x = cond (in_range x) (T.Whole (counted (minus_of x) (size (minus_of x) (num x) (den x)))) T.Declined
+whole_by size x = cond (in_range x) (Some (counted (minus_of x) (size (minus_of x) (num x) (den x)))) None
 
 -- rounded up, as a limit is
-unfoldable pub ticks_up : Float → Ticks
+unfoldable pub ticks_up : Float → Option Count
 unfolding whole_by up_size
 ticks_up x = whole_by up_size x
 
 -- rounded to the nearest, as mean and spread are
-unfoldable pub ticks_near : Float → Ticks
+unfoldable pub ticks_near : Float → Option Count
 unfolding whole_by near_size
 ticks_near x = whole_by near_size x

@@ -7,8 +7,7 @@ ghost use Rattle.std.specs.Float.Ieee.Positive.{num, den};
 ghost use Rattle.text_ticks.specs.Ticks.{ceiling};
 ghost use Rattle.text_ticks.specs.Halves.{IsHalves};
 
-// The weight of the exponent's field, and of the digit before the point of a normal double: 2^52.
-const UNIT: u64 = 0x10_0000_0000_0000;
+use double_bits::UNIT;
 
 #[derive(Clone, Copy)]
 pub(crate) struct Halves {

@@ -7,4 +7,4 @@ mod text;
 mod whole;
 
 pub use text::{MAX_TEXT, put_milliseconds, put_ticks};
-pub use whole::{Count, Ticks, ticks_near, ticks_up};
+pub use whole::{Count, END, ticks_near, ticks_up};

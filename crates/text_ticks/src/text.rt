@@ -4,19 +4,20 @@ ghost use Rattle.std.specs.Prelude.{◌≡◌};
 ghost use Rattle.text_digits.specs.Text.{Put};
 ghost use Rattle.text_ticks.specs.Text.{hundredths, count_text, ticks_text};
 
-use crate::whole::{Count, Ticks};
+use crate::whole::Count;
 use text_digits::{decimal_into, put, put_decimal};
 
 // The most bytes that a text takes: laws `up_text_most`, `near_text_most`.
 pub const MAX_TEXT: usize = 18;
 
 // Puts the milliseconds of whole ticks, or a dash where they are declined, and answers the place behind them.
-pub fn put_ticks(line: &mut [u8], place: usize, ticks: Ticks) -> usize
+#[tactic(auto, unfolding(crate::specs::Text::ticks_text))]
+pub fn put_ticks(line: &mut [u8], place: usize, ticks: Option<Count>) -> usize
     ensures { Put line.old place (ticks_text ticks) line.new result }
 {
     match ticks {
-        Ticks::Whole(count) => put_milliseconds(line, place, count),
-        Ticks::Declined => put(line, place, b"-"),
+        Some(count) => put_milliseconds(line, place, count),
+        None => put(line, place, b"-"),
     }
 }
 
@@ -24,12 +25,12 @@ pub fn put_ticks(line: &mut [u8], place: usize, ticks: Ticks) -> usize
 pub fn put_milliseconds(line: &mut [u8], place: usize, count: Count) -> usize
     ensures { Put line.old place (count_text count) line.new result }
 {
-    let size = count.size;
-    if count.below {
-        let p = put(line, place, b"-");
-        return put_hundredths(line, p, size);
-    }
-    put_hundredths(line, place, size)
+    let p = if count.below {
+        put(line, place, b"-")
+    } else {
+        place
+    };
+    put_hundredths(line, p, count.size)
 }
 
 // Whole milliseconds, a point and two digits.

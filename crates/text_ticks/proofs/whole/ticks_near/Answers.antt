@@ -2,20 +2,17 @@
 use mathlib.Core.Path.{◌∙◌, refl, ap}
 use Prim.Native.Nat.{◌^◌}
 use lib.Dec.{leb}
-use Rattle.text_ticks.specs.declared.whole.Count.{Count}
-use Rattle.text_ticks.specs.declared.whole.Ticks.TheVariants as T
+use Rattle.std.specs.Prelude.{Some}
 use Rattle.text_ticks.specs.Ticks.{near_size, ticks_near}
-use Rattle.text_ticks.proofs.Halving.{halves_signed, near_from, whole_by_lem, declined_by}
+use Rattle.text_ticks.proofs.Halving.{near_from, whole_by_lem, declined_by}
 use Rattle.text_ticks.proofs.whole.ticks_near.Goals as goal
 
-pub returns-then-size-ge-END : goal.returns-then-size-ge-END
+pub returns-in_err-h : goal.returns-in_err-h
 unfolding ticks_near
-returns-then-size-ge-END c = declined_by near_size _ c.if-size-ge-END.true
+returns-in_err-h c = c.from_residual.ensures ∙ declined_by near_size _ c.in_err-h.ensures
 
 pub returns : goal.returns
 unfolding ticks_near
 returns c =
-    let s = leb (2 ^ 63) c.args.b in
-    let h = halves_signed _ _ _ c.halves_of-h.ensures in
-    ap (λ (k : Count). T.Whole k) c.counted.ensures
-    ∙ whole_by_lem near_size _ _ _ c.if-size-ge-END.false refl (c.near_size-nearest.ensures ∙ near_from s _ _ _ h)
+    let h = c.in_ok-h.ensures in
+    ap Some c.counted.ensures ∙ whole_by_lem near_size _ _ _ h.0 refl (c.near_size-nearest.ensures ∙ near_from (leb (2 ^ 63) c.args.b) _ _ _ h.1)
