@@ -1,19 +1,15 @@
 -- Nothing is left free: two answers of the code with one meaning are one answer. Assumes nothing.
-use mathlib.Core.Path.{◌≡◌, refl}
-use Rattle.limit.proofs.Meaning.{injective_by}
-use Rattle.band.specs.declared.Answer.{Answer}
-use Rattle.band.specs.declared.Answer.TheVariants.{Band, Refused}
-use Rattle.band.specs.Answer.{BandResult, banded, refused, meaning}
+use mathlib.Core.Path.{◌≡◌}
+use Rattle.std.specs.Prelude.{Result, Ok, Err}
+use Rattle.refusals.specs.Refusals.{number_of}
+use Rattle.refusals.specs.declared.Refusal.{Refusal}
+use Rattle.limit.proofs.Meaning.{number_injective}
+use Rattle.band.specs.declared.Ends.{Ends}
+use Rattle.band.specs.Answer.{meaning}
 
--- the code's answer for each meaning
-answer_of : BandResult → Answer
-answer_of (banded e) = Band e
-answer_of (refused n) = Refused n
-
-answer_of_meaning : (a : Answer) → answer_of (meaning a) ≡ a
-unfolding meaning answer_of
-answer_of_meaning (Band e) = refl
-answer_of_meaning (Refused n) = refl
-
-pub meaning_injective : (a b : Answer) → meaning a ≡ meaning b → a ≡ b
-meaning_injective = injective_by meaning answer_of answer_of_meaning
+pub meaning_injective : (a b : Result Ends Refusal) → meaning a ≡ meaning b → a ≡ b
+unfolding meaning
+meaning_injective (Ok e) (Ok d) h = cc
+meaning_injective (Ok e) (Err r) h = cc
+meaning_injective (Err r) (Ok e) h = cc
+meaning_injective (Err r) (Err q) h = let same : number_of r ≡ number_of q = cc in let s = number_injective r q same in cc

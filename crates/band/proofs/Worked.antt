@@ -1,6 +1,6 @@
 -- The band over mean and spread as the limit answers them: their refusal is 6, since form 2 is known. Assumes nothing.
 use mathlib.Core.Path.{◌≡◌, refl, sym, ap, ◌∙◌}
-use mathlib.Core.Bool.{Bool, true, false, cond}
+use mathlib.Core.Bool.{Bool, true, false}
 use mathlib.Core.List.{List}
 use Prim.Native.Nat.{ℕ}
 use Rattle.limit.specs.declared.Moments.{Moments}

@@ -1,9 +1,9 @@
 -- What the band answers, in document 02's words (2026-11): both ends, or one refusal number.
 -- `meaning` says which of the two each case of the code's answer is.
-use Rattle.std.specs.Prelude.{ℕ}
+use Rattle.std.specs.Prelude.{ℕ, Result, Ok, Err}
+use Rattle.refusals.specs.Refusals.{number_of}
+use Rattle.refusals.specs.declared.Refusal.{Refusal}
 use Rattle.band.specs.declared.Ends.{Ends}
-use Rattle.band.specs.declared.Answer.{Answer}
-use Rattle.band.specs.declared.Answer.TheVariants.{Band, Refused}
 
 -- document 02's answer: the low and the high end, or one refusal number
 pub data BandResult : Type 0 where
@@ -15,6 +15,6 @@ abbrev pub share_refusal : ℕ
 share_refusal = 18
 
 -- document 02's number and values for each case of the code's answer
-unfoldable pub meaning : Answer → BandResult
-meaning (Band e) = banded e
-meaning (Refused n) = refused n
+unfoldable pub meaning : Result Ends Refusal → BandResult
+meaning (Ok e) = banded e
+meaning (Err r) = refused (number_of r)

@@ -6,7 +6,8 @@ ghost use Rattle.std.specs.Prelude.{◌≡◌};
 ghost use Rattle.band.specs.Answer.{meaning};
 ghost use Rattle.band.specs.Band.{band_of, share_in_range};
 
-use limit::{SAMPLE_FORM, Worked};
+use limit::SAMPLE_FORM;
+use refusals::Refusal;
 
 mod formula;
 
@@ -15,9 +16,6 @@ pub const MIN_SHARE: u32 = 1;
 
 pub const MAX_SHARE: u32 = 999_999;
 
-// Document 02's number for a share out of range.
-pub const SHARE_REFUSAL: u32 = 18;
-
 // The shortest and the longest time, in ticks.
 #[derive(Clone, Copy)]
 pub struct Ends {
@@ -25,32 +23,19 @@ pub struct Ends {
     pub high: f64,
 }
 
-// Both ends, or one refusal number.
-#[derive(Clone, Copy)]
-pub enum Answer {
-    Band(Ends),
-    Refused(u32),
-}
-
 // The band of the times with a share in a million inside.
-pub fn band(times: &[u32], share: u32) -> Answer
+pub fn band(times: &[u32], share: u32) -> Result<Ends, Refusal>
     ensures { meaning result ≡ band_of times.now share }
 {
     if !share_in_range(share) {
-        return Answer::Refused(SHARE_REFUSAL);
+        return Err(Refusal::Share);
     }
-    let worked = limit::moments_of_times(SAMPLE_FORM, times);
-    match worked {
-        Worked::Out(m) => Answer::Band(formula::ends_at(m, share)),
-        Worked::Refused(n) => Answer::Refused(n),
-    }
+    let moments = limit::moments_of_times(SAMPLE_FORM, times)?;
+    Ok(formula::ends_at(moments, share))
 }
 
 fn share_in_range(share: u32) -> bool
     ensures { result ≡ share_in_range share }
 {
-    if share < MIN_SHARE {
-        return false;
-    }
-    share <= MAX_SHARE
+    (MIN_SHARE..=MAX_SHARE).contains(&share)
 }
