@@ -3,7 +3,7 @@
 use mathlib.Core.Path.{◌≡◌, refl, sym, ap, ◌∙◌}
 use Prim.Native.Nat.{ℕ, ◌+◌, ◌-◌, ◌<◌}
 use mathlib.Core.List.{List, [], ◌∷◌}
-use mathlib.Core.Bool.{Bool, true, false, ◌&&◌}
+use mathlib.Core.Bool.{Bool, true, false}
 use mathlib.Core.Option.{some}
 use native.Mathlib.Omega.{arith}
 use lib.ListN.{length}
@@ -12,7 +12,6 @@ use denote.Ref.{Bor}
 use borrow.Author.Tests.{eq-eqb}
 use Rattle.std.specs.Prelude.{Option, Some, None, option_copied, slice_get}
 use Rattle.std.specs.Option.{option_eq}
-use Rattle.std.specs.Cmp.Lexicographic.{pointwise}
 use Rattle.facts.proofs.Tests.{by_test_lem, not_both}
 use Rattle.text_digits.specs.Same.{same_bytes}
 use Rattle.text_digits.proofs.Comparing.{equal_same, same_equal}
@@ -26,16 +25,6 @@ use Rattle.journal_entries.specs.Answers.{start_meaning}
 use Rattle.journal_entries.proofs.ByCounts.{entries_end, entries_none, entry_more, count_read}
 
 -- ---- whether an entry has the name
-
-pub same_is : (a b : List ℕ) (t : Bool) → t ≡ pointwise eqb a b → t ≡ same_bytes a b
-unfolding same_bytes
-same_is a b t e = e ∙ go a b
-  where
-    go : (a b : List ℕ) → pointwise eqb a b ≡ same_bytes a b
-    go [] [] = refl
-    go [] (y ∷ ys) = refl
-    go (x ∷ xs) [] = refl
-    go (x ∷ xs) (y ∷ ys) = ap (λ (r : Bool). eqb x y && r) (go xs ys)
 
 -- names that are the same end alike
 pub other_end : (a b : List ℕ) (p q : Option (Bor ℕ)) → option_copied p ≡ slice_get a (length a - 1) → option_copied q ≡ slice_get b (length b - 1)

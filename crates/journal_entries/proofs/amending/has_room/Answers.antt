@@ -1,6 +1,6 @@
 -- `has_room` compares what is left behind the entries with what the name's would take.
 -- Assumes nothing.
-use mathlib.Core.Path.{refl, sym, ap, ◌∙◌}
+use mathlib.Core.Path.{refl, sym, ap}
 use native.Mathlib.Omega.{arith}
 use Rattle.std.specs.Prelude.{is_ok}
 use Rattle.journal_entries.proofs.Amended.{room_cut, room_there, room_lacked}

@@ -1,10 +1,8 @@
 -- `open` moves nothing where the name is there.
 -- Assumes nothing.
-use mathlib.Core.Path.{ap, ◌∙◌, sym}
 use Prim.Native.Nat.{◌+◌, ◌≤◌}
 use native.Mathlib.Omega.{arith}
 use lib.ListN.{length}
-use Rattle.journal_entries.specs.Places.{place_of}
 use Rattle.journal_entries.proofs.Opening.{open_kept, open_moved, place_in, room_in}
 use Rattle.journal_entries.proofs.amending.open.Goals as goal
 use Rattle.journal_entries.proofs.amending.open.Goals.{In-Err}

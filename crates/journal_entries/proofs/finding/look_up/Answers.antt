@@ -1,6 +1,6 @@
 -- `look_up` compares one entry a turn: those left decide.
 -- Assumes nothing.
-use mathlib.Core.Path.{ap, ◌∙◌}
+use mathlib.Core.Path.{ap}
 use Prim.Native.Nat.{ℕ, ◌+◌}
 use native.Mathlib.Omega.{arith}
 use Rattle.journal_entries.proofs.ByCounts.{entry_inside}
