@@ -23,6 +23,5 @@ pub fn iso_of(day: u16) -> [u8; 10]
 pub fn put_date(line: &mut [u8], place: usize, day: u16) -> usize
     ensures { Put line.old place (iso_of day) line.new result }
 {
-    let text = iso_of(day);
-    put(line, place, &text)
+    put(line, place, &iso_of(day))
 }

@@ -3,8 +3,8 @@
 use Rattle.text_dates.proofs.Loops.{YearsOff}
 use Rattle.text_dates.proofs.date.date_of.Given as goal
 
-abbrev pub invariant-loop-days : goal.invariant-loop-days
-invariant-loop-days l = YearsOff l.day l.year l.left l.days
+abbrev pub invariant-loop-left : goal.invariant-loop-left
+invariant-loop-left l = YearsOff l.day l.year l.left
 
-abbrev pub decreases-loop-days : goal.decreases-loop-days
-decreases-loop-days l = l.left
+abbrev pub decreases-loop-left : goal.decreases-loop-left
+decreases-loop-left l = l.left

@@ -3,8 +3,8 @@
 use Rattle.text_dates.proofs.Loops.{MonthsOff}
 use Rattle.text_dates.proofs.date.in_month.Given as goal
 
-abbrev pub invariant-loop-days : goal.invariant-loop-days
-invariant-loop-days l = MonthsOff l.first l.count l.year l.month l.left l.days
+abbrev pub invariant-loop-left : goal.invariant-loop-left
+invariant-loop-left l = MonthsOff l.year l.count l.first.year l.first.month l.left
 
-abbrev pub decreases-loop-days : goal.decreases-loop-days
-decreases-loop-days l = l.left
+abbrev pub decreases-loop-left : goal.decreases-loop-left
+decreases-loop-left l = l.left
