@@ -1,34 +1,27 @@
 -- Output gathered in a room: the cases of one text, and that no byte is lost or moved: the pieces that are written, and what waits behind them,
 -- are the texts in their order. Assumes nothing.
-use Rattle.std.proofs.Common.{◌≡◌, ℕ, ◌+◌, ◌<◌, ◌≤◌, Bool, true, false, List, [], ◌∷◌, ◌++◌, length, take, sym, refl, ap, ◌∙◌, append_assoc, append-nil, arith, length-take-le, le-leb, leb-true}
-use borrow.Author.Tests.{lt-leb}
+use Rattle.std.proofs.Common.{◌≡◌, ℕ, ◌+◌, ◌≤◌, Bool, true, false, List, [], ◌∷◌, ◌++◌, length, take, sym, refl, ap, ◌∙◌, append_assoc, append-nil, arith, leb-true, Option, Some, None, ◌⊎◌, inl, inr}
+use Rattle.std.proofs.lemmas.Option.{none-some}
 use lib.Seq.{paste, length-paste, take-paste, take-length}
 use Rattle.facts.proofs.Tests.{true_not_false}
+use Rattle.std.specs.Bool.{then_some}
 use Rattle.text_digits.specs.Text.{room_for, Put}
-use Rattle.io.specs.Counts.{IsPrefixLen}
 use Rattle.command_io.specs.Gather.{Gather, fits_behind, placed, gather_of, Gathers, gather_all, in_order}
 
 -- ---- one text: what the code's tests and `put` give
 
-pub fits_not : (room text : List ℕ) (n : ℕ) → length room < n + length text → false ≡ fits_behind room n text
-unfolding fits_behind
-fits_not room text n h = sym (lt-leb (n + length text) (length room) h)
-
-pub fits_so : (room text : List ℕ) (n : ℕ) → n + length text ≤ length room → true ≡ fits_behind room n text
-unfolding fits_behind
-fits_so room text n h = sym (le-leb (n + length text) (length room) h)
-
--- a number of bytes that the room has
-pub counts : (n : ℕ) (room : List ℕ) → n ≤ length room → IsPrefixLen n room
-counts n room h = (h, sym (length-take-le n room h))
+-- what a write of a longer text leads to
+pub then_zero : (written : Bool) → (then_some {T = ℕ} written 0 ≡ Some 0) ⊎ (then_some {T = ℕ} written 0 ≡ None)
+then_zero true = inl refl
+then_zero false = inr refl
 
 -- all of a text that fits is put
 whole : (room text : List ℕ) (n : ℕ) → fits_behind room n text ≡ true → room_for room n text ≡ length text
-unfolding fits_behind room_for
+unfolding room_for
 whole room text n f = let h = leb-true (n + length text) (length room) f in omega arith
 
 pub gathers_behind : (room text after : List ℕ) (n k : ℕ) → fits_behind room n text ≡ true → Put room n text after k
-    → Gathers room n text (record { waiting = k; written = true }) after
+    → Gathers room n text (Some k) after
 unfolding gather_of placed
 gathers_behind room text after n k f p =
     let all = whole room text n f in
@@ -39,22 +32,22 @@ no_place : {fits w : Bool} → fits ≡ false → fits ≡ true → w ≡ true
 no_place f h = absurd (true_not_false (sym h ∙ f))
 
 pub gathers_anew : (room text after : List ℕ) (n k : ℕ) → fits_behind room n text ≡ false → fits_behind room 0 text ≡ true → Put room 0 text after k
-    → Gathers room n text (record { waiting = k; written = true }) after
+    → Gathers room n text (Some k) after
 unfolding gather_of placed
 gathers_anew room text after n k f g p =
     let all = whole room text 0 g in
     record { bytes = rw (f, g) (p.bytes ∙ ap (paste room 0 text) all); end = rw (f, g) (p.end ∙ ap (λ (j : ℕ). 0 + j) all); kept = λ h. refl }
 
-pub gathers_failed : (room text : List ℕ) (n : ℕ) → fits_behind room n text ≡ false
-    → Gathers room n text (record { waiting = 0; written = false }) room
+pub gathers_failed : (room text : List ℕ) (n : ℕ) → fits_behind room n text ≡ false → Gathers room n text None room
 unfolding gather_of
-gathers_failed room text n f = record { bytes = rw f; end = rw f; kept = no_place f }
+gathers_failed room text n f = record { bytes = rw f; end = tt; kept = no_place f }
 
-pub gathers_none : (room text : List ℕ) (n : ℕ) (w : Bool) → fits_behind room n text ≡ false → fits_behind room 0 text ≡ false
-    → Gathers room n text (record { waiting = 0; written = w }) room
+pub gathers_none : (room text : List ℕ) (n : ℕ) (r : Option ℕ) → (r ≡ Some 0) ⊎ (r ≡ None) → fits_behind room n text ≡ false
+    → fits_behind room 0 text ≡ false → Gathers room n text r room
 unfolding gather_of
-gathers_none room text n true f g = record { bytes = rw (f, g); end = rw (f, g); kept = λ h. refl }
-gathers_none room text n false f g = record { bytes = rw f; end = rw f; kept = no_place f }
+gathers_none room text n (Some k) (inl e) f g = let z : k ≡ 0 = cc in record { bytes = rw (f, g); end = rw (f, g) z; kept = λ h. refl }
+gathers_none room text n (Some k) (inr e) f g = absurd (none-some k (sym e))
+gathers_none room text n None e f g = gathers_failed room text n f
 
 -- ---- the order
 
@@ -69,11 +62,9 @@ put_first : (room text : List ℕ) (n : ℕ) → n ≤ length room → take (n +
 put_first room text n h = take-paste room n text (length text) h (omega arith) ∙ ap (λ (t : List ℕ). take n room ++ t) (take-length text)
 
 put_size : (room text : List ℕ) (n : ℕ) → fits_behind room n text ≡ true → length (paste room n text (length text)) ≡ length room
-unfolding fits_behind
 put_size room text n f = length-paste room n text (length text) (leb-true (n + length text) (length room) f) (omega arith)
 
 put_inside : (room text : List ℕ) (n : ℕ) → fits_behind room n text ≡ true → n + length text ≤ length (paste room n text (length text))
-unfolding fits_behind
 put_inside room text n f = let h = leb-true (n + length text) (length room) f in let s = put_size room text n f in omega arith
 
 kept_behind : (room text : List ℕ) (n : ℕ) → n ≤ length room → fits_behind room n text ≡ true → Kept room n text (placed [] room n text)

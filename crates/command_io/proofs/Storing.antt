@@ -1,11 +1,11 @@
 -- Numbers stored one behind another: one more where there is room, and where there is none; and the turns of reading.
 -- Assumes nothing.
-use Rattle.std.proofs.Common.{◌≡◌, ℕ, suc, ◌+◌, ◌-◌, ◌<◌, ◌≤◌, min, Bool, true, false, cond, List, [], ◌∷◌, ◌++◌, length, set, sym, refl, ap, ◌∙◌, append-nil, arith, length-append}
+use Rattle.std.proofs.Common.{◌≡◌, ℕ, suc, ◌+◌, ◌-◌, ◌<◌, ◌≤◌, min, Bool, true, false, cond, List, [], ◌∷◌, ◌++◌, length, set, sym, refl, ap, ◌∙◌, append-nil, arith, length-append, Some, None, Ok, Err}
 use lib.Seq.{paste, paste-zero, paste-suc, length-paste, take-append-le, get_or-append_seam}
 use Rattle.text_digits.specs.Text.{room_for, Put}
 use Rattle.command_io.specs.Arguments.{is_space, digit_after}
-use Rattle.command_io.specs.Numbers.{Read, Reads, closed_by, closed_of, turn_of, unread}
-use Rattle.command_io.specs.declared.digit.Number.TheVariants as N
+use Rattle.command_io.specs.Numbers.{Read, Reads, Stores, count_of, closed_by, closed_of, turn_of, unread}
+use Rattle.command_io.specs.declared.numbers.Reading.{Reading}
 
 -- as many numbers as stand already, of these and more, are the same
 paste_longer : (d ns ms : List ℕ) (k : ℕ) → k ≤ length ns → paste d 0 (ns ++ ms) k ≡ paste d 0 ns k
@@ -68,7 +68,7 @@ put_inside d text e k p =
 -- ---- reading
 
 -- before the first byte nothing is stored
-pub reads_unread : (d : List ℕ) → Reads d unread (record { count = 0; inside = false; pending = N.Value 0 }) d
+pub reads_unread : (d : List ℕ) → Reads d unread (record { count = 0; inside = false; pending = Some 0 }) d
 unfolding unread room_for
 reads_unread d = record {
   stored = let none : min 0 (length d - 0) ≡ 0 = omega arith in record { bytes = rw none (paste-zero d 0 []); end = rw none };
@@ -77,16 +77,26 @@ reads_unread d = record {
 }
 
 -- a word's end
-pub closed_value : (d : List ℕ) (a : Read) (inside : Bool) (n k : ℕ) (e : List ℕ) → inside ≡ a.inside → a.pending ≡ N.Value n
+pub closed_value : (d : List ℕ) (a : Read) (inside : Bool) (n k : ℕ) (e : List ℕ) → inside ≡ a.inside → a.pending ≡ Some n
     → Put d 0 (a.numbers ++ cond inside (n ∷ []) []) e k
-    → Reads d (closed_of a) (record { count = k; inside = false; pending = N.Value 0 }) e
+    → Reads d (closed_of a) (record { count = k; inside = false; pending = Some 0 }) e
 unfolding closed_of closed_by
 closed_value d a inside n k e i v p = rw v (record { stored = rw (← i) p; inside = refl; pending = refl })
 
-pub closed_nothing : (d : List ℕ) (a : Read) (inside : Bool) (k : ℕ) (e : List ℕ) → inside ≡ a.inside → a.pending ≡ N.Nothing
-    → Put d 0 a.numbers e k → Reads d (closed_of a) (record { count = k; inside = inside; pending = N.Nothing }) e
+pub closed_nothing : (d : List ℕ) (a : Read) (inside : Bool) (k : ℕ) (e : List ℕ) → inside ≡ a.inside → a.pending ≡ None
+    → Put d 0 a.numbers e k → Reads d (closed_of a) (record { count = k; inside = inside; pending = None }) e
 unfolding closed_of closed_by
 closed_nothing d a inside k e i v p = rw v (record { stored = p; inside = i; pending = refl })
+
+-- a reading that has ended: all words are numbers, or one is none
+pub stores_all : (d : List ℕ) (a : Read) (s : Reading) (n : ℕ) (e : List ℕ) → s.pending ≡ Some n → Reads d a s e → Stores d a (Ok s.count) e
+unfolding count_of
+stores_all d a s n e v r = record { stored = r.stored; whole = rw (← r.pending, v) refl }
+
+pub stores_before : (d : List ℕ) (a : Read) (s : Reading) (e : List ℕ) → s.pending ≡ None → Reads d a s e
+    → Stores d a (Err (record { before = s.count })) e
+unfolding count_of
+stores_before d a s e v r = record { stored = r.stored; whole = rw (← r.pending, v) refl }
 
 -- one byte more
 pub turn_space : (most : ℕ) (a : Read) (c : ℕ) → is_space c ≡ true → turn_of most a c ≡ closed_of a

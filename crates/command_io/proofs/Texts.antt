@@ -1,59 +1,56 @@
 -- Texts gone over a byte at a time: one turn of each loop, and what its end answers.
 -- Assumes nothing.
-use Rattle.std.proofs.Common.{◌≡◌, ℕ, ◌+◌, ◌-◌, ◌*◌, ◌<◌, ◌≤◌, Bool, true, false, cond, ltb, List, [], ◌∷◌, length, get_or, drop, refl, ap, ◌∙◌, add-one, arith, drop-cons, ltb-false}
+use Rattle.std.proofs.Common.{◌≡◌, ℕ, ◌+◌, ◌-◌, ◌*◌, ◌<◌, ◌≤◌, Bool, true, false, cond, ltb, List, [], ◌∷◌, length, get_or, drop, refl, ap, ◌∙◌, add-one, arith, drop-cons, ltb-false, Option, Some, None}
 use lib.Seq.{drop-length}
-use Rattle.command_io.specs.Arguments.{is_zero, with_digit, digit_after, number_from, read_number}
+use Rattle.command_io.specs.Arguments.{is_zero, digit_after, number_from, read_number}
 use Rattle.command_io.specs.Numbers.{Read, turn_of, read_from}
-use Rattle.command_io.specs.declared.digit.Number.{Number}
-use Rattle.command_io.specs.declared.digit.Number.TheVariants as N
 
 -- ---- one number
 
-pub number_next : (most : ℕ) (inside : Bool) (r : Number) (text : List ℕ) (i : ℕ) → i < length text
+pub number_next : (most : ℕ) (inside : Bool) (r : Option ℕ) (text : List ℕ) (i : ℕ) → i < length text
     → number_from most inside r (drop i text) ≡ number_from most true (digit_after most inside r (get_or text i 0)) (drop (i + 1) text)
 unfolding number_from
 number_next most inside r text i h = rw (drop-cons text i 0 h, add-one)
 
-pub number_ends : (most : ℕ) (inside : Bool) (r : Number) (text : List ℕ) (i : ℕ) → i ≡ length text → number_from most inside r (drop i text) ≡ r
+pub number_ends : (most : ℕ) (inside : Bool) (r : Option ℕ) (text : List ℕ) (i : ℕ) → i ≡ length text → number_from most inside r (drop i text) ≡ r
 unfolding number_from
 number_ends most inside r text i e = let none : drop i text ≡ [] = ap (λ (k : ℕ). drop k text) e ∙ drop-length text in rw none
 
-pub number_empty : (most : ℕ) (text : List ℕ) → length text ≡ 0 → read_number most text ≡ N.Nothing
+pub number_empty : (most : ℕ) (text : List ℕ) → length text ≡ 0 → read_number most text ≡ None
 unfolding read_number
 number_empty most [] e = refl
 number_empty most (c ∷ cs) e = absurd (omega arith)
 
-pub number_starts : (most : ℕ) (text : List ℕ) → (length text ≡ 0 → ⊥) → read_number most text ≡ number_from most false (N.Value 0) text
+pub number_starts : (most : ℕ) (text : List ℕ) → (length text ≡ 0 → ⊥) → read_number most text ≡ number_from most false (Some 0) text
 unfolding read_number
 number_starts most [] h = absurd (h refl)
 number_starts most (c ∷ cs) h = refl
 
 -- a number with one digit more is at most the largest
-digit_below : (most : ℕ) (inside : Bool) (r : Number) (c n : ℕ) → digit_after most inside r c ≡ N.Value n → n ≤ most
-unfolding digit_after with_digit
-digit_below most inside (N.Value k) c n e = go (is_zero inside k) (ltb c 48) (ltb 57 c) (ltb most (k * 10 + (c - 48))) refl e
+digit_below : (most : ℕ) (inside : Bool) (r : Option ℕ) (c n : ℕ) → digit_after most inside r c ≡ Some n → n ≤ most
+digit_below most inside (Some k) c n e = go (is_zero inside k) (ltb c 48) (ltb 57 c) (ltb most (k * 10 + (c - 48))) refl e
   where
     go : (z s t u : Bool) → ltb most (k * 10 + (c - 48)) ≡ u
-        → cond z N.Nothing (cond s N.Nothing (cond t N.Nothing (cond u N.Nothing (N.Value (k * 10 + (c - 48)))))) ≡ N.Value n → n ≤ most
+        → cond z None (cond s None (cond t None (cond u None (Some (k * 10 + (c - 48)))))) ≡ Some n → n ≤ most
     go true s t u f e = let z : ◌≡◌ {A = ℕ} 0 1 = cc in absurd (omega arith)
     go false true t u f e = let z : ◌≡◌ {A = ℕ} 0 1 = cc in absurd (omega arith)
     go false false true u f e = let z : ◌≡◌ {A = ℕ} 0 1 = cc in absurd (omega arith)
     go false false false true f e = let z : ◌≡◌ {A = ℕ} 0 1 = cc in absurd (omega arith)
     go false false false false f e = let same : k * 10 + (c - 48) ≡ n = cc in omega (arith, ltb-false most (k * 10 + (c - 48)) f, same)
-digit_below most inside N.Nothing c n e = let z : ◌≡◌ {A = ℕ} 0 1 = cc in absurd (omega arith)
+digit_below most inside None c n e = let z : ◌≡◌ {A = ℕ} 0 1 = cc in absurd (omega arith)
 
 -- a number that was read is at most the largest
-below_from : (most : ℕ) (text : List ℕ) (inside : Bool) (r : Number) (m : ℕ) → ((n : ℕ) → r ≡ N.Value n → n ≤ most)
-    → number_from most inside r text ≡ N.Value m → m ≤ most
+below_from : (most : ℕ) (text : List ℕ) (inside : Bool) (r : Option ℕ) (m : ℕ) → ((n : ℕ) → r ≡ Some n → n ≤ most)
+    → number_from most inside r text ≡ Some m → m ≤ most
 unfolding number_from
 below_from most [] inside r m h e = h m e
 below_from most (c ∷ cs) inside r m h e = below_from most cs true (digit_after most inside r c) m (digit_below most inside r c) e
 
-pub number_below : (most : ℕ) (text : List ℕ) (m : ℕ) → read_number most text ≡ N.Value m → m ≤ most
+pub number_below : (most : ℕ) (text : List ℕ) (m : ℕ) → read_number most text ≡ Some m → m ≤ most
 unfolding read_number
 number_below most [] m e = let z : ◌≡◌ {A = ℕ} 0 1 = cc in absurd (omega arith)
 number_below most (c ∷ cs) m e =
-    below_from most (c ∷ cs) false (N.Value 0) m (λ n f. let z : 0 ≡ n = cc in omega arith) e
+    below_from most (c ∷ cs) false (Some 0) m (λ n f. let z : 0 ≡ n = cc in omega arith) e
 
 -- ---- numbers separated by white space
 

@@ -1,6 +1,6 @@
 -- Which command a word asks for, and which option a word is. A row for each word.
 -- Assumes nothing.
-use Rattle.std.specs.Prelude.{ℕ, cond, List, ◌==◌, slice_index}
+use Rattle.std.specs.Prelude.{ℕ, cond, List, ◌==◌, slice_index, Option, Some, None}
 use Rattle.text_digits.specs.Same.{same_bytes}
 use Rattle.command_io.specs.Words.{bytes_of}
 use Rattle.command_io.specs.declared.options.Command.{Command}
@@ -9,40 +9,40 @@ use Rattle.command_io.specs.declared.options.Flag.{Flag}
 use Rattle.command_io.specs.declared.options.Flag.TheVariants as F
 
 -- what is asked of the program itself
-unfoldable pub asked_of : List ℕ → Command
+unfoldable pub asked_of : List ℕ → Option Command
 asked_of w =
-    cond (same_bytes w (bytes_of "-h")) C.Help
-    (cond (same_bytes w (bytes_of "--help")) C.Help
-    (cond (same_bytes w (bytes_of "selftest")) C.Selftest
-    C.Nothing))
+    cond (same_bytes w (bytes_of "-h")) (Some C.Help)
+    (cond (same_bytes w (bytes_of "--help")) (Some C.Help)
+    (cond (same_bytes w (bytes_of "selftest")) (Some C.Selftest)
+    None))
 
 -- commands that need no volume; pictures and pages are drawn by tools of the clone
-unfoldable pub told_of : List ℕ → Command
+unfoldable pub told_of : List ℕ → Option Command
 told_of w =
-    cond (same_bytes w (bytes_of "band")) C.Band
-    (cond (same_bytes w (bytes_of "day")) C.Day
-    (cond (same_bytes w (bytes_of "date")) C.Date
-    (cond (same_bytes w (bytes_of "refusal")) C.Refusal
-    (cond (same_bytes w (bytes_of "demo")) C.Demo
-    (cond (same_bytes w (bytes_of "plot")) C.Drawn
-    (cond (same_bytes w (bytes_of "page")) C.Drawn
+    cond (same_bytes w (bytes_of "band")) (Some C.Band)
+    (cond (same_bytes w (bytes_of "day")) (Some C.Day)
+    (cond (same_bytes w (bytes_of "date")) (Some C.Date)
+    (cond (same_bytes w (bytes_of "refusal")) (Some C.Refusal)
+    (cond (same_bytes w (bytes_of "demo")) (Some C.Demo)
+    (cond (same_bytes w (bytes_of "plot")) (Some C.Drawn)
+    (cond (same_bytes w (bytes_of "page")) (Some C.Drawn)
     (asked_of w)))))))
 
 -- the command
-unfoldable pub command_of : List ℕ → Command
+unfoldable pub command_of : List ℕ → Option Command
 command_of w =
-    cond (same_bytes w (bytes_of "append")) C.Append
-    (cond (same_bytes w (bytes_of "list")) C.List
-    (cond (same_bytes w (bytes_of "survey")) C.Survey
-    (cond (same_bytes w (bytes_of "slots")) C.Slots
-    (cond (same_bytes w (bytes_of "record")) C.Record
-    (cond (same_bytes w (bytes_of "merge")) C.Merge
-    (cond (same_bytes w (bytes_of "index")) C.Index
-    (cond (same_bytes w (bytes_of "trial")) C.Trial
+    cond (same_bytes w (bytes_of "append")) (Some C.Append)
+    (cond (same_bytes w (bytes_of "list")) (Some C.List)
+    (cond (same_bytes w (bytes_of "survey")) (Some C.Survey)
+    (cond (same_bytes w (bytes_of "slots")) (Some C.Slots)
+    (cond (same_bytes w (bytes_of "record")) (Some C.Record)
+    (cond (same_bytes w (bytes_of "merge")) (Some C.Merge)
+    (cond (same_bytes w (bytes_of "index")) (Some C.Index)
+    (cond (same_bytes w (bytes_of "trial")) (Some C.Trial)
     (told_of w))))))))
 
 -- a word that starts with a dash, or any other
-unfoldable pub dash_of : List ℕ → Flag
+abbrev pub dash_of : List ℕ → Flag
 dash_of w = cond (slice_index w 0 == 0x2d) F.Dash F.Word
 
 -- words behind which no option stands

@@ -4,15 +4,15 @@ use Rattle.std.specs.Prelude.{ℕ, Bool, cond, ◌&&◌, List, [], ◌∷◌, �
 use Rattle.text_digits.specs.Hex.{hex_digits}
 
 -- printable ASCII, 20 to 7e
-unfoldable pub is_printable : ℕ → Bool
+abbrev pub is_printable : ℕ → Bool
 is_printable c = nat_lt 31 c && nat_lt c 127
 
 -- a byte's escape: a backslash, x and two hexadecimal digits
-unfoldable pub escape_of : ℕ → List ℕ
+abbrev pub escape_of : ℕ → List ℕ
 escape_of c = 0x5c ∷ 0x78 ∷ hex_digits 2 c
 
 -- a byte as it is shown
-unfoldable pub shown_byte : ℕ → List ℕ
+abbrev pub shown_byte : ℕ → List ℕ
 shown_byte c = cond (is_printable c) (c ∷ []) (escape_of c)
 
 -- all bytes of a text

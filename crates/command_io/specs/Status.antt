@@ -4,11 +4,11 @@ use Rattle.std.specs.Prelude.{ℕ, Bool, cond}
 use Rattle.command_io.specs.declared.ending.Status.{Status}
 use Rattle.command_io.specs.declared.ending.Status.TheVariants as S
 
-unfoldable pub status_number : Status → ℕ
+abbrev pub status_number : Status → ℕ
 status_number S.Done = 0
 status_number S.Refused = 1
 status_number S.Failed = 2
 
 -- the status where all was written, and failed where not
-unfoldable pub if_written : Bool → Status → Status
+abbrev pub if_written : Bool → Status → Status
 if_written written s = cond written s S.Failed

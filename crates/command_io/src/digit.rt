@@ -3,49 +3,30 @@
 ghost use Rattle.std.specs.Prelude.{◌≡◌};
 ghost use Rattle.command_io.specs.Arguments.{is_zero, with_digit, digit_after};
 
-// A number, or none.
-#[derive(Clone, Copy)]
-pub enum Number {
-    Value(u32),
-    Nothing,
-}
-
 // What a word has come to, with one byte more; `inside` says whether it has a byte already.
-pub(crate) fn digit_after(inside: bool, r: Number, c: u8, most: u32) -> Number
-    ensures { result ≡ digit_after most inside r c }
+pub(crate) fn digit_after(inside: bool, number: Option<u32>, c: u8, most: u32) -> Option<u32>
+    ensures { result ≡ digit_after most inside number c }
 {
-    match r {
-        Number::Value(n) => with_digit(inside, n, c, most),
-        Number::Nothing => Number::Nothing,
-    }
+    with_digit(inside, number?, c, most)
 }
 
 // The number with a digit behind it.
-fn with_digit(inside: bool, n: u32, c: u8, most: u32) -> Number
+fn with_digit(inside: bool, n: u32, c: u8, most: u32) -> Option<u32>
     ensures { result ≡ with_digit most inside n c }
 {
-    if is_zero(inside, n) {
-        return Number::Nothing;
+    if is_zero(inside, n) || c < b'0' || b'9' < c {
+        return None;
     }
-    if c < 48 {
-        return Number::Nothing;
-    }
-    if 57 < c {
-        return Number::Nothing;
-    }
-    let longer = n as u64 * 10 + (c - 48) as u64;
+    let longer = n as u64 * 10 + (c - b'0') as u64;
     if (most as u64) < longer {
-        return Number::Nothing;
+        return None;
     }
-    Number::Value(longer as u32)
+    Some(longer as u32)
 }
 
 // Whether the word so far is 0.
 fn is_zero(inside: bool, n: u32) -> bool
     ensures { result ≡ is_zero inside n }
 {
-    if !inside {
-        return false;
-    }
-    n == 0
+    inside && n == 0
 }

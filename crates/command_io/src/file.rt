@@ -1,141 +1,92 @@
 // Files that a command writes: opened to be read and written, made where they are missing, written and synced.
 // What fails is said with the file's name.
+ghost use Rattle.std.specs.Prelude.{◌≤◌, length, IfOk};
 ghost use Rattle.io.specs.Counts.{IsPrefixLen};
 
+use crate::ending::Status;
 use crate::input::read_input;
 use crate::message::{fail, fail_file_of, fail_of};
 use crate::system::{arg, create, open_update};
 use std::fs;
 use std::io::{Error, ErrorKind, Seek, SeekFrom, Write};
 
-// An open file; or that there is no such file; or that something failed, which is said.
-#[derive(Drop)]
-pub enum File {
-    Open(fs::File),
-    Missing,
-    Failed,
-}
-
-// A file that is opened, and how many bytes of it were read.
+// A file that is opened, none where there is no such file, and how many bytes of it were read, of a missing one none.
 #[derive(Drop)]
 pub struct Held {
-    pub file: File,
+    pub file: Option<fs::File>,
     pub size: usize,
 }
 
-// The path at a place; 0 bytes where it is empty or too long, which is said.
-pub fn path_at(rt: &HostRuntime, at: usize, path: &mut [u8]) -> usize
-    ensures { IsPrefixLen result path.new }
+// The path at a place, put into the buffer. One that is empty or too long is an error, which is said.
+pub fn path_at<'a>(rt: &HostRuntime, at: usize, out: &'a mut [u8]) -> Result<&'a [u8], Status>
+    ensures { IfOk result (λ path. length path.now ≤ length out.old) }
 {
-    let size = arg(rt, at, path);
-    if size == 0 {
-        fail(rt, b"FILE: an empty name, or one of more than 4096 bytes");
+    match arg(rt, at, out) {
+        Some(path) => Ok(path),
+        None => Err(fail(rt, b"FILE: an empty name, or one of more than 4096 bytes")),
     }
-    size
 }
 
-// Opens a file to be read and written, and reads it to its end or until the buffer is full.
-pub fn open_held(rt: &HostRuntime, path: &[u8], out: &mut [u8]) -> Held
-    ensures { IsPrefixLen result.size out.new }
+// Opens a file to be read and written, and reads it to its end or until the buffer is full. Where that fails, what failed is said.
+pub fn open_held(rt: &HostRuntime, path: &[u8], out: &mut [u8]) -> Result<Held, Status>
+    ensures { IfOk result (λ held. IsPrefixLen held.size out.new) }
 {
     match open_update(rt, path) {
         Ok(file) => read_held(rt, path, file, out),
-        Err(e) => Held {
-            file: not_opened(rt, path, e),
+        Err(e) if e.kind() == ErrorKind::NotFound => Ok(Held {
+            file: None,
             size: 0,
-        },
+        }),
+        Err(e) => Err(fail_file_of(rt, path, e)),
     }
 }
 
 // The same of a file that is open.
-fn read_held(rt: &HostRuntime, path: &[u8], open: fs::File, out: &mut [u8]) -> Held
-    ensures { IsPrefixLen result.size out.new }
+fn read_held(
+    rt: &HostRuntime,
+    path: &[u8],
+    mut file: fs::File,
+    out: &mut [u8],
+) -> Result<Held, Status>
+    ensures { IfOk result (λ held. IsPrefixLen held.size out.new) }
 {
-    let mut file = open;
     if !has_places(&mut file) {
-        fail_of(rt, path, b"not a regular file");
-        return Held {
-            file: File::Failed,
-            size: 0,
-        };
+        return Err(fail_of(rt, path, b"not a regular file"));
     }
-    let read = read_input(&mut file, out);
-    let size = read.size;
-    match read.failed {
-        Some(e) => {
-            fail_file_of(rt, path, e);
-            Held {
-                file: File::Failed,
-                size: 0,
-            }
-        }
-        None => Held {
-            file: File::Open(file),
-            size,
-        },
-    }
-}
-
-// Why a file could not be opened.
-fn not_opened(rt: &HostRuntime, path: &[u8], error: Error) -> File {
-    match error.kind() {
-        ErrorKind::NotFound => File::Missing,
-        _ => {
-            fail_file_of(rt, path, error);
-            File::Failed
-        }
+    match read_input(&mut file, out) {
+        Ok(read) => Ok(Held {
+            size: read.len(),
+            file: Some(file),
+        }),
+        Err(e) => Err(fail_file_of(rt, path, e)),
     }
 }
 
 // Whether a position can be set, as in a regular file: a pipe and a terminal refuse it, and such devices as /dev/null stay at their start.
 // The position is the start afterwards.
 fn has_places(file: &mut fs::File) -> bool {
-    match file.seek(SeekFrom::Start(1)) {
-        Ok(1) => is_at_start(file),
-        _ => false,
-    }
+    matches!(file.seek(SeekFrom::Start(1)), Ok(1)) && matches!(file.seek(SeekFrom::Start(0)), Ok(0))
 }
 
-// Whether the position can be set to the start.
-fn is_at_start(file: &mut fs::File) -> bool {
-    match file.seek(SeekFrom::Start(0)) {
-        Ok(0) => true,
-        _ => false,
-    }
-}
-
-// The file, made where there is none. A name that is taken although no file was found is a link to none.
-pub fn made(rt: &HostRuntime, path: &[u8], file: File) -> File {
+// The file, made where there is none; where that fails, what failed is said. A name that is taken although no file was found is a link to none.
+pub fn made(rt: &HostRuntime, path: &[u8], file: Option<fs::File>) -> Result<fs::File, Status> {
     match file {
-        File::Open(open) => File::Open(open),
-        File::Missing => make_new(rt, path),
-        File::Failed => File::Failed,
+        Some(open) => Ok(open),
+        None => make_new(rt, path),
     }
 }
 
 // Makes a file.
-fn make_new(rt: &HostRuntime, path: &[u8]) -> File {
+fn make_new(rt: &HostRuntime, path: &[u8]) -> Result<fs::File, Status> {
     match create(rt, path) {
-        Ok(open) => File::Open(open),
-        Err(e) => not_made(rt, path, e),
+        Ok(open) => Ok(open),
+        Err(e) if e.kind() == ErrorKind::AlreadyExists => Err(fail_of(
+            rt,
+            path,
+            b"a link to a missing file, or made by another program meanwhile",
+        )),
+        Err(e) => Err(fail_file_of(rt, path, e)),
     }
-}
-
-// Why a file could not be made.
-fn not_made(rt: &HostRuntime, path: &[u8], error: Error) -> File {
-    match error.kind() {
-        ErrorKind::AlreadyExists => {
-            fail_of(
-                rt,
-                path,
-                b"a link to a missing file, or made by another program meanwhile",
-            );
-        }
-        _ => {
-            fail_file_of(rt, path, error);
-        }
-    }
-    File::Failed
 }
 
 // Writes bytes to an open file from a place on, and syncs it; they are there where it answers no error.

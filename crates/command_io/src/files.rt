@@ -1,9 +1,10 @@
 // What the programs that open files share: the three standard streams, a file read to its end, the sync of a file's folder, and what is said of a
 // file.
 // `program` starts each message, as in `append: `.
-ghost use Rattle.io.specs.Counts.{IsPrefixLen};
+ghost use Rattle.std.specs.Prelude.{◌≤◌, length, IfOk};
 
-use crate::input::{Input, read_input, refused};
+use crate::ending::Status;
+use crate::input::read_input;
 use crate::message::{fail, fail_file_of};
 use crate::path::folder_end;
 use crate::system::{arg, fail_system, open_read, write_error};
@@ -40,82 +41,57 @@ fn is_closed<F: AsFd + Drop>(stream: F) -> bool {
 
 // Reads the file that an argument names to its end, or as much as there is room for; where that fails, what failed is said. `nameless` is what is
 // wrong with a name that is no path.
-pub fn read_argument(
+pub fn read_argument<'a>(
     rt: &HostRuntime,
     program: &[u8],
     i: usize,
     nameless: &[u8],
-    out: &mut [u8],
-) -> Input
-    ensures { IsPrefixLen result.size out.new }
+    out: &'a mut [u8],
+) -> Result<&'a [u8], Status>
+    ensures { IfOk result (λ read. length read.now ≤ length out.old) }
 {
-    let mut path = io::buffer();
-    let size = arg(rt, i, &mut path);
-    if size == 0 {
+    let mut room = io::buffer();
+    let Some(path) = arg(rt, i, &mut room) else {
         complain(rt, program, nameless);
-        return refused();
+        return Err(Status::Failed);
+    };
+    match read_whole(rt, path, out) {
+        Ok(read) => Ok(read),
+        Err(e) => {
+            fail_file(rt, program, path, e);
+            Err(Status::Failed)
+        }
     }
-    read_at(rt, program, &path[..size], out)
-}
-
-// Reads a file.
-fn read_at(rt: &HostRuntime, program: &[u8], path: &[u8], out: &mut [u8]) -> Input
-    ensures { IsPrefixLen result.size out.new }
-{
-    let read = read_whole(rt, path, out);
-    if let Some(e) = read.failed {
-        fail_file(rt, program, path, e);
-    }
-    read
 }
 
 // Reads a file; what fails is not said.
-fn read_whole(rt: &HostRuntime, path: &[u8], out: &mut [u8]) -> Input
-    ensures { IsPrefixLen result.size out.new }
+fn read_whole<'a>(rt: &HostRuntime, path: &[u8], out: &'a mut [u8]) -> Result<&'a [u8], Error>
+    ensures { IfOk result (λ read. length read.now ≤ length out.old) }
 {
-    match open_read(rt, path) {
-        Ok(open) => {
-            let mut file = open;
-            read_input(&mut file, out)
-        }
-        Err(e) => Input {
-            size: 0,
-            failed: Some(e),
-        },
-    }
+    let mut file = open_read(rt, path)?;
+    read_input(&mut file, out)
 }
 
 // Reads the file that an argument names to its end, or as much as there is room for; where that fails, awaqlla says what failed.
-pub fn read_named(rt: &HostRuntime, at: usize, out: &mut [u8]) -> Input
-    ensures { IsPrefixLen result.size out.new }
+pub fn read_named<'a>(rt: &HostRuntime, at: usize, out: &'a mut [u8]) -> Result<&'a [u8], Status>
+    ensures { IfOk result (λ read. length read.now ≤ length out.old) }
 {
-    let mut path = io::buffer();
-    let size = arg(rt, at, &mut path);
-    if size == 0 {
-        fail(rt, b"FILE: not a path");
-        return refused();
+    let mut room = io::buffer();
+    let Some(path) = arg(rt, at, &mut room) else {
+        return Err(fail(rt, b"FILE: not a path"));
+    };
+    match read_whole(rt, path, out) {
+        Ok(read) => Ok(read),
+        Err(e) => Err(fail_file_of(rt, path, e)),
     }
-    read_path(rt, &path[..size], out)
-}
-
-// Reads a file.
-fn read_path(rt: &HostRuntime, path: &[u8], out: &mut [u8]) -> Input
-    ensures { IsPrefixLen result.size out.new }
-{
-    let read = read_whole(rt, path, out);
-    if let Some(e) = read.failed {
-        fail_file_of(rt, path, e);
-    }
-    read
 }
 
 // Syncs the folder of a path, so that the name of a file that is new stays. Where that fails, what failed is said.
 pub fn sync_folder(rt: &HostRuntime, program: &[u8], path: &[u8]) -> bool {
-    let end = folder_end(path);
-    if end == 0 {
-        return sync(rt, program, b".");
+    match folder_end(path) {
+        0 => sync(rt, program, b"."),
+        end => sync(rt, program, &path[..end]),
     }
-    sync(rt, program, &path[..end])
 }
 
 // Syncs a folder.

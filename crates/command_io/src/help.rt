@@ -15,7 +15,6 @@ pub fn is_help(word: &[u8]) -> bool
 
 // Whether the argument at a place is a word, of at most 32 bytes.
 pub fn is_argument(rt: &HostRuntime, at: usize, word: &[u8]) -> bool {
-    let mut bytes = [0u8; 32];
-    let size = arg(rt, at, &mut bytes);
-    same(&bytes[..size], word)
+    let mut room = [0u8; 32];
+    arg(rt, at, &mut room).is_some_and(|argument| argument == word)
 }

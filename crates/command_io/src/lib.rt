@@ -20,26 +20,22 @@ mod places;
 mod shown;
 mod system;
 
-pub use digit::Number;
-pub use ending::{Status, if_written, status_number};
-pub use file::{File, Held, made, open_held, path_at, write_synced};
+pub use ending::Status;
+pub use file::{Held, made, open_held, path_at, write_synced};
 pub use files::{complain, fail_file, read_argument, read_named, streams_are_open, sync_folder};
 pub use help::{is_argument, is_help};
-pub use input::{Input, input_room, read_input, refused};
-pub use kinds::{
-    Access, DANGLING, FOLDER, MISSING, PLAIN, apart, input_apart, is_guarded, kind_at, readable,
-    stands,
-};
+pub use input::{input_room, read_input};
+pub use kinds::{Access, Kind, Stands, apart, input_apart, is_guarded, kind_at, readable};
 pub use message::{
     argument, await_input, fail, fail_argument, fail_between, fail_file_of, fail_of, print_verdict,
     say, say_last, write_output, write_shown,
 };
 pub use number::read_number;
-pub use numbers::{Reading, read_numbers};
-pub use options::{Command, Flag, Options, command_of, flag_of, has_flag, takes, with_flag};
+pub use numbers::{Malformed, read_numbers};
+pub use options::{Command, Flag, Options, command_of, flag_of};
 pub use output::{print, usage};
 pub use path::folder_end;
-pub use pieces::{Gathered, flush, gather};
+pub use pieces::{flush, gather};
 pub use places::{behind, inside, words_from};
 pub use shown::put_shown;
 pub use system::{

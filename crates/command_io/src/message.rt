@@ -1,7 +1,6 @@
 // What awaqlla says on standard error: a line that begins with its name. An argument in it is shown with escapes for what is not printable.
 // A function that ends a command answers its status, which is then failed.
-ghost use Rattle.std.specs.Prelude.{◌≡◌, length};
-ghost use Rattle.io.specs.Counts.{IsPrefixLen};
+ghost use Rattle.std.specs.Prelude.{◌≡◌, ◌≤◌, length};
 
 use crate::ending::Status;
 use crate::shown::put_shown;
@@ -52,9 +51,8 @@ pub fn fail_between(
 
 // Says what is wrong with the argument at a place, and fails.
 pub fn fail_argument(rt: &HostRuntime, at: usize, what: &[u8]) -> Status {
-    let mut word = io::buffer();
-    let size = argument(rt, at, &mut word);
-    fail_of(rt, &word[..size], what)
+    let mut room = io::buffer();
+    fail_of(rt, argument(rt, at, &mut room), what)
 }
 
 // Says what an error says of a file, and fails.
@@ -80,14 +78,14 @@ fn shown_room() -> [u8; 16_384]
     [0; 16_384]
 }
 
-// The argument at a place, or as much of it as there is room for; how many bytes of the buffer it takes.
-pub fn argument(rt: &HostRuntime, at: usize, out: &mut [u8]) -> usize
-    ensures { IsPrefixLen result out.new }
+// The argument at a place, or as much of it as there is room for, put into the buffer; empty where there is none.
+pub fn argument<'a>(rt: &HostRuntime, at: usize, out: &'a mut [u8]) -> &'a [u8]
+    ensures { length result.now ≤ length out.old }
 {
     match rt.arg(at, out) {
-        Ok(size) => size,
-        Err(FillError::TooLong) => out.len(),
-        Err(FillError::NotPresent) => 0,
+        Ok(size) => &out[..size],
+        Err(FillError::TooLong) => out,
+        Err(FillError::NotPresent) => &[],
     }
 }
 

@@ -3,74 +3,77 @@
 ghost use Rattle.std.specs.Prelude.{◌≡◌, ℕ, List, [], ◌∷◌, ◌++◌, if◌then◌else◌};
 ghost use Rattle.text_digits.specs.Text.{Put};
 ghost use Rattle.command_io.specs.Arguments.{is_space};
-ghost use Rattle.command_io.specs.Numbers.{Read, Reads, closed_of, turn_of, numbers_of};
+ghost use Rattle.command_io.specs.Numbers.{Read, Reads, Stores, closed_of, turn_of, numbers_of};
 
-use crate::digit::{Number, digit_after};
+use crate::digit::digit_after;
 
-// How many numbers are stored, whether a word is being read, and what its bytes so far have come to. `pending` is nothing
-// from the first word on that is no number.
-#[derive(Clone, Copy)]
-pub struct Reading {
-    pub count: usize,
-    pub inside: bool,
-    pub pending: Number,
+// A word that is no number, and how many numbers are stored of the words before it.
+#[derive(Clone, Copy, Debug, PartialEq, Eq)]
+pub struct Malformed {
+    pub before: usize,
 }
 
-// Stores the numbers of a text, each at most so large, as many as the buffer has room for.
-pub fn read_numbers(text: &[u8], most: u32, out: &mut [u32]) -> Reading
-    ensures { Reads out.old (numbers_of most text.now) result out.new }
+// How many numbers are stored, whether a word is being read, and what its bytes so far have come to. `pending` is none
+// from the first word on that is no number.
+#[derive(Clone, Copy)]
+pub(crate) struct Reading {
+    pub(crate) count: usize,
+    pub(crate) inside: bool,
+    pub(crate) pending: Option<u32>,
+}
+
+// Stores the numbers of a text, each at most so large, as many as the buffer has room for; how many are stored.
+pub fn read_numbers(text: &[u8], most: u32, out: &mut [u32]) -> Result<usize, Malformed>
+    ensures { Stores out.old (numbers_of most text.now) result out.new }
 {
-    let mut s = Reading {
+    let mut reading = Reading {
         count: 0,
         inside: false,
-        pending: Number::Value(0),
+        pending: Some(0),
     };
-    let mut i = 0;
-    while i < text.len() {
-        s = turn(s, text[i], most, out);
-        i += 1;
+    for c in text {
+        reading = turn(reading, *c, most, out);
     }
-    closed(s, out)
+    let Reading { count, pending, .. } = closed(reading, out);
+    match pending {
+        Some(_) => Ok(count),
+        None => Err(Malformed { before: count }),
+    }
 }
 
 // One byte more: white space ends a word, any other byte belongs to one.
-fn turn(s: Reading, c: u8, most: u32, out: &mut [u32]) -> Reading
-    ensures { (d : List ℕ) (a : Read) → Reads d a s out.old → Reads d (turn_of most a c) result out.new }
+fn turn(reading: Reading, c: u8, most: u32, out: &mut [u32]) -> Reading
+    ensures { (d : List ℕ) (a : Read) → Reads d a reading out.old → Reads d (turn_of most a c) result out.new }
 {
     if is_space(c) {
-        return closed(s, out);
+        return closed(reading, out);
     }
-    let inside = s.inside;
-    let pending = s.pending;
-    let count = s.count;
-    let longer = digit_after(inside, pending, c, most);
     Reading {
-        count,
+        count: reading.count,
         inside: true,
-        pending: longer,
+        pending: digit_after(reading.inside, reading.pending, c, most),
     }
 }
 
 // The end of a word, if one is being read: its number is stored.
-fn closed(s: Reading, out: &mut [u32]) -> Reading
-    ensures { (d : List ℕ) (a : Read) → Reads d a s out.old → Reads d (closed_of a) result out.new }
+fn closed(reading: Reading, out: &mut [u32]) -> Reading
+    ensures { (d : List ℕ) (a : Read) → Reads d a reading out.old → Reads d (closed_of a) result out.new }
 {
-    let count = s.count;
-    let inside = s.inside;
-    let pending = s.pending;
+    let Reading {
+        count,
+        inside,
+        pending,
+    } = reading;
     match pending {
-        Number::Value(n) => {
-            let stored = store_if(inside, out, count, n);
-            Reading {
-                count: stored,
-                inside: false,
-                pending: Number::Value(0),
-            }
-        }
-        Number::Nothing => Reading {
+        Some(n) => Reading {
+            count: store_if(inside, out, count, n),
+            inside: false,
+            pending: Some(0),
+        },
+        None => Reading {
             count,
             inside,
-            pending: Number::Nothing,
+            pending: None,
         },
     }
 }
@@ -94,11 +97,5 @@ fn store_if(wanted: bool, out: &mut [u32], at: usize, n: u32) -> usize
 fn is_space(c: u8) -> bool
     ensures { result ≡ is_space c }
 {
-    if c == 32 {
-        return true;
-    }
-    if c < 9 {
-        return false;
-    }
-    c < 14
+    matches!(c, b' ' | 9..=13)
 }

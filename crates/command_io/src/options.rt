@@ -6,8 +6,8 @@ ghost use Rattle.command_io.specs.Options.{command_of, told_of, asked_of, flag_o
 
 use text_digits::same;
 
-// What awaqlla is asked to do; nothing where the word is none of these.
-#[derive(Clone, Copy)]
+// What awaqlla is asked to do.
+#[derive(Clone, Copy, Debug, PartialEq, Eq)]
 pub enum Command {
     Append,
     List,
@@ -25,11 +25,10 @@ pub enum Command {
     Drawn,
     Help,
     Selftest,
-    Nothing,
 }
 
 // An option, the word that asks for help, the one that ends the options, a word that starts with a dash and is no option, or any other.
-#[derive(Clone, Copy)]
+#[derive(Clone, Copy, Debug, PartialEq, Eq)]
 pub enum Flag {
     Profile,
     Log,
@@ -45,9 +44,9 @@ pub enum Flag {
     Word,
 }
 
-// What the options of a command line came to. `index` and `wait` are the places of INDEX and SECONDS among the arguments, or 0;
+// What the options of a command line came to. `index` and `wait` are the places of INDEX and SECONDS among the arguments;
 // `first` is the place of the first word behind the options.
-#[derive(Clone, Copy)]
+#[derive(Clone, Copy, Debug, PartialEq, Eq, Default)]
 pub struct Options {
     pub profile: bool,
     pub log: bool,
@@ -55,58 +54,55 @@ pub struct Options {
     pub ticks: bool,
     pub make: bool,
     pub check: bool,
-    pub index: usize,
-    pub wait: usize,
+    pub index: Option<usize>,
+    pub wait: Option<usize>,
     pub first: usize,
 }
 
 // The command that a word asks for.
-pub fn command_of(word: &[u8]) -> Command
+pub fn command_of(word: &[u8]) -> Option<Command>
     ensures { result ≡ command_of word.now }
 {
     let rest8 = told_of(word);
-    let rest7 = command_if(word, b"trial", Command::Trial, rest8);
-    let rest6 = command_if(word, b"index", Command::Index, rest7);
-    let rest5 = command_if(word, b"merge", Command::Merge, rest6);
-    let rest4 = command_if(word, b"record", Command::Record, rest5);
-    let rest3 = command_if(word, b"slots", Command::Slots, rest4);
-    let rest2 = command_if(word, b"survey", Command::Survey, rest3);
-    let rest1 = command_if(word, b"list", Command::List, rest2);
-    command_if(word, b"append", Command::Append, rest1)
+    let rest7 = row_or(word, b"trial", Some(Command::Trial), rest8);
+    let rest6 = row_or(word, b"index", Some(Command::Index), rest7);
+    let rest5 = row_or(word, b"merge", Some(Command::Merge), rest6);
+    let rest4 = row_or(word, b"record", Some(Command::Record), rest5);
+    let rest3 = row_or(word, b"slots", Some(Command::Slots), rest4);
+    let rest2 = row_or(word, b"survey", Some(Command::Survey), rest3);
+    let rest1 = row_or(word, b"list", Some(Command::List), rest2);
+    row_or(word, b"append", Some(Command::Append), rest1)
 }
 
 // The same of those that need no volume.
-fn told_of(word: &[u8]) -> Command
+fn told_of(word: &[u8]) -> Option<Command>
     ensures { result ≡ told_of word.now }
 {
     let rest7 = asked_of(word);
-    let rest6 = command_if(word, b"page", Command::Drawn, rest7);
-    let rest5 = command_if(word, b"plot", Command::Drawn, rest6);
-    let rest4 = command_if(word, b"demo", Command::Demo, rest5);
-    let rest3 = command_if(word, b"refusal", Command::Refusal, rest4);
-    let rest2 = command_if(word, b"date", Command::Date, rest3);
-    let rest1 = command_if(word, b"day", Command::Day, rest2);
-    command_if(word, b"band", Command::Band, rest1)
+    let rest6 = row_or(word, b"page", Some(Command::Drawn), rest7);
+    let rest5 = row_or(word, b"plot", Some(Command::Drawn), rest6);
+    let rest4 = row_or(word, b"demo", Some(Command::Demo), rest5);
+    let rest3 = row_or(word, b"refusal", Some(Command::Refusal), rest4);
+    let rest2 = row_or(word, b"date", Some(Command::Date), rest3);
+    let rest1 = row_or(word, b"day", Some(Command::Day), rest2);
+    row_or(word, b"band", Some(Command::Band), rest1)
 }
 
 // The same of what is asked of the program itself.
-fn asked_of(word: &[u8]) -> Command
+fn asked_of(word: &[u8]) -> Option<Command>
     ensures { result ≡ asked_of word.now }
 {
-    let rest3 = Command::Nothing;
-    let rest2 = command_if(word, b"selftest", Command::Selftest, rest3);
-    let rest1 = command_if(word, b"--help", Command::Help, rest2);
-    command_if(word, b"-h", Command::Help, rest1)
+    let rest3 = None;
+    let rest2 = row_or(word, b"selftest", Some(Command::Selftest), rest3);
+    let rest1 = row_or(word, b"--help", Some(Command::Help), rest2);
+    row_or(word, b"-h", Some(Command::Help), rest1)
 }
 
-// A command where two words are the same, else the other.
-fn command_if(word: &[u8], row: &[u8], yes: Command, no: Command) -> Command
+// A value where two words are the same, else another.
+fn row_or<T: Copy + Drop>(word: &[u8], row: &[u8], yes: T, no: T) -> T
     ensures { result ≡ (if same_bytes word.now row.now then yes else no) }
 {
-    if same(word, row) {
-        return yes;
-    }
-    no
+    if same(word, row) { yes } else { no }
 }
 
 // The option that a word is.
@@ -114,14 +110,14 @@ pub fn flag_of(word: &[u8]) -> Flag
     ensures { result ≡ flag_of word.now }
 {
     let rest8 = end_of(word);
-    let rest7 = flag_if(word, b"--check", Flag::Check, rest8);
-    let rest6 = flag_if(word, b"--make", Flag::Make, rest7);
-    let rest5 = flag_if(word, b"--ticks", Flag::Ticks, rest6);
-    let rest4 = flag_if(word, b"--tsv", Flag::Tabs, rest5);
-    let rest3 = flag_if(word, b"--wait", Flag::Wait, rest4);
-    let rest2 = flag_if(word, b"--index", Flag::Index, rest3);
-    let rest1 = flag_if(word, b"--log", Flag::Log, rest2);
-    flag_if(word, b"--profile", Flag::Profile, rest1)
+    let rest7 = row_or(word, b"--check", Flag::Check, rest8);
+    let rest6 = row_or(word, b"--make", Flag::Make, rest7);
+    let rest5 = row_or(word, b"--ticks", Flag::Ticks, rest6);
+    let rest4 = row_or(word, b"--tsv", Flag::Tabs, rest5);
+    let rest3 = row_or(word, b"--wait", Flag::Wait, rest4);
+    let rest2 = row_or(word, b"--index", Flag::Index, rest3);
+    let rest1 = row_or(word, b"--log", Flag::Log, rest2);
+    row_or(word, b"--profile", Flag::Profile, rest1)
 }
 
 // The same of the words behind which no option stands.
@@ -129,134 +125,73 @@ fn end_of(word: &[u8]) -> Flag
     ensures { result ≡ end_of word.now }
 {
     let rest3 = dash_of(word);
-    let rest2 = flag_if(word, b"--", Flag::End, rest3);
-    let rest1 = flag_if(word, b"--help", Flag::Help, rest2);
-    flag_if(word, b"-h", Flag::Help, rest1)
-}
-
-// An option where two words are the same, else the other.
-fn flag_if(word: &[u8], row: &[u8], yes: Flag, no: Flag) -> Flag
-    ensures { result ≡ (if same_bytes word.now row.now then yes else no) }
-{
-    if same(word, row) {
-        return yes;
-    }
-    no
+    let rest2 = row_or(word, b"--", Flag::End, rest3);
+    let rest1 = row_or(word, b"--help", Flag::Help, rest2);
+    row_or(word, b"-h", Flag::Help, rest1)
 }
 
 // A word that starts with a dash, or any other.
 fn dash_of(word: &[u8]) -> Flag
     ensures { result ≡ dash_of word.now }
 {
-    if word.len() == 0 {
-        return Flag::Word;
-    }
-    if word[0] == b'-' {
-        return Flag::Dash;
-    }
-    Flag::Word
-}
-
-// Whether a command takes an option.
-pub fn takes(command: Command, flag: Flag) -> bool {
-    match flag {
-        Flag::Profile => takes_profile(command),
-        Flag::Log => is_append(command),
-        Flag::Index => is_append(command),
-        Flag::Wait => writes(command),
-        Flag::Tabs => is_slots(command),
-        Flag::Ticks => is_record(command),
-        Flag::Make => is_index(command),
-        Flag::Check => is_index(command),
-        _ => false,
+    match word.first() {
+        Some(b'-') => Flag::Dash,
+        _ => Flag::Word,
     }
 }
 
-fn takes_profile(command: Command) -> bool {
-    match command {
-        Command::Append => true,
-        Command::List => true,
-        Command::Survey => true,
-        _ => false,
+impl Command {
+    // Whether a command takes an option.
+    pub fn takes(self, flag: Flag) -> bool {
+        match flag {
+            Flag::Profile => matches!(self, Command::Append | Command::List | Command::Survey),
+            Flag::Log | Flag::Index => matches!(self, Command::Append),
+            Flag::Wait => matches!(self, Command::Append | Command::Merge | Command::Index),
+            Flag::Tabs => matches!(self, Command::Slots),
+            Flag::Ticks => matches!(self, Command::Record),
+            Flag::Make | Flag::Check => matches!(self, Command::Index),
+            _ => false,
+        }
     }
 }
 
-fn writes(command: Command) -> bool {
-    match command {
-        Command::Append => true,
-        Command::Merge => true,
-        Command::Index => true,
-        _ => false,
+impl Options {
+    // Whether an option stands already; of --make and --check one stands.
+    pub fn has(self, flag: Flag) -> bool {
+        match flag {
+            Flag::Profile => self.profile,
+            Flag::Log => self.log,
+            Flag::Index => self.index.is_some(),
+            Flag::Wait => self.wait.is_some(),
+            Flag::Tabs => self.tabs,
+            Flag::Ticks => self.ticks,
+            Flag::Make | Flag::Check => self.make || self.check,
+            _ => false,
+        }
     }
-}
 
-fn is_append(command: Command) -> bool {
-    match command {
-        Command::Append => true,
-        _ => false,
+    // The options with one more, at a place. Behind it stands the next word; behind --index and --wait the one after that.
+    pub fn with(self, flag: Flag, at: usize) -> Options {
+        let next = at.wrapping_add(1);
+        let mut options = self;
+        options.first = next;
+        match flag {
+            Flag::Profile => options.profile = true,
+            Flag::Log => options.log = true,
+            Flag::Index => {
+                options.index = Some(next);
+                options.first = next.wrapping_add(1);
+            }
+            Flag::Wait => {
+                options.wait = Some(next);
+                options.first = next.wrapping_add(1);
+            }
+            Flag::Tabs => options.tabs = true,
+            Flag::Ticks => options.ticks = true,
+            Flag::Make => options.make = true,
+            Flag::Check => options.check = true,
+            _ => (),
+        }
+        options
     }
-}
-
-fn is_slots(command: Command) -> bool {
-    match command {
-        Command::Slots => true,
-        _ => false,
-    }
-}
-
-fn is_record(command: Command) -> bool {
-    match command {
-        Command::Record => true,
-        _ => false,
-    }
-}
-
-fn is_index(command: Command) -> bool {
-    match command {
-        Command::Index => true,
-        _ => false,
-    }
-}
-
-// Whether an option stands already; of --make and --check one stands.
-pub fn has_flag(o: Options, flag: Flag) -> bool {
-    match flag {
-        Flag::Profile => o.profile,
-        Flag::Log => o.log,
-        Flag::Index => o.index > 0,
-        Flag::Wait => o.wait > 0,
-        Flag::Tabs => o.tabs,
-        Flag::Ticks => o.ticks,
-        Flag::Make => o.make || o.check,
-        Flag::Check => o.make || o.check,
-        _ => false,
-    }
-}
-
-// The options with one more, at a place. Behind it stands the next word; behind --index and --wait the one after that.
-pub fn with_flag(o: Options, flag: Flag, at: usize) -> Options {
-    let next = std::num::wrapping_add_usize(at, 1);
-    let mut r = o;
-    r.first = next;
-    match flag {
-        Flag::Profile => r.profile = true,
-        Flag::Log => r.log = true,
-        Flag::Index => r = with_places(r, next, r.wait),
-        Flag::Wait => r = with_places(r, r.index, next),
-        Flag::Tabs => r.tabs = true,
-        Flag::Ticks => r.ticks = true,
-        Flag::Make => r.make = true,
-        Flag::Check => r.check = true,
-        _ => (),
-    }
-    r
-}
-
-// The same with the places of INDEX and SECONDS, of which one is the word before the next.
-fn with_places(o: Options, index: usize, wait: usize) -> Options {
-    let mut r = o;
-    r.index = index;
-    r.wait = wait;
-    r.first = std::num::wrapping_add_usize(o.first, 1);
-    r
 }

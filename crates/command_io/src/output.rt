@@ -6,9 +6,8 @@ use crate::system::{arg, fail_system, write_error};
 // The help on standard output where the first argument asks for it, else what is wrong on standard error. `output` starts the
 // message where the help cannot be written, as in `list: standard output`.
 pub fn usage(rt: &HostRuntime, help: &[u8], wrong: &[u8], output: &[u8]) {
-    let mut word = [0u8; 6];
-    let size = arg(rt, 1, &mut word);
-    if is_help(&word[..size]) {
+    let mut room = [0u8; 6];
+    if arg(rt, 1, &mut room).is_some_and(is_help) {
         print(rt, help, output);
     } else {
         write_error(rt, wrong);

@@ -9,12 +9,10 @@ pub fn folder_end(path: &[u8]) -> usize
     ensures value { result ≡ folder_end path.now }
     ensures prefix_len { IsPrefixLen result path.now }
 {
-    let mut end = path.len();
-    while end > 0 {
-        if path[end - 1] == b'/' {
-            return end;
+    for i in (0..path.len()).rev() {
+        if path[i] == b'/' {
+            return i + 1;
         }
-        end -= 1;
     }
     0
 }

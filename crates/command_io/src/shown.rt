@@ -11,10 +11,8 @@ pub fn put_shown(line: &mut [u8], place: usize, text: &[u8]) -> usize
     ensures { Put line.old place (shown_of text.now) line.new result }
 {
     let mut at = place;
-    let mut i = 0;
-    while i < text.len() {
-        at = put_shown_byte(line, at, text[i]);
-        i += 1;
+    for c in text {
+        at = put_shown_byte(line, at, *c);
     }
     at
 }
@@ -24,11 +22,10 @@ fn put_shown_byte(line: &mut [u8], place: usize, c: u8) -> usize
     ensures { Put line.old place (shown_byte c) line.new result }
 {
     if is_printable(c) {
-        let one = [c; 1];
-        return put(line, place, &one);
+        put(line, place, &[c])
+    } else {
+        put(line, place, &escape_of(c))
     }
-    let escape = escape_of(c);
-    put(line, place, &escape)
 }
 
 // The escape of a byte.

@@ -1,5 +1,6 @@
 // What the commands ask the system for, over std: arguments, files by their names in bytes, standard error, and an error in words.
 // A name of std's is text, so a name that is not UTF-8 is refused.
+ghost use Rattle.std.specs.Prelude.{◌≤◌, length, IfSome};
 ghost use Rattle.io.specs.Counts.{IsPrefixLen};
 
 use std::env::{Env, FillError};
@@ -7,13 +8,14 @@ use std::fmt::InlineText;
 use std::fs;
 use std::io::{Error, ErrorKind};
 
-// Puts the argument at a place into the buffer, and answers how many bytes it takes, 0 where there is none and where it is longer than the buffer.
-pub fn arg(rt: &HostRuntime, at: usize, out: &mut [u8]) -> usize
-    ensures { IsPrefixLen result out.new }
+// The argument at a place, put into the buffer; none where there is none, where it is empty, and where it is longer than the buffer.
+pub fn arg<'a>(rt: &HostRuntime, at: usize, out: &'a mut [u8]) -> Option<&'a [u8]>
+    ensures { IfSome result (λ word. length word.now ≤ length out.old) }
 {
     match rt.arg(at, out) {
-        Ok(size) => size,
-        Err(_) => 0,
+        Ok(0) => None,
+        Ok(size) => Some(&out[..size]),
+        Err(_) => None,
     }
 }
 
@@ -21,9 +23,8 @@ pub fn arg(rt: &HostRuntime, at: usize, out: &mut [u8]) -> usize
 pub fn arg_count(rt: &HostRuntime) -> usize {
     for i in 0..usize::MAX {
         let mut byte = [0u8; 1];
-        match rt.arg(i, &mut byte) {
-            Err(FillError::NotPresent) => return i,
-            _ => {}
+        if let Err(FillError::NotPresent) = rt.arg(i, &mut byte) {
+            return i;
         }
     }
     usize::MAX
@@ -89,8 +90,7 @@ pub fn fail_system(rt: &HostRuntime, what: &[u8], error: Error) {
     write_error(rt, b": ");
     let said = InlineText::<256>::of(error);
     let words = said.as_str().as_bytes();
-    let size = words_end(words);
-    write_error(rt, &words[..size]);
+    write_error(rt, &words[..words_end(words)]);
     write_error(rt, b"\n");
 }
 
@@ -98,12 +98,8 @@ pub fn fail_system(rt: &HostRuntime, what: &[u8], error: Error) {
 fn words_end(words: &[u8]) -> usize
     ensures { IsPrefixLen result words.now }
 {
-    let mut end = words.len();
-    while end > 1 {
-        end -= 1;
-        if words[end] == b'(' {
-            return end - 1;
-        }
+    match words.iter().rposition(|c| *c == b'(') {
+        Some(end) if 0 < end => end - 1,
+        _ => words.len(),
     }
-    words.len()
 }

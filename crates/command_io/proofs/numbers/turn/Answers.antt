@@ -11,4 +11,4 @@ pub returns : goal.returns
 returns c =
     let args = c.args in
     λ d a h. rw (turn_other _ a _ (sym c.is_space.ensures ∙ c.if-is_space.false))
-    (record { stored = h.stored; inside = refl; pending = c.digit_after-longer.ensures ∙ rw (h.inside, h.pending) refl })
+    (record { stored = h.stored; inside = refl; pending = c.digit_after.ensures ∙ rw (h.inside, h.pending) refl })

@@ -7,4 +7,4 @@ use Rattle.command_io.proofs.options.asked_of.Goals as goal
 pub returns : goal.returns
 unfolding bytes_of asked_of
 returns c =
-    rw (c.command_if.ensures, c.command_if-rest1.ensures, c.command_if-rest2.ensures)
+    rw (c.row_or.ensures, c.row_or-rest1.ensures, c.row_or-rest2.ensures)

@@ -7,4 +7,4 @@ use Rattle.command_io.proofs.options.command_of.Goals as goal
 pub returns : goal.returns
 unfolding bytes_of command_of
 returns c =
-    rw (c.command_if.ensures, c.command_if-rest1.ensures, c.command_if-rest2.ensures, c.command_if-rest3.ensures, c.command_if-rest4.ensures, c.command_if-rest5.ensures, c.command_if-rest6.ensures, c.command_if-rest7.ensures, c.told_of-rest8.ensures)
+    rw (c.row_or.ensures, c.row_or-rest1.ensures, c.row_or-rest2.ensures, c.row_or-rest3.ensures, c.row_or-rest4.ensures, c.row_or-rest5.ensures, c.row_or-rest6.ensures, c.row_or-rest7.ensures, c.told_of-rest8.ensures)

@@ -7,4 +7,4 @@ use Rattle.command_io.proofs.options.end_of.Goals as goal
 pub returns : goal.returns
 unfolding bytes_of end_of
 returns c =
-    rw (c.flag_if.ensures, c.flag_if-rest1.ensures, c.flag_if-rest2.ensures, c.dash_of-rest3.ensures)
+    rw (c.row_or.ensures, c.row_or-rest1.ensures, c.row_or-rest2.ensures, c.dash_of-rest3.ensures)

@@ -7,4 +7,4 @@ use Rattle.command_io.proofs.options.flag_of.Goals as goal
 pub returns : goal.returns
 unfolding bytes_of flag_of
 returns c =
-    rw (c.flag_if.ensures, c.flag_if-rest1.ensures, c.flag_if-rest2.ensures, c.flag_if-rest3.ensures, c.flag_if-rest4.ensures, c.flag_if-rest5.ensures, c.flag_if-rest6.ensures, c.flag_if-rest7.ensures, c.end_of-rest8.ensures)
+    rw (c.row_or.ensures, c.row_or-rest1.ensures, c.row_or-rest2.ensures, c.row_or-rest3.ensures, c.row_or-rest4.ensures, c.row_or-rest5.ensures, c.row_or-rest6.ensures, c.row_or-rest7.ensures, c.end_of-rest8.ensures)

@@ -1,13 +1,10 @@
 -- `fits` compares in two steps, so that no sum can be too large. Assumes nothing.
 use Rattle.std.proofs.Common.{arith}
-use Rattle.command_io.proofs.Gathering.{fits_not, fits_so}
+use Rattle.std.proofs.lemmas.Bool.Decides.{nat_tests}
 use Rattle.command_io.proofs.pieces.fits.Goals as goal
 
-pub returns-then-room-waiting : goal.returns-then-room-waiting
-returns-then-room-waiting c = fits_not _ _ _ (omega arith)
+pub returns-then-waiting-room : goal.returns-then-waiting-room
+returns-then-waiting-room c = grind (arith, nat_tests)
 
-pub returns-then-room-waiting-2 : goal.returns-then-room-waiting-2
-returns-then-room-waiting-2 c = fits_not _ _ _ (omega arith)
-
-pub returns : goal.returns
-returns c = fits_so _ _ _ (omega arith)
+pub returns-else-waiting-room : goal.returns-else-waiting-room
+returns-else-waiting-room c = grind (arith, nat_tests)
