@@ -21,7 +21,7 @@ no_nan nan e = e
 no_nan (inf s) e = refl
 no_nan (fin s m k) e = refl
 
-nan_only : (x : Float) → is_nan x ≡ true → x ≡ nan
+pub nan_only : (x : Float) → is_nan x ≡ true → x ≡ nan
 unfolding is_nan
 nan_only nan e = refl
 nan_only (inf s) e = cc

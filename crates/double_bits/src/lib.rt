@@ -21,7 +21,7 @@ pub fn of_bits(b: u64) -> f64
     ensures { result ≡ of_bits binary64 b }
 {
     if b % SIGN > INFINITY {
-        return 0.0 / 0.0;
+        return f64::NAN;
     }
     f64::from_bits(b)
 }
@@ -30,8 +30,8 @@ pub fn of_bits(b: u64) -> f64
 pub fn bits_of(x: f64) -> u64
     ensures { result ≡ to_bits binary64 x }
 {
-    if x != x {
+    if x.is_nan() {
         return NAN;
     }
-    f64::to_bits(x)
+    x.to_bits()
 }

@@ -6,27 +6,30 @@ ghost use Rattle.sqrt.specs.Steps.{IsRest, IsWhole};
 
 use crate::root::Whole;
 
-// The root and remainder of (s * s + r) * w * w + hi * w + lo, from a root s with remainder r.
-// The quotient by twice the root is the next digits, or one more than they are.
-fn extend(s: u64, r: u64, w: u64, hi: u64, lo: u64) -> Whole
-    requires { (r ≤ 2 * s) × (0 < s) × (s < 2 ^ 27) × (w ≤ 2 * s) × (hi < w) × (lo < w) × (w ≤ 2 ^ 27) }
-    ensures { IsRest ((s * s + r) * (w * w) + hi * w + lo) result.root result.rest }
-{
-    let d = s * 2;
-    let n = r * w + hi;
-    let q = n / d;
-    let u = n % d * w + lo;
-    let t = s * w + q;
-    let y = q * q;
-    if y <= u {
-        Whole {
-            root: t,
-            rest: u - y,
-        }
-    } else {
-        Whole {
-            root: t - 1,
-            rest: u + (t * 2 - 1) - y,
+impl Whole {
+    // The root and remainder of (s * s + r) * w * w + hi * w + lo, from a root s with remainder r.
+    // The quotient by twice the root is the next digits, or one more than they are.
+    fn extend(self, w: u64, hi: u64, lo: u64) -> Whole
+        requires { (self.rest ≤ 2 * self.root) × (0 < self.root) × (self.root < 2 ^ 27) × (w ≤ 2 * self.root) × (hi < w) × (lo < w) × (w ≤ 2 ^ 27) }
+        ensures { IsRest ((self.root * self.root + self.rest) * (w * w) + hi * w + lo) result.root result.rest }
+    {
+        let Whole { root: s, rest: r } = self;
+        let d = s * 2;
+        let n = r * w + hi;
+        let q = n / d;
+        let u = n % d * w + lo;
+        let t = s * w + q;
+        let y = q * q;
+        if y <= u {
+            Whole {
+                root: t,
+                rest: u - y,
+            }
+        } else {
+            Whole {
+                root: t - 1,
+                rest: u + (t * 2 - 1) - y,
+            }
         }
     }
 }
@@ -36,18 +39,15 @@ fn root4(n: u64) -> u64
     requires { (64 ≤ n) × (n < 256) }
     ensures { (IsRoot n result) × (8 ≤ result) × (result < 16) }
 {
-    if n < 144 {
-        if n < 100 {
-            if n < 81 { 8 } else { 9 }
-        } else {
-            if n < 121 { 10 } else { 11 }
-        }
-    } else {
-        if n < 196 {
-            if n < 169 { 12 } else { 13 }
-        } else {
-            if n < 225 { 14 } else { 15 }
-        }
+    match n {
+        ..81 => 8,
+        81..100 => 9,
+        100..121 => 10,
+        121..144 => 11,
+        144..169 => 12,
+        169..196 => 13,
+        196..225 => 14,
+        _ => 15,
     }
 }
 
@@ -58,13 +58,11 @@ fn root7(q: u64) -> Whole
 {
     let n = q / 0x4000_0000_0000;
     let s = root4(n);
-    extend(
-        s,
-        n - s * s,
-        8,
-        q / 0x800_0000_0000 % 8,
-        q / 0x100_0000_0000 % 8,
-    )
+    let w = Whole {
+        root: s,
+        rest: n - s * s,
+    };
+    w.extend(8, q / 0x800_0000_0000 % 8, q / 0x100_0000_0000 % 8)
 }
 
 // The root of q's leading digits, those above the lowest 26.
@@ -73,13 +71,7 @@ fn root14(q: u64) -> Whole
     ensures { IsRest (q / 2 ^ 26) result.root result.rest }
 {
     let p = root7(q);
-    extend(
-        p.root,
-        p.rest,
-        128,
-        q / 0x2_0000_0000 % 128,
-        q / 0x400_0000 % 128,
-    )
+    p.extend(128, q / 0x2_0000_0000 % 128, q / 0x400_0000 % 128)
 }
 
 // The root of q.
@@ -88,7 +80,7 @@ fn root27(q: u64) -> Whole
     ensures { IsRest q result.root result.rest }
 {
     let p = root14(q);
-    extend(p.root, p.rest, 8192, q / 8192 % 8192, q % 8192)
+    p.extend(8192, q / 8192 % 8192, q % 8192)
 }
 
 // The root of q * 2^54.
@@ -97,5 +89,5 @@ pub(crate) fn root54(q: u64) -> Whole
     ensures { IsWhole q result.root result.rest }
 {
     let p = root27(q);
-    extend(p.root, p.rest, 0x800_0000, 0, 0)
+    p.extend(0x800_0000, 0, 0)
 }

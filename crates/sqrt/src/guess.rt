@@ -14,8 +14,8 @@ pub(crate) fn inverse_root(b: u64) -> u64
     let first = c / 0x40_0000_0000 * p;
     let second = c / 0x1_0000 % 0x40_0000 * (p * p / 0x1_0000_0000);
     let third = c % 0x1_0000 * cube(p / 0x1_0000) / 0x1_0000;
-    let even = std::num::wrapping_add_u64(constant_term(span), second);
-    std::num::wrapping_sub_u64(std::num::wrapping_sub_u64(even, first), third) / 0x1_0000_0000
+    let even = constant_term(span).wrapping_add(second);
+    even.wrapping_sub(first).wrapping_sub(third) / 0x1_0000_0000
 }
 
 // The cube of a number of 16 bits.

@@ -22,7 +22,7 @@ pub fn sqrt(x: f64) -> f64
     if !(0.0 < x) {
         return not_positive(x);
     }
-    let b = f64::to_bits(x);
+    let b = x.to_bits();
     if b >= double_bits::INFINITY {
         return x;
     }
@@ -30,7 +30,7 @@ pub fn sqrt(x: f64) -> f64
     let n = scale::scaled(b);
     let w = root::whole_root(n.q, guess::inverse_root(b));
     // 3. One rounding, from the whole root and its remainder.
-    rounding::rounded(w, n.z)
+    w.rounded(n.z)
 }
 
 // The root of an operand that is not above zero: a zero is its own root, and the others have none.
@@ -41,7 +41,7 @@ fn not_positive(x: f64) -> f64
     if x == 0.0 {
         return x;
     }
-    0.0 / 0.0
+    f64::NAN
 }
 
 // The same on bit patterns, as C and the comparisons call it.

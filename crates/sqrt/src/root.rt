@@ -21,7 +21,7 @@ pub(crate) fn whole_root(q: u64, y: u64) -> Whole
 {
     let g = q / 0x40_0000 * y / 0x8000_0000;
     if g < 0x1_0000_0000 {
-        let t = std::num::wrapping_sub_u64(q * 1024 + 16, g * g);
+        let t = (q * 1024 + 16).wrapping_sub(g * g);
         if t < 0xf_0000_0000 {
             let l = t * (y / 16 + 1) / 0x40_0000_0000;
             return checked(q, g, t, l);
@@ -42,13 +42,13 @@ fn checked(q: u64, g: u64, t: u64, l: u64) -> Whole
     ensures { IsWhole q result.root result.rest }
 {
     let s = g * 0x40_0000 + l;
-    let e = std::num::wrapping_sub_u64((t + 4080) * 0x20_0000, g * l);
+    let e = ((t + 4080) * 0x20_0000).wrapping_sub(g * l);
     if e < 0x100_0000_0000 {
-        let r = std::num::wrapping_sub_u64(e * 0x80_0000, l * l + 0x100_0000_0000_0000);
+        let r = (e * 0x80_0000).wrapping_sub(l * l + 0x100_0000_0000_0000);
         if r <= s * 2 {
             return Whole { root: s, rest: r };
         }
-        let u = std::num::wrapping_add_u64(r, s * 2 - 1);
+        let u = r.wrapping_add(s * 2 - 1);
         if u <= s * 2 - 2 {
             return Whole {
                 root: s - 1,

@@ -5,21 +5,21 @@ ghost use Rattle.std.specs.Float.{binary64};
 ghost use Rattle.sqrt.specs.Sqrt.{round_root};
 
 use crate::root::Whole;
+use double_bits::UNIT;
 
-// The weight of the exponent's field: 2^52.
-const UNIT: u64 = 0x10_0000_0000_0000;
-
-// The root times 2^z smallest doubles, rounded once. The whole root has 54 digits: the last is dropped, and is worth a half of the one
-// before it; z + 1 goes before the others. In `sqrt` there is no tie, since the number under the root is even (`no_tie`).
-pub(crate) fn rounded(w: Whole, z: u64) -> f64
-    requires { (2 ^ 53 ≤ w.root) × (w.root < 2 ^ 54) × (z < 2000) }
-    ensures { result ≡ round_root binary64 w.root w.rest z }
-{
-    // The last digit is 1 and nothing remains: exactly half. A tie goes to the even one.
-    if w.rest == 0 && w.root % 2 == 1 {
-        let kept = w.root / 2;
-        return f64::from_bits((z + 1) * UNIT + kept + kept % 2);
+impl Whole {
+    // The root times 2^z smallest doubles, rounded once. The whole root has 54 digits: the last is dropped, and is worth a half of the one
+    // before it; z + 1 goes before the others. In `sqrt` there is no tie, since the number under the root is even (`no_tie`).
+    pub(crate) fn rounded(self, z: u64) -> f64
+        requires { (2 ^ 53 ≤ self.root) × (self.root < 2 ^ 54) × (z < 2000) }
+        ensures { result ≡ round_root binary64 self.root self.rest z }
+    {
+        // The last digit is 1 and nothing remains: exactly half. A tie goes to the even one.
+        if self.rest == 0 && self.root % 2 == 1 {
+            let kept = self.root / 2;
+            return f64::from_bits((z + 1) * UNIT + kept + kept % 2);
+        }
+        // A last digit of 1 only looks like a tie: with what remains it is above half, and goes up. One of 0 is below half, whatever remains.
+        f64::from_bits(((z + 1) * 2 * UNIT + self.root + 1) / 2)
     }
-    // A last digit of 1 only looks like a tie: with what remains it is above half, and goes up. One of 0 is below half, whatever remains.
-    f64::from_bits(((z + 1) * 2 * UNIT + w.root + 1) / 2)
 }

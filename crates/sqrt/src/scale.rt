@@ -26,7 +26,7 @@ pub(crate) fn scaled(b: u64) -> Radicand
     let k = e + 1019;
     let m = t + UNIT;
     let q = if k % 2 == 0 { m } else { m * 2 };
-    Radicand { q: q, z: k / 2 }
+    Radicand { q, z: k / 2 }
 }
 
 // m smallest doubles, scaled: m takes two binary digits from the power of four until it has 53.
@@ -37,8 +37,8 @@ fn subnormal(m: u64) -> Radicand
     let mut q = m;
     let mut z = 510;
     while q < UNIT {
-        q = q * 4;
-        z = z - 1;
+        q *= 4;
+        z -= 1;
     }
-    Radicand { q: q, z: z }
+    Radicand { q, z }
 }
