@@ -8,6 +8,7 @@ mod steps;
 mod times;
 mod whole;
 
-pub use lines::{Line, next};
-pub use reading::{LineRead, line_at};
-pub use times::{Cursor, Gathering, begin, end, gather, read};
+pub use lines::Line;
+pub use reading::line_at;
+pub use times::{Cursor, Gathering, Misread, gather};
+pub use whole::WholeLine;
