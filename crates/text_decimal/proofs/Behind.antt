@@ -1,12 +1,11 @@
 -- The digits behind the point: k of them belong to r / 2 ^ k, the first is the whole number of r * 5 / 2 ^ (k - 1), and what that leaves gives the
 -- others. Assumes nothing.
 use mathlib.Core.Path.{◌≡◌, refl, sym, ap, ap₂, ◌∙◌}
-use Prim.Native.Nat.{ℕ, zero, suc, ◌+◌, ◌-◌, ◌*◌, ◌/◌, ◌%◌, ◌^◌, ◌≤◌, ◌<◌}
+use Prim.Native.Nat.{ℕ, zero, suc, ◌+◌, ◌*◌, ◌/◌, ◌%◌, ◌^◌, ◌≤◌, ◌<◌}
 use mathlib.Core.List.{List, [], ◌∷◌, ◌++◌}
 use native.Mathlib.Nat.{mul_assoc, add-mul, mul-mul-mul_comm, mul-div-mul_right, div-lt_iff_lt-mul, mod-lt, mod-eq_of_lt}
 use native.Mathlib.Nat.{pow-suc, pow-succ', one-le-pow, pow-le-pow_right}
 use native.Mathlib.Omega.{arith}
-use lib.ListN.{length}
 use lib.Pow.{pow_pos, split}
 use Rattle.text_digits.specs.Hex.{glyph_of, digits, places_of, decimal_digits}
 use Rattle.text_digits.specs.Text.{Put}
@@ -79,48 +78,37 @@ digits_next r j h =
 
 -- ---- the loop
 
--- of the k digits of rest / 2 ^ k the last `left` are still to be put into d at p, those of r / u
-pub record Going (rest k : ℕ) (d₀ : List ℕ) (at : ℕ) (d : List ℕ) (p r u left : ℕ) : Type 0 where
-  pub unit : u ≡ 2 ^ left
-  pub small : u ≤ 2 ^ 60
-  pub below : r < u
-  pub size : length d ≡ length d₀
+-- of the k digits of rest / 2 ^ k the last `left` are still to be put into d at p, those of r / 2 ^ left
+pub record Going (rest k : ℕ) (d₀ : List ℕ) (at : ℕ) (d : List ℕ) (p r left : ℕ) : Type 0 where
+  pub few : left ≤ 60
+  pub below : r < 2 ^ left
   pub goes : (d' : List ℕ) (q : ℕ) → Put d p (digits 10 left (r * 5 ^ left)) d' q → Put d₀ at (digits 10 k (rest * 5 ^ k)) d' q
 
 module _ (rest k : ℕ) (d₀ : List ℕ) (at : ℕ) where
-  pub going_start : (u : ℕ) → u ≡ 2 ^ k → u ≤ 2 ^ 60 → rest < u → Going rest k d₀ at d₀ at rest u k
-  going_start u e h b = record { unit = e; small = h; below = b; size = refl; goes = λ d' q w. w }
+  pub going_start : k ≤ 60 → rest < 2 ^ k → Going rest k d₀ at d₀ at rest k
+  going_start h b = record { few = h; below = b; goes = λ d' q w. w }
 
-  module _ (d : List ℕ) (p r u left : ℕ) (g : Going rest k d₀ at d p r u left) where
-    -- half of the unit is the next one
-    pub going_half : 0 < left → (u / 2 ≡ 2 ^ (left - 1)) × (0 < u / 2) × (r < 2 ^ suc (left - 1))
-    going_half h =
-        let one : left ≡ suc (left - 1) = omega arith in
-        let power : 2 ^ left ≡ 2 ^ (left - 1) * 2 = ap (λ (n : ℕ). 2 ^ n) one ∙ pow-suc 2 (left - 1) in
-        let again = pow-suc 2 (left - 1) in
-        let e = g.unit in
+  module _ (d : List ℕ) (p r left : ℕ) (g : Going rest k d₀ at d p r left) where
+    -- five times what is left fits a u64
+    pub going_small : r * 5 < 2 ^ 64
+    going_small =
         let b = g.below in
-        let s = pow_pos (left - 1) in
-        (omega arith, omega arith, omega arith)
+        let most : 2 ^ left ≤ 2 ^ 60 = pow-le-pow_right (omega arith) g.few in
+        omega arith
 
-    going_next : 0 < left
-        → digits 10 left (r * 5 ^ left) ≡ decimal_digits (r * 5 / (u / 2)) ++ digits 10 (left - 1) (r * 5 % (u / 2) * 5 ^ (left - 1))
-    going_next h =
-        let one : left ≡ suc (left - 1) = omega arith in
-        let half = going_half h in
-        ap (λ (n : ℕ). digits 10 n (r * 5 ^ n)) one ∙ digits_next r (left - 1) half.2 ∙ rw half.0
-
-    pub going_turn : (d₁ : List ℕ) (p₁ : ℕ) → 0 < left → length d₁ ≡ length d → Put d p (decimal_digits (r * 5 / (u / 2))) d₁ p₁
-        → Going rest k d₀ at d₁ p₁ (r * 5 % (u / 2)) (u / 2) (left - 1)
-    going_turn d₁ p₁ h size w =
-        let half = going_half h in
-        let s = g.small in
+    pub going_turn : (less : ℕ) (d₁ : List ℕ) (p₁ unit : ℕ) → left ≡ less + 1 → unit ≡ 2 ^ less → Put d p (decimal_digits (r * 5 / unit)) d₁ p₁
+        → Going rest k d₀ at d₁ p₁ (r * 5 % unit) less
+    going_turn less d₁ p₁ unit e u w =
+        let b = g.below in
+        let f = g.few in
+        let one : left ≡ suc less = omega arith in
+        let inside : r < 2 ^ suc less = rw one at b in
+        let next : digits 10 left (r * 5 ^ left) ≡ decimal_digits (r * 5 / unit) ++ digits 10 less (r * 5 % unit * 5 ^ less) =
+        ap (λ (n : ℕ). digits 10 n (r * 5 ^ n)) one ∙ digits_next r less inside ∙ rw u in
         record {
-          unit = half.0;
-          small = omega arith;
-          below = mod-lt (r * 5) half.1;
-          size = size ∙ g.size;
-          goes = λ d' q others. g.goes d' q (rw (going_next h) (put_put d p _ d₁ p₁ _ d' q w others));
+          few = omega arith;
+          below = rw u (mod-lt (r * 5) (pow_pos less));
+          goes = λ d' q others. g.goes d' q (rw next (put_put d p _ d₁ p₁ _ d' q w others));
         }
 
     pub going_end : left ≡ 0 → Put d₀ at (digits 10 k (rest * 5 ^ k)) d p

@@ -82,7 +82,7 @@ mid_size b n j h z l =
 -- ---- the loop
 
 -- a turn halves both
-pub lowest_turn : (m k n j : ℕ) → 0 < j → (n % 2 ≡ 1 → ⊥) → n * 2 ^ k ≡ m * 2 ^ j → n / 2 * 2 ^ k ≡ m * 2 ^ (j - 1)
+pub lowest_turn : (m k n j : ℕ) → 0 < j → n % 2 ≡ 0 → n * 2 ^ k ≡ m * 2 ^ j → n / 2 * 2 ^ k ≡ m * 2 ^ (j - 1)
 lowest_turn m k n zero h o e = absurd (omega arith)
 lowest_turn m k n (suc j) h o e =
     let z : suc j - 1 ≡ j = omega arith in

@@ -33,11 +33,8 @@ fn lowest(m: u64, k: u64) -> Fraction
 {
     let mut n = m;
     let mut j = k;
-    while j > 0 {
-        if n % 2 == 1 {
-            return Fraction { m: n, k: j };
-        }
-        n = n / 2;
+    while j > 0 && n % 2 == 0 {
+        n /= 2;
         j -= 1;
     }
     Fraction { m: n, k: j }

@@ -7,13 +7,12 @@ ghost use Rattle.text_digits.specs.Hex.{digits};
 ghost use Rattle.text_digits.specs.Text.{Put};
 ghost use Rattle.text_decimal.specs.Decimal.{most_places, fraction_text, signed_text, exact_text};
 
-use crate::fraction::fraction_of;
+use crate::fraction::{Fraction, fraction_of};
 use double_bits::SIGN;
 use text_digits::{put, put_decimal};
+use text_ticks::END;
 
-// The pattern of 2^53, and the most binary digits behind the point.
-const END: u64 = 0x4340_0000_0000_0000;
-
+// The most binary digits behind the point.
 const MOST: u64 = 60;
 
 // Puts the exact decimal of the double with the pattern b, or a dash, and answers the place behind it.
@@ -24,55 +23,47 @@ pub fn put_exact(line: &mut [u8], place: usize, b: u64) -> usize
         return put(line, place, b"-");
     }
     let f = fraction_of(b);
-    let m = f.m;
-    let k = f.k;
-    if k > MOST {
+    if f.k > MOST {
         return put(line, place, b"-");
     }
-    put_signed(line, place, b >= SIGN, m, k)
+    put_signed(line, place, b >= SIGN, f)
 }
 
-// m / 2^k behind a sign, where it has one.
-fn put_signed(line: &mut [u8], place: usize, below: bool, m: u64, k: u64) -> usize
-    requires { k ≤ most_places }
-    ensures { Put line.old place (signed_text below m k) line.new result }
+// A fraction behind a sign, where it has one.
+fn put_signed(line: &mut [u8], place: usize, below: bool, f: Fraction) -> usize
+    requires { f.k ≤ most_places }
+    ensures { Put line.old place (signed_text below f.m f.k) line.new result }
 {
-    if below {
-        let p = put(line, place, b"-");
-        return put_fraction(line, p, m, k);
-    }
-    put_fraction(line, place, m, k)
+    let p = if below { put(line, place, b"-") } else { place };
+    put_fraction(line, p, f)
 }
 
-// m / 2^k: the whole number, and behind a point what is left, if something is.
-fn put_fraction(line: &mut [u8], place: usize, m: u64, k: u64) -> usize
-    requires { k ≤ most_places }
-    ensures { Put line.old place (fraction_text m k) line.new result }
+// A fraction: the whole number, and behind a point what is left, if something is.
+fn put_fraction(line: &mut [u8], place: usize, f: Fraction) -> usize
+    requires { f.k ≤ most_places }
+    ensures { Put line.old place (fraction_text f.m f.k) line.new result }
 {
-    let unit = 1u64 << k;
-    let p = put_decimal(line, place, m / unit);
-    if k == 0 {
+    let unit = 1u64 << f.k;
+    let p = put_decimal(line, place, f.m / unit);
+    if f.k == 0 {
         return p;
     }
     let q = put(line, p, b".");
-    put_digits(line, q, m % unit, unit, k)
+    put_digits(line, q, f.m % unit, f.k)
 }
 
-// The k digits of rest / unit, a fraction below 1.
-fn put_digits(line: &mut [u8], place: usize, rest: u64, unit: u64, k: u64) -> usize
-    requires { (unit ≡ 2 ^ k) × (unit ≤ 2 ^ 60) × (rest < unit) }
+// The k digits of rest / 2^k, a fraction below 1.
+fn put_digits(line: &mut [u8], place: usize, rest: u64, k: u64) -> usize
+    requires { (k ≤ most_places) × (rest < 2 ^ k) }
     ensures { Put line.old place (digits 10 k (rest * 5 ^ k)) line.new result }
 {
     let mut p = place;
     let mut r = rest;
-    let mut u = unit;
-    let mut left = k;
-    while left > 0 {
-        u = u / 2;
-        left -= 1;
+    for left in (0..k).rev() {
+        let unit = 1u64 << left;
         let next = r * 5;
-        p = put_decimal(line, p, next / u);
-        r = next % u;
+        p = put_decimal(line, p, next / unit);
+        r = next % unit;
     }
     p
 }

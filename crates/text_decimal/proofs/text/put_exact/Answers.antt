@@ -6,8 +6,8 @@ use Rattle.text_decimal.proofs.text.put_exact.Goals as goal
 pub returns-then-b-ge-END : goal.returns-then-b-ge-END
 returns-then-b-ge-END c = put_as _ _ _ _ _ _ (dash_range _ c.if-b-ge-END.true) c.put.ensures
 
-pub returns-then-k-gt-MOST : goal.returns-then-k-gt-MOST
-returns-then-k-gt-MOST c = put_as _ _ _ _ _ _ (dash_places _ _ _ c.fraction_of-f.ensures c.if-k-gt-MOST.true) c.put-then-k-gt-MOST.ensures
+pub returns-then-f-gt-MOST : goal.returns-then-f-gt-MOST
+returns-then-f-gt-MOST c = put_as _ _ _ _ _ _ (dash_places _ _ _ c.fraction_of-f.ensures c.if-f-gt-MOST.true) c.put-then-f-gt-MOST.ensures
 
 pub returns : goal.returns
-returns c = put_as _ _ _ _ _ _ (text_shown _ _ _ c.if-b-ge-END.false c.fraction_of-f.ensures c.if-k-gt-MOST.false) c.put_signed.ensures
+returns c = put_as _ _ _ _ _ _ (text_shown _ _ _ c.if-b-ge-END.false c.fraction_of-f.ensures c.if-f-gt-MOST.false) c.put_signed.ensures
