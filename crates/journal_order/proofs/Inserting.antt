@@ -6,14 +6,15 @@ use mathlib.Core.List.{List, [], ◌∷◌, ◌++◌, append_assoc, append-nil}
 use mathlib.Core.Bool.{true}
 use native.Mathlib.Omega.{arith}
 use lib.ListN.{length, take, drop, get_or, set, length-append, length-drop, take-append-drop, get_or-append}
-use lib.Seq.{get_or-take, get_or-drop, get_or_at, get_or-append-add, length-take-le, take-take, take_at, drop_at}
+use lib.Seq.{get_or-take, get_or-drop, get_or_at, set_at, take-suc, get_or-append-add, length-take-le, take-take, take_at, drop_at}
 use Rattle.facts.proofs.Orders.{by_order}
 use Rattle.journal_spec.specs.Index.{equal, order_of}
 use Rattle.journal_spec.specs.Append.{written}
 use Rattle.journal_spec.proofs.Reading.{drop_take}
 use Rattle.journal_spec.proofs.NameOrder.{order_equal}
 use Rattle.journal_entries.specs.Shape.{is_below}
-use Rattle.journal_entries.proofs.Opening.{set_before}
+use Rattle.journal_entries.proofs.Opening.{copied_written}
+use Rattle.std.specs.List.{copy_within}
 use Rattle.journal_order.specs.Sorted.{having, Climbs, Split, insert_at, Inserted}
 use Rattle.journal_order.proofs.Below.{by_three}
 use Rattle.journal_order.proofs.Having.{having_append, having_not}
@@ -128,8 +129,26 @@ module _ (key : ℕ → List ℕ) (n p : ℕ) (ps : List ℕ) (s : Split key (ke
 
 -- ---- in an array
 
-module _ (before after : List ℕ) (n i p : ℕ) (order : n ≤ i) (room : i < length before)
-    (moved : after ≡ written before (n + 1) (take (i - n) (drop n before))) where
+-- a place before what is written
+set_before : (d : List ℕ) (at x : ℕ) (xs : List ℕ) → at + 1 + length xs ≤ length d → set (written d (at + 1) xs) at x ≡ written d at (x ∷ xs)
+unfolding written
+set_before d at x xs h =
+    let t : take (at + 1) d ≡ take at d ++ get_or d at 0 ∷ [] = ap (λ (k : ℕ). take k d) next ∙ take-suc d at 0 (omega arith) in
+    let rest : List ℕ = drop (at + 1 + length xs) d in
+    let e : at + 1 + length xs ≡ at + suc (length xs) = omega arith in
+    let whole : take (at + 1) d ++ (xs ++ rest) ≡ take at d ++ get_or d at 0 ∷ (xs ++ rest) =
+    ap (λ (l : List ℕ). l ++ (xs ++ rest)) t ∙ append_assoc (take at d) (get_or d at 0 ∷ []) (xs ++ rest) in
+    ap (λ (l : List ℕ). set l at x) whole
+    ∙ set_at (take at d) (get_or d at 0) (xs ++ rest) x at (length-take-le at d (omega arith))
+    ∙ ap (λ (k : ℕ). take at d ++ x ∷ (xs ++ drop k d)) e
+  where
+    next : at + 1 ≡ suc at
+    next = omega arith
+
+module _ (before after : List ℕ) (n i p : ℕ) (order : n ≤ i) (room : i < length before) (copied : after ≡ copy_within before n i (n + 1)) where
+  moved : after ≡ written before (n + 1) (take (i - n) (drop n before))
+  moved = copied ∙ copied_written before n i (n + 1) order (omega arith)
+
   part_length : length (take (i - n) (drop n before)) ≡ i - n
   part_length = length-take-le (i - n) (drop n before) (rw length-drop (omega arith))
 

@@ -1,6 +1,6 @@
 -- The laws of sorted places.
 -- Assumes nothing.
-pub mod Keyed
+pub mod KeyRead
 pub mod Below
 pub mod Having
 pub mod Searching

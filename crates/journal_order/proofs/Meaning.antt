@@ -5,17 +5,16 @@ use Prim.Native.Nat.{ℕ}
 use mathlib.Core.Option.{Option, none, some}
 use Rattle.limit.proofs.Meaning.{injective_by}
 use Rattle.journal_order.specs.Sorted.{place_meaning}
-use Rattle.journal_order.specs.declared.halving.Place.{Place}
-use Rattle.journal_order.specs.declared.halving.Place.TheVariants as P
+use Rattle.std.specs.Prelude as P
 
-of_place : Option ℕ → Place
-of_place (some p) = P.At p
-of_place none = P.Absent
+of_place : Option ℕ → P.Option ℕ
+of_place (some p) = P.Some p
+of_place none = P.None
 
-pub place_meaning_injective : (a b : Place) → place_meaning a ≡ place_meaning b → a ≡ b
+pub place_meaning_injective : (a b : P.Option ℕ) → place_meaning a ≡ place_meaning b → a ≡ b
 unfolding place_meaning of_place
 place_meaning_injective = injective_by place_meaning of_place back
   where
-    back : (a : Place) → of_place (place_meaning a) ≡ a
-    back (P.At p) = refl
-    back P.Absent = refl
+    back : (a : P.Option ℕ) → of_place (place_meaning a) ≡ a
+    back (P.Some p) = refl
+    back P.None = refl

@@ -1,12 +1,11 @@
 -- Places sorted by their keys, whatever gives a place its key. Keys stand to one another as names do in an index: byte by byte, and one that
 -- begins another comes first.
+use Rattle.std.specs.Prelude as P
 use Rattle.std.specs.Prelude.{◌≡◌, ℕ, ◌+◌, ◌-◌, ◌≤◌, ◌<◌, List, [], ◌∷◌, ◌++◌, Bool, true, false, length, take, drop, get_or}
 use Rattle.std.proofs.Math.Option.{Option, none, some}
 use Rattle.journal_spec.specs.Index.{Order, lower, equal, higher, order_of}
 use Rattle.journal_spec.specs.Indexed.{or_else}
 use Rattle.journal_entries.specs.Shape.{is_below}
-use Rattle.journal_order.specs.declared.halving.Place.{Place}
-use Rattle.journal_order.specs.declared.halving.Place.TheVariants as P
 
 -- ---- the places that have a key
 
@@ -58,9 +57,9 @@ pub record EndsWith (key : ℕ → List ℕ) (k ps : List ℕ) (n : ℕ) (r : Bo
   pub absent : r ≡ false → 0 < n → is_below (key (get_or ps (n - 1) 0)) k ≡ true
 
 -- what the search answers
-unfoldable pub place_meaning : Place → Option ℕ
-place_meaning (P.At p) = some p
-place_meaning P.Absent = none
+unfoldable pub place_meaning : P.Option ℕ → Option ℕ
+place_meaning (P.Some p) = some p
+place_meaning P.None = none
 
 -- ---- a place put among others
 

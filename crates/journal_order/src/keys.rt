@@ -15,23 +15,23 @@ pub enum Key {
     Record,
 }
 
-// The key of the record at a place.
-pub fn key_at<'a>(b: &'a [u8], key: Key, at: usize) -> &'a [u8]
-    ensures { result.now ≡ key_at key b.now at }
-{
-    if b.len() < at {
-        return key_of(&b[..0], key);
-    }
-    key_of(&b[at..], key)
+// A journal's bytes, and the key by which the places of its records are sorted.
+#[derive(Clone, Copy)]
+pub struct Keyed<'a> {
+    pub bytes: &'a [u8],
+    pub key: Key,
 }
 
-// The key of the record at the front.
-fn key_of<'a>(b: &'a [u8], key: Key) -> &'a [u8]
-    ensures { result.now ≡ key_at key b.now 0 }
-{
-    match key {
-        Key::Name => record_name(b),
-        Key::Record => all_of(b),
+impl<'a> Keyed<'a> {
+    // The key of the record at a place.
+    pub fn key_at(&self, at: usize) -> &'a [u8]
+        ensures { result.now ≡ key_at self.now.key self.now.bytes.now at }
+    {
+        let record = self.bytes.get(at..).unwrap_or(&[]);
+        match self.key {
+            Key::Name => record_name(record),
+            Key::Record => all_of(record),
+        }
     }
 }
 
@@ -39,9 +39,5 @@ fn key_of<'a>(b: &'a [u8], key: Key) -> &'a [u8]
 fn all_of<'a>(b: &'a [u8]) -> &'a [u8]
     ensures { result.now ≡ take (record_size b.now) b.now }
 {
-    let size = record_size(b);
-    if b.len() < size {
-        return b;
-    }
-    &b[..size]
+    &b[..record_size(b).min(b.len())]
 }

@@ -7,6 +7,4 @@ mod keys;
 mod latest;
 mod putting;
 
-pub use halving::{Place, look_up, wide};
-pub use keys::{Key, MOST, key_at};
-pub use latest::latest_of;
+pub use keys::{Key, Keyed, MOST};
