@@ -1,48 +1,18 @@
--- The size of a double by comparisons with 0, and where a size lies beside 1: what the tests of `f_erfinv` show. Assumes nothing.
-use Rattle.std.proofs.Common.{◌≡◌, ℕ, ◌+◌, ◌*◌, ◌<◌, ◌≤◌, true, false, T, ◌⊎◌, sym, refl, ap, ◌∙◌, inl, inr, true≢false, lt_of_not-le, zero-mul, arith, ltb-false, ltb-true, le-ltb, lt-ltb, eq-eqb}
+-- The size of a double, and where a size lies beside 1: what the tests of `f_erfinv` show. Assumes nothing.
+use Rattle.std.proofs.Common.{◌≡◌, ℕ, ◌+◌, ◌*◌, ◌<◌, ◌≤◌, true, false, sym, refl, ◌∙◌, true≢false, lt_of_not-le, arith, ltb-false, ltb-true, le-ltb, lt-ltb, eq-eqb}
 use lib.Ieee.Fits.{down_pos}
-use lib.Ieee.{Float, nan, inf, fin, binary64, up, down, is_nan, fits, of_bits, level, neg, eq, lt}
+use lib.Ieee.{Float, nan, inf, fin, up, down, is_nan, of_bits, level, neg, eq, lt}
+use Rattle.std.specs.Float.{float_with_sign}
 use Rattle.pxfm.specs.DoubleDouble.{one}
-use Rattle.pxfm.specs.Argument.{zero}
 use Rattle.pxfm.specs.Inverf.{with_sign, size_of, beyond_one}
-use Rattle.pxfm.proofs.FirstTests.{minus_zero, equals_zero}
 
 -- ---- the size
 
-pub size_below : (x : Float) → lt x zero ≡ true → neg x ≡ size_of x
-unfolding with_sign lt of_bits neg
-size_below nan h = refl
-size_below (inf true) h = refl
-size_below (inf false) h = absurd (true≢false (sym h))
-size_below (fin true m e) h = refl
-size_below (fin false m e) h = absurd (none (m * up e * 1) (down e) (ltb-true _ _ h))
-  where
-    none : (a d : ℕ) → a < 0 * 1 * d → ⊥
-    none a d h = omega (arith, zero-mul d)
-
-pub size_zero : (x : Float) → T (fits binary64 x) → eq x zero ≡ true → zero ≡ size_of x
-size_zero x f h = go (equals_zero x f h)
-  where
-    plain : zero ≡ size_of zero
-    plain = unfold with_sign of_bits in refl
-
-    minus : zero ≡ size_of minus_zero
-    minus = unfold with_sign of_bits in refl
-
-    go : (x ≡ zero) ⊎ (x ≡ minus_zero) → zero ≡ size_of x
-    go (inl k) = plain ∙ ap size_of (sym k)
-    go (inr k) = minus ∙ ap size_of (sym k)
-
-pub size_above : (x : Float) → lt x zero ≡ false → eq x zero ≡ false → x ≡ size_of x
-unfolding with_sign lt eq of_bits
-size_above nan h g = refl
-size_above (inf true) h g = absurd (true≢false h)
-size_above (inf false) h g = refl
-size_above (fin true m e) h g = absurd (true≢false (sym (level_zero (m * up e * 1) (0 * 1 * down e) (ltb-false _ _ h)) ∙ g))
-  where
-    level_zero : (a b : ℕ) → a + b ≤ 0 → level true a false b ≡ true
-    level_zero a b h = let p : a ≡ 0 = omega arith in let q : b ≡ 0 = omega arith in rw (p, q)
-size_above (fin false m e) h g = refl
+pub abs_size : (x : Float) → float_with_sign false x ≡ size_of x
+unfolding float_with_sign with_sign
+abs_size nan = refl
+abs_size (inf s) = refl
+abs_size (fin s m e) = refl
 
 -- the size with the other sign
 pub minus_size : (x : Float) → neg (size_of x) ≡ with_sign true x

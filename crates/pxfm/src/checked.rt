@@ -11,20 +11,17 @@ use crate::logs::fast_log_dd;
 fn positive_finite(x: f64) -> bool
     ensures { result ≡ positive_finite x }
 {
-    if x != x {
+    if x.is_nan() {
         return false;
     }
-    let b = f64::to_bits(x);
-    if b == 0 {
-        return false;
-    }
-    b < 0x7ff0000000000000
+    let b = x.to_bits();
+    0 < b && b < 0x7ff0000000000000
 }
 
 pub(crate) fn nan_pair() -> DoubleDouble
     ensures { result ≡ nan_pair }
 {
-    DoubleDouble::new(0.0 / 0.0, 0.0 / 0.0)
+    DoubleDouble::new(f64::NAN, f64::NAN)
 }
 
 pub(crate) fn log_dd(x: DoubleDouble) -> DoubleDouble

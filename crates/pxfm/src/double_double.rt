@@ -7,13 +7,15 @@ ghost use Rattle.pxfm.specs.DoubleDouble.{new_of, from_bit_pair, split_of, from_
 ghost use Rattle.pxfm.specs.DoubleDouble.{from_full_exact_sub, fast_sqrt, mul_add_f64, recip_of, div_of, mul_f64_add, mul_add};
 ghost use Rattle.pxfm.specs.DoubleDouble.{quick_mult, quick_mult_f64, full_add_f64, f64_add, to_f64, dd_f64_mul_add, neg_of};
 
+use std::ops::{Mul, Neg};
+
 #[derive(Clone, Copy)]
 pub struct DoubleDouble {
     pub lo: f64,
     pub hi: f64,
 }
 
-// The bit patterns of a pair, in the Rust a tuple.
+// The bit patterns of a pair: in the Rust a tuple, whose two numbers of one type these names tell apart.
 #[derive(Clone, Copy)]
 pub struct BitPair {
     pub lo: u64,
@@ -26,16 +28,6 @@ impl DoubleDouble {
         lo: f64::from_bits(0x3c7abc9e3b39803f),
         hi: f64::from_bits(0x3fe62e42fefa39ef),
     };
-
-    // The Rust's operator -.
-    pub(crate) fn neg(self) -> Self
-        ensures { result ≡ neg_of self }
-    {
-        DoubleDouble {
-            lo: -self.lo,
-            hi: -self.hi,
-        }
-    }
 
     pub(crate) fn from_bit_pair(pair: BitPair) -> Self
         requires t { T (not (nan_bits binary64 pair.lo)) }
@@ -240,11 +232,27 @@ impl DoubleDouble {
     {
         self.lo + self.hi
     }
+}
 
-    // The Rust's operator *.
-    pub(crate) fn mul(self, rhs: DoubleDouble) -> Self
-        ensures { result ≡ quick_mult self rhs }
-    {
+impl Neg for DoubleDouble {
+    type Output = DoubleDouble;
+
+    ghost neg_gives = { λ a r. r ≡ neg_of a };
+
+    fn neg(self) -> DoubleDouble {
+        DoubleDouble {
+            lo: -self.lo,
+            hi: -self.hi,
+        }
+    }
+}
+
+impl Mul for DoubleDouble {
+    type Output = DoubleDouble;
+
+    ghost mul_gives = { λ a b r. r ≡ quick_mult a b };
+
+    fn mul(self, rhs: DoubleDouble) -> DoubleDouble {
         DoubleDouble::quick_mult(self, rhs)
     }
 }

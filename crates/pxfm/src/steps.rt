@@ -48,7 +48,7 @@ fn result(which: u32, x0: f64, x1: f64, x2: f64, x3: f64, x4: f64, x5: f64) -> B
         12 => patterns(DoubleDouble::quick_mult_f64(a, x2)),
         13 => patterns(DoubleDouble::full_add_f64(a, x2)),
         14 => patterns(DoubleDouble::f64_add(x0, DoubleDouble { lo: x1, hi: x2 })),
-        15 => patterns(a.neg()),
+        15 => patterns(-a),
         16 => patterns(single(a.to_f64())),
         17 => patterns(single(common::f_fmla(x0, x1, x2))),
         18 => patterns(single(common::dd_fmla(x0, x1, x2))),

@@ -1,32 +1,16 @@
 // The inverse error function of document 02 (2026-11), of every double, over `erf_core` of inverfc.
 // The Rust's function of this name has other steps (docs/DIFFERENCES.md); each function here equals its definition in specs/Inverf.antt.
 ghost use Rattle.std.specs.Prelude.{◌≡◌};
-ghost use Rattle.pxfm.specs.Inverf.{size_of, with_sign, f_erfinv, f_erfinv_bits};
+ghost use Rattle.pxfm.specs.Inverf.{with_sign, f_erfinv, f_erfinv_bits};
 
 use crate::err::inverfc;
-
-// The size of x. -0 is not below 0, so it is asked for by itself.
-fn size(x: f64) -> f64
-    ensures { result ≡ size_of x }
-{
-    if x < 0.0 {
-        return -x;
-    }
-    if x == 0.0 {
-        return 0.0;
-    }
-    x
-}
 
 // The size of x, with the sign minus or plus.
 fn with_sign(minus: bool, x: f64) -> f64
     ensures { result ≡ with_sign minus x }
 {
-    let a = size(x);
-    if minus {
-        return -a;
-    }
-    a
+    let a = x.abs();
+    if minus { -a } else { a }
 }
 
 // The inverse error function of every double. A NaN passes no test.
@@ -37,15 +21,14 @@ pub fn f_erfinv(x: f64) -> f64
         return x;
     }
     let minus = x < 0.0;
-    let a = size(x);
+    let a = x.abs();
     if a == 1.0 {
-        return with_sign(minus, 1.0 / 0.0);
+        return with_sign(minus, f64::INFINITY);
     }
     if a < 1.0 {
-        let r = inverfc::erf_core_of(0.0, a);
-        return with_sign(minus, r);
+        return with_sign(minus, inverfc::erf_core_of(0.0, a));
     }
-    0.0 / 0.0
+    f64::NAN
 }
 
 // The same over bit patterns, all of them.

@@ -251,9 +251,9 @@ pub(crate) fn inverf_0p06_to_0p75(x: DoubleDouble) -> DoubleDouble
     ensures { result ≡ inverf0p06_to0p75 x }
 {
     let vz = centred(x);
-    let vx2 = vz.mul(vz);
-    let vx4 = vx2.mul(vx2);
-    let vx8 = vx4.mul(vx4);
+    let vx2 = vz * vz;
+    let vx4 = vx2 * vx2;
+    let vx8 = vx4 * vx4;
     let num = mid_num(vz, vx2, vx4, vx8);
     let den = mid_den(vz, vx2, vx4, vx8);
     let r = DoubleDouble::div(num, den);
@@ -277,9 +277,9 @@ pub(crate) fn inverf_asympt_small(z: DoubleDouble, zeta_sqrt: DoubleDouble) -> D
 pub(crate) fn inverf_asympt_long(z: DoubleDouble, zeta_sqrt: DoubleDouble) -> DoubleDouble
     ensures { result ≡ inverf_asympt_long z zeta_sqrt }
 {
-    let z2 = z.mul(z);
-    let z4 = z2.mul(z2);
-    let z8 = z4.mul(z4);
+    let z2 = z * z;
+    let z4 = z2 * z2;
+    let z8 = z4 * z4;
     let num = long_num(z, z2, z4, z8);
     let den = long_den(z, z2, z4, z8);
     let r = DoubleDouble::div(num, den);
@@ -385,7 +385,7 @@ fn middle(x: DoubleDouble) -> DoubleDouble
 fn zeta_sqrt(log: DoubleDouble) -> DoubleDouble
     ensures { result ≡ zeta_sqrt log }
 {
-    let zeta = DoubleDouble::from_exact_add(log.hi, log.lo).neg();
+    let zeta = -DoubleDouble::from_exact_add(log.hi, log.lo);
     zeta.fast_sqrt()
 }
 
@@ -395,7 +395,7 @@ fn tail(x: DoubleDouble) -> DoubleDouble
     requires three_quarters_value { le x.hi three_quarters ≡ false }
     ensures { result ≡ tail_of x }
 {
-    let q = DoubleDouble::full_add_f64(x.neg(), 1.0);
+    let q = DoubleDouble::full_add_f64(-x, 1.0);
     let root = zeta_sqrt(fast_log_dd::fast_log_dd(q));
     let rz = root.recip();
     if x.hi < 0.9999 {
@@ -468,7 +468,7 @@ fn core_argument(x: f64) -> DoubleDouble
     ensures { result ≡ core_argument x }
 {
     let d = mirrored(x);
-    let dx = DoubleDouble::full_add_f64(d.neg(), 1.0);
+    let dx = DoubleDouble::full_add_f64(-d, 1.0);
     DoubleDouble::from_exact_add(dx.hi, dx.lo)
 }
 
@@ -490,18 +490,18 @@ fn central(x: f64) -> f64
 pub fn f_erfcinv(x: f64) -> f64
     ensures { result ≡ f_erfcinv x }
 {
-    if x != x {
-        return 0.0 / 0.0;
+    if x.is_nan() {
+        return f64::NAN;
     }
-    let ix = f64::to_bits(x);
-    if std::num::wrapping_add_u64(ix, ix) == 0 {
-        return 1.0 / 0.0;
+    let ix = x.to_bits();
+    if ix.wrapping_add(ix) == 0 {
+        return f64::INFINITY;
     }
     if ix == 0x4000000000000000 {
-        return -1.0 / 0.0;
+        return f64::NEG_INFINITY;
     }
     if ix >= 0x4000000000000000 {
-        return 0.0 / 0.0;
+        return f64::NAN;
     }
     if x == 1.0 {
         return 0.0;

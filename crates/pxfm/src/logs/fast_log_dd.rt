@@ -36,7 +36,7 @@ fn scale(b: u64) -> Scaled
 {
     let e = b >> 52;
     if e == 0 {
-        let k = u64::leading_zeros(b) - 11;
+        let k = b.leading_zeros() - 11;
         return Scaled {
             m: b << k,
             e: 52 - k,
@@ -89,7 +89,7 @@ fn exponent(m: u64, e: u32) -> f64
     requires { e ≤ 2097 }
     ensures { result ≡ exponent_of m e }
 {
-    let be = std::num::wrapping_add_u32(e, carry(m));
+    let be = e.wrapping_add(carry(m));
     be as f64 - 1074.0
 }
 
@@ -100,7 +100,7 @@ fn log_parts(x: f64) -> Parts
     requires x_bound { to_bits binary64 x < 0x7ff0_0000_0000_0000 }
     ensures { result ≡ parts_of x }
 {
-    let s = scale(f64::to_bits(x));
+    let s = scale(x.to_bits());
     let m = s.m;
     let i = index(m);
     let row = log_tables::row_at(i);
@@ -117,16 +117,11 @@ fn log_parts(x: f64) -> Parts
 fn log_lo(ddx: DoubleDouble) -> f64
     ensures { result ≡ log_lo ddx }
 {
-    if ddx.hi <= f64::from_bits(0x7fd0000000000000) {
-        return ddx.lo / ddx.hi;
+    if ddx.hi <= f64::from_bits(0x7fd0000000000000) || ddx.lo >= 4.0 || ddx.lo <= -4.0 {
+        ddx.lo / ddx.hi
+    } else {
+        0.0
     }
-    if ddx.lo >= 4.0 {
-        return ddx.lo / ddx.hi;
-    }
-    if ddx.lo <= -4.0 {
-        return ddx.lo / ddx.hi;
-    }
-    0.0
 }
 
 // The logarithm of a pair.

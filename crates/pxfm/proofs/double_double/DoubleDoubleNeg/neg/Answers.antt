@@ -2,7 +2,7 @@
 -- Assumes nothing.
 use Rattle.std.proofs.Common.{refl}
 use Rattle.pxfm.specs.DoubleDouble.{neg_of}
-use Rattle.pxfm.proofs.double_double.DoubleDouble.neg.Goals as goal
+use Rattle.pxfm.proofs.double_double.DoubleDoubleNeg.neg.Goals as goal
 
 pub returns : goal.returns
 unfolding neg_of
