@@ -1,6 +1,6 @@
 -- The papers' number for each refusal (docs/DEFINITION.md, section 10): 1 to 19 without 8.
 -- Assumes nothing.
-use Rattle.std.specs.Prelude.{◌≡◌, ℕ, Result, MatchResult}
+use Rattle.std.specs.Prelude.{ℕ}
 use Rattle.refusals.specs.declared.Refusal.{Refusal}
 use Rattle.refusals.specs.declared.Refusal.TheVariants.{
   Length,
@@ -21,8 +21,8 @@ use Rattle.refusals.specs.declared.Refusal.TheVariants.{
   Even,
   Share,
   Profile,
+  Other,
 }
-use Rattle.refusals.specs.declared.UnknownRefusal.{UnknownRefusal}
 
 abbrev pub number_of : Refusal → ℕ
 number_of Length = 1
@@ -43,7 +43,4 @@ number_of Torn = 16
 number_of Even = 17
 number_of Share = 18
 number_of Profile = 19
-
--- the refusal with this number, or the number, which no refusal has
-abbrev pub Numbers : ℕ → Result Refusal UnknownRefusal → Type 0
-Numbers n r = MatchResult r (λ refusal. number_of refusal ≡ n) (λ e. (e.0 ≡ n) × ((refusal : Refusal) → number_of refusal ≡ n → ⊥))
+number_of (Other unlisted) = unlisted.number

@@ -1,9 +1,14 @@
 // The papers' refusals: each a variant of one enum, with the papers' number for it. 8 is not used.
-// The library's calls answer these; what C calls and what the programs print turns one into its number.
+// The library's calls answer these; what C calls and what the programs print turns one into its number. Every number is a refusal's, so that
+// what takes a refusal may be handed any number.
 #![tactic(auto)]
 
 ghost use Rattle.std.specs.Prelude.{◌≡◌};
-ghost use Rattle.refusals.specs.Refusals.{number_of, Numbers};
+ghost use Rattle.refusals.specs.Refusals.{number_of};
+
+mod unlisted;
+
+pub use unlisted::Unlisted;
 
 // Why a call declines, or what is wrong with a journal.
 #[derive(Clone, Copy, Debug, PartialEq, Eq)]
@@ -26,11 +31,9 @@ pub enum Refusal {
     Even,
     Share,
     Profile,
+    // a number that none of these has, and that no call answers
+    Other(Unlisted),
 }
-
-// A number that no refusal has.
-#[derive(Clone, Copy, Debug, PartialEq, Eq)]
-pub struct UnknownRefusal(pub u32);
 
 impl Refusal {
     // The papers' number for it.
@@ -56,6 +59,7 @@ impl Refusal {
             Refusal::Even => 17,
             Refusal::Share => 18,
             Refusal::Profile => 19,
+            Refusal::Other(unlisted) => unlisted.number(),
         }
     }
 }
@@ -68,32 +72,30 @@ impl From<Refusal> for u32 {
     }
 }
 
-impl TryFrom<u32> for Refusal {
-    type Error = UnknownRefusal;
+impl From<u32> for Refusal {
+    ghost from_gives = { λ number refusal. number_of refusal ≡ number };
 
-    ghost try_from_gives = { Numbers };
-
-    fn try_from(number: u32) -> Result<Refusal, UnknownRefusal> {
+    fn from(number: u32) -> Refusal {
         match number {
-            1 => Ok(Refusal::Length),
-            2 => Ok(Refusal::Form),
-            3 => Ok(Refusal::Day),
-            4 => Ok(Refusal::Name),
-            5 => Ok(Refusal::Chance),
-            6 => Ok(Refusal::Times),
-            7 => Ok(Refusal::Limit),
-            9 => Ok(Refusal::Room),
-            10 => Ok(Refusal::Absent),
-            11 => Ok(Refusal::Line),
-            12 => Ok(Refusal::Many),
-            13 => Ok(Refusal::OldForm),
-            14 => Ok(Refusal::Index),
-            15 => Ok(Refusal::IndexRoom),
-            16 => Ok(Refusal::Torn),
-            17 => Ok(Refusal::Even),
-            18 => Ok(Refusal::Share),
-            19 => Ok(Refusal::Profile),
-            _ => Err(UnknownRefusal(number)),
+            1 => Refusal::Length,
+            2 => Refusal::Form,
+            3 => Refusal::Day,
+            4 => Refusal::Name,
+            5 => Refusal::Chance,
+            6 => Refusal::Times,
+            7 => Refusal::Limit,
+            9 => Refusal::Room,
+            10 => Refusal::Absent,
+            11 => Refusal::Line,
+            12 => Refusal::Many,
+            13 => Refusal::OldForm,
+            14 => Refusal::Index,
+            15 => Refusal::IndexRoom,
+            16 => Refusal::Torn,
+            17 => Refusal::Even,
+            18 => Refusal::Share,
+            19 => Refusal::Profile,
+            _ => Refusal::Other(Unlisted { number }),
         }
     }
 }
