@@ -6,6 +6,6 @@ use Prim.Native.String.{String, [], ◌∷◌}
 use mathlib.Core.List as L
 
 -- the bytes of a text of ASCII characters
-unfoldable pub bytes_of : String → List ℕ
+abbrev pub bytes_of : String → List ℕ
 bytes_of [] = L.[]
 bytes_of (c ∷ cs) = L.◌∷◌ (code c) (bytes_of cs)

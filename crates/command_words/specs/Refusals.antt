@@ -3,7 +3,7 @@
 use Rattle.std.specs.Prelude.{ℕ, cond, List, [], eqb}
 use Rattle.command_io.specs.Words.{bytes_of}
 
-unfoldable pub refusal_words : ℕ → List ℕ
+abbrev pub refusal_words : ℕ → List ℕ
 refusal_words n =
     cond (eqb n 1) (bytes_of "a volume has at most 65,536 bytes")
     (cond (eqb n 2) (bytes_of "a record's form is 1 or 2")

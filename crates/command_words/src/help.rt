@@ -1,6 +1,6 @@
 // The help, as a terminal shows it, in parts.
 // It answers the exit status, which is failed where standard output cannot be written.
-use command_io::{Status, if_written, write_output};
+use command_io::{Status, write_output};
 
 // The help.
 pub fn print_help(rt: &HostRuntime) -> Status {
@@ -9,7 +9,7 @@ pub fn print_help(rt: &HostRuntime) -> Status {
         && print_part3(rt)
         && print_part4(rt)
         && print_part5(rt);
-    if_written(written, Status::Done)
+    Status::Done.if_written(written)
 }
 
 fn print_part1(rt: &HostRuntime) -> bool {

@@ -1,4 +1,4 @@
-// What awaqlla says in words: its help, what a refusal's number means, and what follows a verdict on standard error.
+// What awaqlla says in words: its help, what a refusal means, and what follows a verdict on standard error.
 // A function that says what was refused answers the exit status of a refusal.
 #![tactic(auto)]
 
@@ -7,8 +7,8 @@ mod help;
 mod refusal;
 
 pub use answer::{
-    damaged, damaged_of, full_merge, is_refusal, print_refusal, print_refusals, refused,
-    refused_log, refused_merge, refused_torn, torn,
+    damaged, damaged_of, full_merge, print_refusal, print_refusals, refused, refused_log,
+    refused_merge, refused_torn, torn,
 };
 pub use help::print_help;
-pub use refusal::put_refusal;
+pub use refusal::{put_refusal, words_of};

@@ -1,10 +1,9 @@
 -- `told_of` makes its rows from the last to the first.
 -- Assumes nothing.
-use Rattle.command_io.specs.Words.{bytes_of}
 use Rattle.command_io.specs.Options.{told_of}
 use Rattle.command_io.proofs.options.told_of.Goals as goal
 
 pub returns : goal.returns
-unfolding bytes_of told_of
+unfolding told_of
 returns c =
     rw (c.row_or.ensures, c.row_or-rest1.ensures, c.row_or-rest2.ensures, c.row_or-rest3.ensures, c.row_or-rest4.ensures, c.row_or-rest5.ensures, c.row_or-rest6.ensures, c.asked_of-rest7.ensures)
