@@ -113,6 +113,11 @@ pub fn print_refusal(rt: &HostRuntime, refusal: Refusal) -> bool {
     print_line(rt, &mut line, at)
 }
 
+// Whether a refusal is one of the papers'.
+pub fn is_refusal(refusal: Refusal) -> bool {
+    !matches!(refusal, Refusal::Other(_))
+}
+
 // All of them, a line each, with their numbers in two places.
 pub fn print_refusals(rt: &HostRuntime) -> bool {
     ALL.iter().all(|refusal| print_row(rt, *refusal))

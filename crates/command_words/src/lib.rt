@@ -7,8 +7,8 @@ mod help;
 mod refusal;
 
 pub use answer::{
-    damaged, damaged_of, full_merge, print_refusal, print_refusals, refused, refused_log,
-    refused_merge, refused_torn, torn,
+    damaged, damaged_of, full_merge, is_refusal, print_refusal, print_refusals, refused,
+    refused_log, refused_merge, refused_torn, torn,
 };
 pub use help::print_help;
 pub use refusal::{put_refusal, words_of};

@@ -8,7 +8,7 @@ ghost use Rattle.command_words.specs.Refusals.{refusal_words};
 use refusals::Refusal;
 use text_digits::put;
 
-// All refusals, by their numbers.
+// All refusals of the papers, by their numbers.
 pub(crate) const ALL: [Refusal; 18] = [
     Refusal::Length,
     Refusal::Form,
@@ -37,7 +37,7 @@ pub fn put_refusal(line: &mut [u8], place: usize, refusal: Refusal) -> usize
     put(line, place, words_of(refusal))
 }
 
-// The words of a refusal.
+// The words of a refusal; none of a number that the papers give none.
 pub fn words_of(refusal: Refusal) -> &'static [u8]
     ensures { result.now ≡ refusal_words (number_of refusal) }
 {
@@ -69,5 +69,6 @@ pub fn words_of(refusal: Refusal) -> &'static [u8]
         Refusal::Share => b"a share of links inside a band is 1 to 999,999 in a million",
         Refusal::Profile =>
             b"a record of the profile for safety controllers has form 2, the chances 1, 10, 100 and 1,000, and at least 32 times",
+        Refusal::Other(_) => b"",
     }
 }
