@@ -4,7 +4,7 @@ use Prim.Native.Nat.{ℕ, zero, suc, ◌-◌, ◌/◌, ◌%◌, ◌≤◌, ◌<�
 use mathlib.Core.Path.{◌≡◌, refl, sym, ap, ◌∙◌}
 use mathlib.Core.List.{List, [], ◌∷◌, ◌++◌, append_assoc}
 use native.Mathlib.Omega.{arith}
-use lib.ListN.{length, drop, set, replicate, length-append, length-drop, length-set}
+use lib.ListN.{length, drop, set, length-append, length-set}
 use lib.Seq.{drop-cons, drop-set-lt, get_or-set_same}
 use Rattle.text_digits.specs.Hex.{glyph_of, digits}
 
@@ -35,11 +35,3 @@ digits_before b i rest g out l h e =
 pub digits_done : (b i rest : ℕ) (out whole : List ℕ) → i ≡ 0 → whole ≡ digits b i rest ++ drop i out → out ≡ whole
 unfolding digits
 digits_done b i rest out whole z e = sym (e ∙ rw z)
-
--- twenty bytes whose front was filled are still twenty
-pub decimal_whole : (count : ℕ) (front : List ℕ) → count ≤ 20 → length front ≡ count
-    → 20 ≡ length (front ++ drop count (replicate 20 0))
-decimal_whole count front h e =
-    let rest = length-drop {A = ℕ} count (replicate 20 0) in
-    let joint = length-append front (drop count (replicate 20 0)) in
-    omega arith

@@ -4,10 +4,6 @@ use Rattle.text_digits.specs.Hex.{digits}
 use Rattle.text_dates.specs.Iso.{iso_text, iso_of}
 use Rattle.text_dates.proofs.iso.iso_of.Goals as goal
 
-pub slice_bounds-out-end-2 : goal.slice_bounds-out-end-2
-unfolding digits
-slice_bounds-out-end-2 c = rw c.decimal_into.ensures (omega arith)
-
 pub slice_bounds-out-end-3 : goal.slice_bounds-out-end-3
 unfolding digits
 slice_bounds-out-end-3 c = rw (c.decimal_into-2.ensures, c.decimal_into.ensures) (omega arith)

@@ -1,11 +1,8 @@
 -- `put_digits` puts one digit a turn, by the invariant. Assumes nothing.
 use Prim.Native.Nat.{◌-◌}
 use native.Mathlib.Omega.{arith}
-use Rattle.text_decimal.proofs.Behind.{going_start, going_small, going_turn, going_end, shifted_unit}
+use Rattle.text_decimal.proofs.Behind.{going_small, going_turn, going_end, shifted_unit}
 use Rattle.text_decimal.proofs.text.put_digits.Goals as goal
-
-pub loop-left-init : goal.loop-left-init
-loop-left-init c = let h = c.requires in going_start _ _ _ _ h.0 h.1
 
 pub overflow_mul-next : goal.overflow_mul-next
 overflow_mul-next c = omega (arith, going_small _ _ _ _ _ _ _ _ c.loop-left.invariant)

@@ -1,22 +1,12 @@
 -- `put_fraction` puts the whole number, and the point and the digits behind it where there are some. Assumes nothing.
 use native.Mathlib.Omega.{arith}
-use native.Mathlib.Nat.{mod-lt}
-use lib.Pow.{pow_pos}
 use Rattle.text_digits.proofs.Putting.{put_put, put_as}
 use Rattle.text_decimal.proofs.Behind.{shifted_unit}
 use Rattle.text_decimal.proofs.Shown.{fraction_whole, fraction_parts}
 use Rattle.text_decimal.proofs.text.put_fraction.Goals as goal
 
-pub nonzero_div-f : goal.nonzero_div-f
-nonzero_div-f c = (shifted_unit c.args.f.k (omega arith)).some
-
 pub returns-then-f-eq0 : goal.returns-then-f-eq0
 returns-then-f-eq0 c = put_as _ _ _ _ _ _ (fraction_whole _ _ _ c.if-f-eq0.true (shifted_unit _ (omega arith)).power) c.put_decimal-p.ensures
-
-pub put_digits-requires : goal.put_digits-requires
-put_digits-requires c =
-    let unit = shifted_unit c.args.f.k (omega arith) in
-    (omega arith, rw unit.power (mod-lt _ (pow_pos c.args.f.k)))
 
 pub returns : goal.returns
 returns c =

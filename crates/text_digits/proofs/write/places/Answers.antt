@@ -1,17 +1,10 @@
 -- `text_digits::write::places` meets its contract. The invariant is `Counting`; the measure is what is left of the number.
 -- Assumes nothing.
-use native.Mathlib.Omega.{arith}
 use Rattle.text_digits.proofs.Counting.{counting_starts, counting_turn, counting_ends}
 use Rattle.text_digits.proofs.write.places.Goals as goal
 
 pub loop-rest-init : goal.loop-rest-init
 loop-rest-init c = counting_starts c.args.n c.ranges.n.fits
-
-pub overflow_add-count : goal.overflow_add-count
-overflow_add-count c = omega arith
-
-pub loop-rest-smaller : goal.loop-rest-smaller
-loop-rest-smaller c = omega arith
 
 pub loop-rest-preserved : goal.loop-rest-preserved
 loop-rest-preserved c = counting_turn _ _ _ c.loop-rest-test.true c.loop-rest.invariant

