@@ -1,119 +1,63 @@
 // The day of a date YYYY-MM-DD: worked out, and answered only where the date of that day is the text.
 // Day 0 is 1 January 2000.
-ghost use Rattle.std.specs.Prelude.{◌≡◌, ℕ, ◌^◌, ◌<◌, ◌≤◌, true};
+ghost use Rattle.std.specs.Prelude.{◌≡◌, ◌≤◌, true, IfOk, IfSome};
 ghost use Rattle.text_digits.specs.Same.{same_bytes};
 ghost use Rattle.text_dates.specs.Iso.{iso_of};
-ghost use Rattle.command_date.specs.declared.day.Day.TheVariants as D;
 
-use command_io::{Options, Status, arg_count, argument, fail, fail_argument, if_written};
+use command_io::{Options, Status, arg_count, argument, fail, fail_argument};
 use text_dates::iso_of;
-use text_digits::same;
+use text_digits::{put, put_decimal, same};
 
-// A day; or why a word is none: it is not YYYY-MM-DD, there is no such date, or it is out of range.
-#[derive(Clone, Copy)]
-pub enum Day {
-    Value(u16),
+// Why a word is no day: it is not YYYY-MM-DD, there is no such date, or it is out of range.
+#[derive(Clone, Copy, Debug, PartialEq, Eq)]
+pub enum DayError {
     Form,
-    Nothing,
+    NoDate,
     Range,
 }
 
 // The day of a date. Where it answers one, the text is that day's date.
-pub fn day_of(word: &[u8]) -> Day
-    ensures { (n : ℕ) → result ≡ D.Value n → same_bytes (iso_of n) word.now ≡ true }
+pub fn day_of(word: &[u8]) -> Result<u16, DayError>
+    ensures { IfOk result (λ n. same_bytes (iso_of n) word.now ≡ true) }
 {
-    if word.len() != 10 {
-        return Day::Form;
+    let (year, month, date) = parts(word).ok_or(DayError::Form)?;
+    if !(1..=longest(year, month)).contains(&date) {
+        return Err(DayError::NoDate);
     }
-    if !is_dated(word) {
-        return Day::Form;
-    }
-    let year = four(word, 0);
-    let month = two(word, 5);
-    let date = two(word, 8);
-    if !is_date(year, month, date) {
-        return Day::Nothing;
-    }
-    if year < 2000 {
-        return Day::Range;
-    }
-    let n = days(year, month, date);
-    if 65_535 < n {
-        return Day::Range;
-    }
-    checked(word, (n % 65_536) as u16)
+    let day = days(year, month, date).ok_or(DayError::Range)?;
+    checked(word, day)
 }
 
 // A day, where its date is the text.
-fn checked(word: &[u8], n: u16) -> Day
-    ensures { (m : ℕ) → result ≡ D.Value m → same_bytes (iso_of m) word.now ≡ true }
+fn checked(word: &[u8], day: u16) -> Result<u16, DayError>
+    ensures { IfOk result (λ n. same_bytes (iso_of n) word.now ≡ true) }
 {
-    let text = iso_of(n);
+    let text = iso_of(day);
     if same(&text, word) {
-        return Day::Value(n);
+        Ok(day)
+    } else {
+        Err(DayError::NoDate)
     }
-    Day::Nothing
 }
 
-// Whether a text has four digits, a dash, two, a dash and two.
-fn is_dated(word: &[u8]) -> bool {
-    are_two(word, 0)
-        && are_two(word, 2)
-        && is_dash(word, 4)
-        && are_two(word, 5)
-        && is_dash(word, 7)
-        && are_two(word, 8)
+// The year, the month and the date of a text that has four digits, a dash, two, a dash and two.
+fn parts(word: &[u8]) -> Option<(u64, u64, u64)> {
+    let [y1, y2, y3, y4, b'-', m1, m2, b'-', d1, d2] = word else {
+        return None;
+    };
+    let year = two(*y1, *y2)? * 100 + two(*y3, *y4)?;
+    Some((year, two(*m1, *m2)?, two(*d1, *d2)?))
 }
 
-fn is_dash(word: &[u8], i: usize) -> bool {
-    byte(word, i) == b'-'
-}
-
-// Whether a byte and the next are digits.
-fn are_two(word: &[u8], i: usize) -> bool {
-    digit(word, i) < 10 && digit(word, std::num::wrapping_add_usize(i, 1)) < 10
-}
-
-// The byte at a place, 0 where there is none.
-fn byte(word: &[u8], i: usize) -> u8 {
-    if i < word.len() {
-        return word[i];
-    }
-    0
-}
-
-// The digit at a place; 10 where there is none.
-fn digit(word: &[u8], i: usize) -> u64
-    ensures { result ≤ 10 }
+// The number of two digits.
+fn two(tens: u8, ones: u8) -> Option<u64>
+    ensures { IfSome result (λ n. n ≤ 99) }
 {
-    let c = byte(word, i);
-    if c < 48 {
-        return 10;
+    if tens.is_ascii_digit() && ones.is_ascii_digit() {
+        Some((tens - b'0') as u64 * 10 + (ones - b'0') as u64)
+    } else {
+        None
     }
-    if 57 < c {
-        return 10;
-    }
-    (c - 48) as u64
-}
-
-// The number of two digits, and of four.
-fn two(word: &[u8], i: usize) -> u64
-    ensures { result ≤ 110 }
-{
-    let next = std::num::wrapping_add_usize(i, 1);
-    digit(word, i) * 10 + digit(word, next)
-}
-
-fn four(word: &[u8], i: usize) -> u64
-    ensures { result ≤ 11_110 }
-{
-    let next = std::num::wrapping_add_usize(i, 2);
-    two(word, i) * 100 + two(word, next)
-}
-
-// Whether a month of a year has a date.
-fn is_date(year: u64, month: u64, date: u64) -> bool {
-    1 <= date && date <= longest(year, month)
 }
 
 // How many days a month has; none where there is no such month.
@@ -121,33 +65,24 @@ fn longest(year: u64, month: u64) -> u64 {
     match month {
         1 | 3 | 5 | 7 | 8 | 10 | 12 => 31,
         4 | 6 | 9 | 11 => 30,
-        2 => february(year),
+        2 if is_leap(year) => 29,
+        2 => 28,
         _ => 0,
     }
-}
-
-fn february(year: u64) -> u64 {
-    if is_leap(year) {
-        return 29;
-    }
-    28
 }
 
 fn is_leap(year: u64) -> bool {
     year % 4 == 0 && (year % 100 != 0 || year % 400 == 0)
 }
 
-// The days from 1 January 2000 to a date from then on: those of the years before, of the months before as if each February had 30 days, less what it
-// has not, and of the month.
-fn days(year: u64, month: u64, date: u64) -> u64 {
-    if year < 2000 {
-        return 65_536;
-    }
-    let since = (year - 2000) % 10_000;
+// The day of a date from 1 January 2000 to the last that a day has: the days of the years before, of the months before as if each February had 30
+// days, less what it has not, and of the month.
+fn days(year: u64, month: u64, date: u64) -> Option<u16> {
+    let since = year.checked_sub(2000)? % 10_000;
     let years = 365 * since + (since + 3) / 4 + (since + 399) / 400;
     let months = 275 * (month % 100) / 9 + date % 100;
     let less = (since + 99) / 100 + 31 + short(year, month);
-    std::num::wrapping_sub_u64(years + months, less)
+    u16::try_from((years + months).checked_sub(less)?).ok()
 }
 
 // How many days February has less than 30, behind it.
@@ -155,45 +90,46 @@ fn short(year: u64, month: u64) -> u64
     ensures { result ≤ 2 }
 {
     if month <= 2 {
-        return 0;
+        0
+    } else if is_leap(year) {
+        1
+    } else {
+        2
     }
-    if is_leap(year) {
-        return 1;
-    }
-    2
 }
 
 // The command day.
 pub fn tell_day(rt: &HostRuntime, o: Options) -> Status {
-    let first = o.first;
-    let next = std::num::wrapping_add_usize(first, 1);
-    if arg_count(rt) != next {
+    if arg_count(rt) != o.first.wrapping_add(1) {
         return fail(rt, b"day takes one DATE");
     }
-    let mut word = [0u8; 16];
-    let size = argument(rt, first, &mut word);
-    match day_of(&word[..size]) {
-        Day::Value(n) => print_day(rt, n),
-        Day::Form => fail_argument(rt, first, b"a date is YYYY-MM-DD"),
-        Day::Nothing => fail_argument(rt, first, b"there is no such date"),
-        Day::Range => fail_argument(rt, first, b"a date is 2000-01-01 to 2179-06-06"),
+    let mut room = [0u8; 16];
+    match day_of(argument(rt, o.first, &mut room)) {
+        Ok(day) => print_day(rt, day),
+        Err(e) => fail_date(rt, o.first, e),
     }
 }
 
+// Why the argument at a place is no date.
+pub(crate) fn fail_date(rt: &HostRuntime, at: usize, error: DayError) -> Status {
+    let what: &[u8] = match error {
+        DayError::Form => b"a date is YYYY-MM-DD",
+        DayError::NoDate => b"there is no such date",
+        DayError::Range => b"a date is 2000-01-01 to 2179-06-06",
+    };
+    fail_argument(rt, at, what)
+}
+
 // A day and a line end.
-fn print_day(rt: &HostRuntime, n: u16) -> Status {
+fn print_day(rt: &HostRuntime, day: u16) -> Status {
     let mut line = [0u8; 16];
-    let size = put_day(&mut line, n);
+    let at = put_decimal(&mut line, 0, day as u64);
+    let size = put(&mut line, at, b"\n");
     let written = command_io::flush(
         rt,
         &line,
         size,
         b"awaqlla: standard output: it cannot be written",
     );
-    if_written(written, Status::Done)
-}
-
-fn put_day(line: &mut [u8], n: u16) -> usize {
-    let at = text_digits::put_decimal(line, 0, n as u64);
-    text_digits::put(line, at, b"\n")
+    Status::Done.if_written(written)
 }

@@ -6,6 +6,6 @@ mod day;
 mod input;
 mod output;
 
-pub use day::{Day, day_of, tell_day};
-pub use input::{Chosen, day_or_date};
+pub use day::{DayError, day_of, tell_day};
+pub use input::day_or_date;
 pub use output::date;

@@ -3,68 +3,47 @@
 ghost use Rattle.std.specs.Prelude.{◌^◌, ◌<◌};
 
 use crate::input::day_at;
-use command_io::{Number, Options, Status, arg_count, fail, if_written};
+use command_io::{Options, Status, fail, words_from, write_output};
 use text_dates::put_date;
 
 // The command.
 pub fn date(rt: &HostRuntime, o: Options) -> Status {
-    let first = o.first;
-    let count = arg_count(rt);
-    if count <= first {
+    let words = words_from(rt, o.first);
+    if words == 0 || 2 < words {
         return usage(rt);
     }
-    let words = count - first;
-    if 2 < words {
+    let Some(first) = day_at(rt, o.first) else {
         return usage(rt);
-    }
-    match day_at(rt, first) {
-        Number::Value(day) => print_from(rt, day, first, words),
-        Number::Nothing => usage(rt),
-    }
-}
-
-// The dates from a day on: to the second word, or this one alone.
-fn print_from(rt: &HostRuntime, day: u32, first: usize, words: usize) -> Status
-    requires { day < 2 ^ 16 }
-{
+    };
     if words == 1 {
-        return if_written(print_days(rt, day, day), Status::Done);
+        return print_days(rt, first, first);
     }
-    match day_at(rt, std::num::wrapping_add_usize(first, 1)) {
-        Number::Value(last) => print_rising(rt, day, last),
-        Number::Nothing => usage(rt),
-    }
-}
-
-// The dates from a day to a last one, which is not before it.
-fn print_rising(rt: &HostRuntime, first: u32, last: u32) -> Status
-    requires { last < 2 ^ 16 }
-{
+    let Some(last) = day_at(rt, o.first.wrapping_add(1)) else {
+        return usage(rt);
+    };
     if last < first {
         return fail(rt, b"LAST: a day before DAY");
     }
-    if_written(print_days(rt, first, last), Status::Done)
+    print_days(rt, first, last)
 }
 
-// The dates from a day to a last one, none where that is before it; whether they were written.
-fn print_days(rt: &HostRuntime, first: u32, last: u32) -> bool
+// The dates from a day to a last one, none where that is before it.
+fn print_days(rt: &HostRuntime, first: u32, last: u32) -> Status
     requires { last < 2 ^ 16 }
 {
-    let mut day = first;
-    while day <= last {
+    for day in first..=last {
         if !print_day(rt, day as u16) {
-            return false;
+            return Status::Failed;
         }
-        day += 1;
     }
-    true
+    Status::Done
 }
 
 // One date, and whether it was written.
 fn print_day(rt: &HostRuntime, day: u16) -> bool {
     let mut out = [b'\n'; 11];
     put_date(&mut out, 0, day);
-    command_io::write_output(rt, &out)
+    write_output(rt, &out)
 }
 
 // What the command takes.

@@ -1,6 +1,6 @@
 -- Texts gone over a byte at a time: one turn of each loop, and what its end answers.
 -- Assumes nothing.
-use Rattle.std.proofs.Common.{◌≡◌, ℕ, ◌+◌, ◌-◌, ◌*◌, ◌<◌, ◌≤◌, Bool, true, false, cond, ltb, List, [], ◌∷◌, length, get_or, drop, refl, ap, ◌∙◌, add-one, arith, drop-cons, ltb-false, Option, Some, None}
+use Rattle.std.proofs.Common.{◌≡◌, ℕ, ◌+◌, ◌-◌, ◌*◌, ◌<◌, ◌≤◌, Bool, true, false, cond, ltb, List, [], ◌∷◌, length, get_or, drop, refl, ap, ◌∙◌, add-one, arith, drop-cons, ltb-false, Option, Some, None, IfSome}
 use lib.Seq.{drop-length}
 use Rattle.command_io.specs.Arguments.{is_zero, digit_after, number_from, read_number}
 use Rattle.command_io.specs.Numbers.{Read, turn_of, read_from}
@@ -46,11 +46,18 @@ unfolding number_from
 below_from most [] inside r m h e = h m e
 below_from most (c ∷ cs) inside r m h e = below_from most cs true (digit_after most inside r c) m (digit_below most inside r c) e
 
-pub number_below : (most : ℕ) (text : List ℕ) (m : ℕ) → read_number most text ≡ Some m → m ≤ most
+number_below : (most : ℕ) (text : List ℕ) (m : ℕ) → read_number most text ≡ Some m → m ≤ most
 unfolding read_number
 number_below most [] m e = let z : ◌≡◌ {A = ℕ} 0 1 = cc in absurd (omega arith)
 number_below most (c ∷ cs) m e =
     below_from most (c ∷ cs) false (Some 0) m (λ n f. let z : 0 ≡ n = cc in omega arith) e
+
+pub number_within : (most : ℕ) (text : List ℕ) → IfSome (read_number most text) (λ n. n ≤ most)
+number_within most text = within (read_number most text) refl
+  where
+    within : (r : Option ℕ) → read_number most text ≡ r → IfSome r (λ n. n ≤ most)
+    within (Some n) e = number_below most text n e
+    within None e = tt
 
 -- ---- numbers separated by white space
 

@@ -1,12 +1,7 @@
 -- `store_if` stores a number behind those that stand, where it is wanted and has room.
 -- Assumes nothing.
-use Rattle.command_io.proofs.Storing.{put_room, put_full, put_none, put_wanted}
+use Rattle.command_io.proofs.Storing.{put_room, put_full, put_wanted}
 use Rattle.command_io.proofs.numbers.store_if.Goals as goal
-
-pub returns-then-not-wanted : goal.returns-then-not-wanted
-returns-then-not-wanted c =
-    let args = c.args in
-    λ d ns p. put_none d ns _ _ args.n args.wanted c.if-not-wanted.true p
 
 pub returns-then-at-out : goal.returns-then-at-out
 returns-then-at-out c =
