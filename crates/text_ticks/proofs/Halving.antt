@@ -6,7 +6,7 @@ use native.Mathlib.Nat.{mul_assoc, div-eq_of_lt, div-le_self, zero-lt-suc, pow-l
 use native.Mathlib.Omega.{arith}
 use lib.Dec.{leb}
 use lib.Pow.{pow_pos}
-use lib.Ieee.{Float, binary64, odd, of_fields, of_bits}
+use lib.Ieee.{Float, binary64, of_bits}
 use lib.Ieee.Nearest.{div_same}
 use lib.Ieee.Positive.{num, den, den_pos}
 use Rattle.std.specs.Prelude.{Some, None}
@@ -40,10 +40,6 @@ tiny x s a c f h l =
     rw (← none, ← one) (fraction_halves x s a c f (omega arith) (rw one (omega arith)))
 
 -- ---- from a pattern
-
-pub halves_zero : (b : ℕ) → b ≡ 0 → IsHalves (of_bits binary64 b) 0 0
-unfolding of_bits of_fields odd
-halves_zero b e = rw e (record { floor = refl; ceil = refl; order = omega arith; few = omega arith })
 
 under : (a c : ℕ) → a < 2 ^ 53 → 2 ^ 60 ≤ c → 2 * a < c
 under a c h k = omega arith
