@@ -1,4 +1,4 @@
-// Polynomials over doubles by Horner's rule (the Rust's src/polyeval.rs; its trait PolyevalMla is a plain function here).
+// Polynomials over doubles by Horner's rule (the Rust's src/polyeval.rs; its trait PolyevalMla is a plain function: doubles alone are called for).
 // Each function equals its definition in specs/Polyeval.antt.
 ghost use Rattle.std.specs.Prelude.{◌≡◌};
 ghost use Rattle.pxfm.specs.Common.{f_fmla};
