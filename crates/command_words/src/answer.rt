@@ -1,6 +1,6 @@
 // What follows a verdict on standard error: the refusal in words, and where it was found.
 // Each answers the exit status of a refusal.
-use crate::refusal::{ALL, put_refusal, words_of};
+use crate::refusal::{ALL, words_of};
 use command_io::{Status, write_error, write_error_decimal};
 use refusals::Refusal;
 use text_digits::{put, put_decimal};
@@ -109,7 +109,7 @@ pub fn torn(rt: &HostRuntime, place: usize) -> Status {
 // The command refusal: the words of a refusal on standard output; whether they were written.
 pub fn print_refusal(rt: &HostRuntime, refusal: Refusal) -> bool {
     let mut line = [0u8; 256];
-    let at = put_refusal(&mut line, 0, refusal);
+    let at = put(&mut line, 0, words_of(refusal));
     print_line(rt, &mut line, at)
 }
 
@@ -128,7 +128,7 @@ fn print_row(rt: &HostRuntime, refusal: Refusal) -> bool {
     let mut line = [0u8; 280];
     let first = put_number(&mut line, refusal.number() as u64);
     let at = put(&mut line, first, b": ");
-    let end = put_refusal(&mut line, at, refusal);
+    let end = put(&mut line, at, words_of(refusal));
     print_line(rt, &mut line, end)
 }
 

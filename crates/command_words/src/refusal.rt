@@ -30,11 +30,14 @@ pub(crate) const ALL: [Refusal; 18] = [
     Refusal::Profile,
 ];
 
-// Puts the words of a refusal into a line from a place on, and answers the place behind them.
-pub fn put_refusal(line: &mut [u8], place: usize, refusal: Refusal) -> usize
-    ensures { Put line.old place (refusal_words (number_of refusal)) line.new result }
+// Puts the words of a refusal's number into a line from a place on, none where no refusal has it, and answers the place behind them.
+pub fn put_refusal(line: &mut [u8], place: usize, number: u64) -> usize
+    ensures { Put line.old place (refusal_words number) line.new result }
 {
-    put(line, place, words_of(refusal))
+    match u32::try_from(number) {
+        Ok(n) => put(line, place, words_of(Refusal::from(n))),
+        Err(_) => place,
+    }
 }
 
 // The words of a refusal; none of a number that the papers give none.
