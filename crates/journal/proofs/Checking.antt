@@ -6,6 +6,9 @@ use mathlib.Core.List.{List, [], ◌∷◌, ◌++◌}
 use native.Mathlib.Omega.{arith}
 use native.Mathlib.Numerals.{add-one}
 use lib.ListN.{length, take, get_or}
+use Rattle.std.specs.Prelude.{Err}
+use Rattle.refusals.specs.declared.Refusal.{Refusal}
+use Rattle.refusals.specs.Refusals.{number_of}
 use lib.Seq.{take-suc}
 use Rattle.limit.specs.Answer.{chance_refusal}
 use Rattle.limit.specs.Limit.{max_chance}
@@ -14,6 +17,7 @@ use Rattle.journal_spec.specs.Section.{Section, section_refusal}
 use Rattle.journal_spec.specs.Record.{last_chance, chance_section}
 use Rattle.journal_spec.proofs.RefusalFrom.{refusal_from, refuse_this, refuse_later, refuse_none}
 use Rattle.journal_spec.proofs.SameRefusals.{last_snoc}
+use Rattle.journal.specs.Told.{Judged}
 use Rattle.journal.proofs.Ranges.{chance_agrees}
 
 -- ---- the first refusal of a list
@@ -54,24 +58,35 @@ abbrev pub Passed : Section → List ℕ → ℕ → Type 0
 Passed s xs i = section_refusal s xs ≡ refusal_from s.item xs i
 
 module _ (s : Section) (xs : List ℕ) where
-  pub count_refused : (r : ℕ) → 0 < r → r ≡ s.count (length xs) → r ≡ section_refusal s xs
+  count_refused : (r : ℕ) → 0 < r → r ≡ s.count (length xs) → r ≡ section_refusal s xs
   unfolding section_refusal
   count_refused r h e = first_this r (s.count (length xs)) _ h e
+
+  pub count_judged : (r : Refusal) → Judged {A = Unit {0}} (Err r) (s.count (length xs)) → Judged {A = Unit {0}} (Err r) (section_refusal s xs)
+  count_judged r j =
+      let e = count_refused (number_of r) (omega (arith, j.0, j.1)) j.0 in
+      (e, omega (arith, e, j.0, j.1))
 
   pub count_passed : s.count (length xs) ≡ 0 → Passed s xs 0
   unfolding section_refusal refusal_from
   count_passed e = first_later (s.count (length xs)) _ e ∙ first_alone _
 
   module _ (i : ℕ) (g : Passed s xs i) where
-    pub number_refused : (r : ℕ) → 0 < r → i < length xs → r ≡ s.item (take i xs) (get_or xs i 0) → r ≡ section_refusal s xs
+    number_refused : (r : ℕ) → 0 < r → i < length xs → r ≡ s.item (take i xs) (get_or xs i 0) → r ≡ section_refusal s xs
     number_refused zero h l e = absurd (omega arith)
     number_refused (suc r) h l e = sym (g ∙ refuse_this s.item xs i r l (sym e))
+
+    pub number_judged : (r : Refusal) → i < length xs → Judged {A = Unit {0}} (Err r) (s.item (take i xs) (get_or xs i 0))
+        → Judged {A = Unit {0}} (Err r) (section_refusal s xs)
+    number_judged r l j =
+        let e = number_refused (number_of r) (omega (arith, j.0, j.1)) l j.0 in
+        (e, omega (arith, e, j.0, j.1))
 
     pub number_passed : i < length xs → s.item (take i xs) (get_or xs i 0) ≡ 0 → Passed s xs (i + 1)
     number_passed l e = rw add-one (g ∙ refuse_later s.item xs i l e)
 
-    pub all_passed : length xs ≤ i → 0 ≡ section_refusal s xs
-    all_passed l = sym (g ∙ refuse_none s.item xs i l)
+    pub all_passed : length xs ≤ i → section_refusal s xs ≡ 0
+    all_passed l = g ∙ refuse_none s.item xs i l
 
 -- ---- the chances: the least value of the next one is above the last
 

@@ -6,6 +6,10 @@ use mathlib.Core.Bool.{Bool, true, false, not, cond}
 use mathlib.Core.Option.{Option, none}
 use mathlib.Core.List.{List, [], ◌∷◌, ◌++◌}
 use native.Mathlib.Omega.{arith}
+use Rattle.std.specs.Prelude.{Ok, Err}
+use Rattle.refusals.specs.declared.Refusal.{Refusal}
+use Rattle.refusals.specs.declared.Refusal.TheVariants as R
+use Rattle.refusals.specs.Refusals.{number_of}
 use lib.ListN.{length, take, drop, length-take}
 use lib.Seq.{take_all}
 use lib.Dec.{leb}
@@ -14,26 +18,30 @@ use Rattle.facts.proofs.Orders.{by_order}
 use Rattle.journal_spec.specs.Refusals.{room_refusal, first_of}
 use Rattle.journal_spec.specs.Record.{Record, Last, last_of, record_bytes}
 use Rattle.journal_spec.specs.Scan.{max_length, Placed, records_of, standing}
-use Rattle.journal_spec.specs.Request.{Journal, Budget, Request, Offer, offer_of, allowed}
+use Rattle.journal_spec.specs.Request.{Journal, Budget, Request, Offer, offer_of, allowed, declined}
 use Rattle.journal_spec.specs.Append.{limits_of, offered, judge_room, of_handed, judge_index, judge_index_room}
 use Rattle.journal_spec.specs.Append.{next_index, append_refusals, written, unchanged, extend, put_index, settle}
 use Rattle.journal_spec.specs.Append.{append_to}
 use Rattle.journal_spec.specs.Index.{IndexEntry, index_of}
 use Rattle.journal_spec.proofs.Judging.{unless_true, unless_false}
 use Rattle.journal_spec.proofs.Writing.{written_lent}
-use Rattle.journal.specs.declared.Appended.TheVariants as A
+use Rattle.journal.specs.declared.AppendError.TheVariants as A
 use Rattle.journal.specs.Stepped.{Filled}
+use Rattle.journal.specs.Told.{Judged}
 use Rattle.journal.specs.Handed.{offer_from, record_from, offer_refusals}
 use Rattle.journal.specs.Answers.{append_meaning, length_after, outcome_with, outcome_of}
 use Rattle.journal.proofs.Checking.{first_alone, first_front, first_back}
 
 -- ---- declined
 
-settled_refused : (n r : ℕ) (j : Journal) (committed : ℕ) (new : List ℕ) → 0 < r → r ≡ n
-    → outcome_of j.len (A.Declined r) j.slice ≡ settle n j none committed new none
+settled_refused : (n : ℕ) (r : Refusal) (j : Journal) (committed : ℕ) (new : List ℕ) → 0 < number_of r → number_of r ≡ n
+    → outcome_of j.len (Err (A.Declined r)) j.slice ≡ settle n j none committed new none
 unfolding outcome_with append_meaning length_after settle unchanged
-settled_refused n zero j committed new h e = absurd (omega arith)
-settled_refused n (suc r) j committed new h e = rw (← e) refl
+settled_refused n r j committed new some e = go (number_of r) some e
+  where
+    go : (m : ℕ) → 0 < m → m ≡ n → unchanged (declined m) j none ≡ settle n j none committed new none
+    go zero h e = absurd (omega arith)
+    go (suc m) h e = rw (← e) refl
 
 -- what the test of the room says where it found some
 pub room_fits : (room : Bool) (end most : ℕ) → room ≡ leb end most → not room ≡ false → end ≤ most
@@ -42,10 +50,10 @@ room_fits room end most e h = leb-true end most (sym e ∙ not-false room h)
 -- by the room: `size` is what the code took for the record's length
 pub room_declined : (j : Journal) (committed size n : ℕ) (part : List ℕ) → size ≡ n
     → (room : Bool) → room ≡ leb (committed + size) (min (length j.slice) max_length) → not room ≡ true
-    → outcome_of j.len (A.Declined room_refusal) j.slice ≡ settle (judge_room (length j.slice) committed n) j none committed part none
+    → outcome_of j.len (Err (A.Declined R.Room)) j.slice ≡ settle (judge_room (length j.slice) committed n) j none committed part none
 unfolding judge_room
 room_declined j committed size n part s room e h =
-    settled_refused _ room_refusal j committed part (omega arith)
+    settled_refused _ R.Room j committed part (omega arith)
     (sym (unless_false (leb (committed + n) (min (length j.slice) max_length)) room_refusal (rw s at (sym e ∙ not-true room h))))
 
 -- ---- written
@@ -59,7 +67,7 @@ take_least k new =
 
 settled_none : (n : ℕ) (j : Journal) (after : List ℕ) (committed end : ℕ) (new : List ℕ) → n ≡ 0
     → after ≡ written j.slice committed new → end ≡ committed + length new
-    → outcome_of j.len (A.Extended end) after ≡ settle n j none committed new none
+    → outcome_of j.len (Ok end) after ≡ settle n j none committed new none
 unfolding outcome_with append_meaning length_after settle extend
 settled_none n j after committed end new z a e = rw (z, a, e) refl
 
@@ -68,7 +76,7 @@ module _ (j : Journal) (committed size : ℕ) (new : List ℕ) (s : size ≡ len
   pub room_extended : (room : Bool) → room ≡ leb (committed + size) (min (length j.slice) max_length) → not room ≡ false
       → (b : Budget) (end r : ℕ) (ys : List ℕ) → end ≡ min (allowed b size) size → r ≡ end
       → Filled new (take (length j.slice - committed) (drop committed j.slice)) 0 r ys
-      → outcome_of j.len (A.Extended (committed + r))
+      → outcome_of j.len (Ok (committed + r))
       (take committed j.slice ++ (ys ++ drop (length j.slice - committed) (drop committed j.slice)))
       ≡ settle (judge_room (length j.slice) committed (length new)) j none committed (take (allowed b (length new)) new) none
   unfolding judge_room
@@ -138,10 +146,11 @@ module _ (last : Last) (committed : ℕ) (q : Request) (without : q.index ≡ no
       ∙ ap (λ (m : ℕ). settle m j q.index committed (take k bytes) (cond (leb (length bytes) k) (put_index es q.index) q.index)) (sym e)
 
   -- declined by the check that needs no room
-  pub offer_declined : (r : ℕ) → 0 < r → r ≡ first_of (offer_refusals q.rule last o)
-      → outcome_of j.len (A.Declined r) j.slice ≡ append_to (standing ps committed) j q
-  offer_declined r h e =
-      settled_refused _ r j committed _ h (first_front r (offer_refusals q.rule last o) _ h e ∙ sym refusals) ∙ settles _ refl
+  pub offer_declined : (r : Refusal) → Judged {A = Unit {0}} (Err r) (first_of (offer_refusals q.rule last o))
+      → outcome_of j.len (Err (A.Declined r)) j.slice ≡ append_to (standing ps committed) j q
+  offer_declined r judged =
+      let some : 0 < number_of r = omega (arith, judged.0, judged.1) in
+      settled_refused _ r j committed _ some (first_front (number_of r) (offer_refusals q.rule last o) _ some judged.0 ∙ sym refusals) ∙ settles _ refl
 
   -- else the room decides
   pub offer_settled : (r : Record) → first_of (offer_refusals q.rule last o) ≡ 0 → r ≡ offered o

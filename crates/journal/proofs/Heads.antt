@@ -5,6 +5,7 @@ use Prim.Native.Nat.{ℕ, suc, ◌+◌, ◌^◌, ◌≤◌, ◌<◌}
 use mathlib.Core.List.{List, [], ◌∷◌}
 use mathlib.Core.Bool.{cond}
 use native.Mathlib.Omega.{arith}
+use Rattle.std.specs.Prelude.{Result, Ok, Err}
 use native.Mathlib.Nat.{pow-le-pow_right}
 use lib.ListN.{length, take, drop, get_or, length-take}
 use lib.Seq.{drop-drop}
@@ -16,15 +17,14 @@ use Rattle.limit.specs.Answer.{form_refusal}
 use Rattle.limit.specs.Limit.{form_known}
 use Rattle.journal_spec.specs.Bytes.{AreBytes, value_of, number_at}
 use Rattle.journal_spec.specs.Refusals.{day_refusal, old_form_refusal, unless, outside, first_of}
-use Rattle.journal_spec.specs.Reader.{Reader, done, field, Found, fault, short, run}
+use Rattle.journal_spec.specs.Reader.{Reader, done, field, Found, fault, run}
 use Rattle.journal_spec.specs.Record.{judge_form, judge_day}
 use Rattle.journal_spec.proofs.Numbers.{bytes_take, bytes_drop, value_small}
 use Rattle.journal_spec.proofs.Reading.{field_short, field_fault, field_good, field_cases}
-use Rattle.journal.specs.declared.Fault.{Fault}
-use Rattle.journal.specs.declared.field.FieldRead.{FieldRead}
-use Rattle.journal.specs.declared.field.FieldRead.TheVariants as F
+use Rattle.journal.specs.Told.{Stopped, kept_of}
 use Rattle.journal.specs.declared.record.Head.{Head}
 use Rattle.journal.specs.Found.{field_read, field_by, field_at}
+use Rattle.journal.proofs.Stopping.{halted}
 use Rattle.journal.specs.Records.{as_last}
 use Rattle.journal.proofs.Ranges.{least_decides}
 
@@ -48,13 +48,12 @@ module _ {A : Type 0} (next : ℕ → Reader A) (last : Head) (at : ℕ) (b : Li
   ran = run (field 2 (judge_form (as_last last)) next) at (drop at b)
 
   -- a form in the range goes on where forms do not fall
-  unfoldable after_form : FieldRead → Found A
-  after_form (F.Value v) = cond (leb last.form v) (run (next v) (at + 2) (drop (at + 2) b)) (fault old_form_refusal at)
-  after_form F.Short = short
-  after_form (F.Refused f) = fault f.number f.place
+  unfoldable after_form : Result ℕ Stopped → Found A
+  after_form (Ok v) = cond (leb last.form v) (run (next v) (at + 2) (drop (at + 2) b)) (fault old_form_refusal at)
+  after_form (Err e) = halted e
 
   form_goes : after_form (field_at 2 plain_form sample_form form_refusal at b) ≡ ran
-  unfolding field_by field_read after_form run judge_form form_known outside unless first_of as_last
+  unfolding field_by kept_of after_form halted run judge_form form_known outside unless first_of as_last
   form_goes =
       field_cases 2 (outside plain_form sample_form form_refusal) done at (drop at b) (λ f. after_form (field_read f) ≡ ran)
       (λ few. sym (field_short 2 (judge_form (as_last last)) next at (drop at b) few))
@@ -67,20 +66,16 @@ module _ {A : Type 0} (next : ℕ → Reader A) (last : Head) (at : ℕ) (b : Li
       (λ h. rw (lt-leb last.form v h)
       (sym (field_fault 2 (judge_form (as_last last)) next at (drop at b) 12 enough (rw good (rw (lt-leb last.form v h) refl))))))
 
-  module _ (x : FieldRead) (read : x ≡ field_at 2 plain_form sample_form form_refusal at b) where
-    pub form_short : x ≡ F.Short → short ≡ ran
+  module _ (x : Result ℕ Stopped) (read : x ≡ field_at 2 plain_form sample_form form_refusal at b) where
+    pub form_halted : (e : Stopped) → x ≡ Err e → halted e ≡ ran
     unfolding after_form
-    form_short told = sym (ap after_form told) ∙ ap after_form read ∙ form_goes
+    form_halted e told = sym (ap after_form told) ∙ ap after_form read ∙ form_goes
 
-    pub form_refused : (f : Fault) → x ≡ F.Refused f → fault f.number f.place ≡ ran
-    unfolding after_form
-    form_refused f told = sym (ap after_form told) ∙ ap after_form read ∙ form_goes
-
-    pub form_falls : (v : ℕ) → x ≡ F.Value v → v < last.form → fault old_form_refusal at ≡ ran
+    pub form_falls : (v : ℕ) → x ≡ Ok v → v < last.form → fault old_form_refusal at ≡ ran
     unfolding after_form
     form_falls v told h = rw (lt-leb last.form v h) at (sym (ap after_form told) ∙ ap after_form read ∙ form_goes)
 
-    pub form_good : (v : ℕ) → x ≡ F.Value v → last.form ≤ v → run (next v) (at + 2) (drop (at + 2) b) ≡ ran
+    pub form_good : (v : ℕ) → x ≡ Ok v → last.form ≤ v → run (next v) (at + 2) (drop (at + 2) b) ≡ ran
     unfolding after_form
     form_good v told h = rw (le-leb last.form v h) at (sym (ap after_form told) ∙ ap after_form read ∙ form_goes)
 

@@ -5,6 +5,7 @@ use Prim.Native.Nat.{ℕ, ◌+◌, ◌*◌, ◌≤◌, ◌<◌}
 use mathlib.Core.List.{List, [], ◌∷◌}
 use mathlib.Core.Bool.{Bool, true, false, ◌&&◌}
 use native.Mathlib.Omega.{arith}
+use Rattle.std.specs.Prelude.{Ok, Err}
 use lib.ListN.{length, get_or}
 use lib.Dec.{leb, eqb}
 use borrow.Author.Tests.{le-leb, lt-leb, eq-eqb}
@@ -18,9 +19,8 @@ use Rattle.journal_spec.specs.Tests.{same}
 use Rattle.journal_spec.specs.Profile.{Rule, plain, profile, profile_chances, profile_times, in_profile, keeps}
 use Rattle.journal_spec.specs.Scan.{judged}
 use Rattle.journal_spec.proofs.Each.{same_lists}
-use Rattle.journal.specs.declared.Fault.{Fault}
+use Rattle.journal.specs.Told.{Stopped, refused, kept_of}
 use Rattle.journal.specs.declared.record.Entry.{Entry}
-use Rattle.journal.specs.declared.record.RecordRead.TheVariants as R
 use Rattle.journal.specs.Handed.{kept_by}
 use Rattle.journal.specs.Records.{entry_of, record_read, Stands}
 
@@ -74,32 +74,26 @@ keeps_by plain r = refl
 keeps_by profile r = refl
 
 module _ (rule : Rule) (at : ℕ) where
-  pub entry_kept : (f : Found Record) (e : Entry) → R.Read e ≡ record_read f → kept_by rule e.in_profile ≡ true
-      → R.Read e ≡ record_read (judged rule at f)
-  unfolding record_read entry_of judged
+  pub entry_kept : (f : Found Record) (e : Entry) → Ok e ≡ record_read f → kept_by rule e.in_profile ≡ true
+      → Ok e ≡ record_read (judged rule at f)
+  unfolding kept_of entry_of judged
   entry_kept (found r next rest) e h k =
       let same : e ≡ entry_of r next = cc in
       rw (keeps_by rule r ∙ ap (λ (x : Entry). kept_by rule x.in_profile) (sym same) ∙ k) h
   entry_kept (fault n p) e h k = h
   entry_kept short e h k = h
 
-  pub entry_broken : (f : Found Record) (e : Entry) → R.Read e ≡ record_read f → kept_by rule e.in_profile ≡ false
-      → R.Refused (record { number = profile_refusal; place = at }) ≡ record_read (judged rule at f)
-  unfolding record_read entry_of judged
+  pub entry_broken : (f : Found Record) (e : Entry) → Ok e ≡ record_read f → kept_by rule e.in_profile ≡ false
+      → Err (refused (record { number = profile_refusal; place = at })) ≡ record_read (judged rule at f)
+  unfolding kept_of entry_of judged
   entry_broken (found r next rest) e h k =
       let same : e ≡ entry_of r next = cc in
       rw (keeps_by rule r ∙ ap (λ (x : Entry). kept_by rule x.in_profile) (sym same) ∙ k) refl
   entry_broken (fault n p) e h k = let z : ◌≡◌ {A = ℕ} 0 1 = cc in absurd (omega arith)
   entry_broken short e h k = let z : ◌≡◌ {A = ℕ} 0 1 = cc in absurd (omega arith)
 
-  pub short_stays : (f : Found Record) → R.Short ≡ record_read f → R.Short ≡ record_read (judged rule at f)
-  unfolding record_read judged
-  short_stays (found r next rest) h = let z : ◌≡◌ {A = ℕ} 0 1 = cc in absurd (omega arith)
-  short_stays (fault n p) h = h
-  short_stays short h = h
-
-  pub refused_stays : (f : Found Record) (x : Fault) → R.Refused x ≡ record_read f → R.Refused x ≡ record_read (judged rule at f)
-  unfolding record_read judged
-  refused_stays (found r next rest) x h = let z : ◌≡◌ {A = ℕ} 0 1 = cc in absurd (omega arith)
-  refused_stays (fault n p) x h = h
-  refused_stays short x h = h
+  pub halted_stays : (f : Found Record) (s : Stopped) → Err s ≡ record_read f → Err s ≡ record_read (judged rule at f)
+  unfolding kept_of judged
+  halted_stays (found r next rest) s h = let z : ◌≡◌ {A = ℕ} 0 1 = cc in absurd (omega arith)
+  halted_stays (fault n p) s h = h
+  halted_stays short s h = h

@@ -4,6 +4,7 @@ use mathlib.Core.Path.{◌≡◌, refl, ap, ◌∙◌}
 use Prim.Native.Nat.{ℕ, zero, suc, ◌+◌, ◌-◌, ◌≤◌, min}
 use mathlib.Core.List.{List, [], ◌∷◌, ◌++◌}
 use native.Mathlib.Omega.{arith}
+use Rattle.std.specs.Prelude.{Some, None}
 use native.Mathlib.Nat.{add-sub_cancel_left}
 use lib.ListN.{length, take, drop, length-take, length-drop, length-append}
 use Rattle.facts.proofs.Orders.{by_order}
@@ -16,7 +17,7 @@ use Rattle.journal_spec.proofs.Reading.{run_left}
 use Rattle.journal_spec.proofs.Scanning.{found_at, turn_short, turn_fault, turn_found, contents_fits, contents_long}
 use Rattle.journal_spec.proofs.RecordsLoop.{part_before, part_this, part_beyond}
 use Rattle.journal.specs.declared.Part.{Part}
-use Rattle.journal.specs.Answers.{part_meaning}
+use Rattle.journal.specs.Answers.{part_meaning, place_meaning}
 
 -- each part ends at or before a place
 pub record Inside (ps : List Placed) (end : ℕ) : Type 0 where
@@ -83,12 +84,18 @@ part_inside rule slice len i =
 
 -- ---- the part as the code holds it
 
-module _ (rule : Rule) (v : List ℕ) (len i : ℕ) (p : Part) (is : part_meaning p ≡ part_place rule v len i) where
-  pub place_inside : p.start + p.size ≤ length v
-  unfolding part_meaning
-  place_inside = rw (← is) at (part_inside rule v len i)
+module _ (rule : Rule) (v : List ℕ) (len i : ℕ) where
+  module _ (p : Part) (is : place_meaning (Some p) ≡ part_place rule v len i) where
+    pub place_inside : p.start + p.size ≤ length v
+    unfolding place_meaning part_meaning
+    place_inside = rw (← is) at (part_inside rule v len i)
 
-  -- its bytes, from its first place to the place after it
-  pub read_part_lem : take (p.start + p.size - p.start) (drop p.start v) ≡ read_part rule v len i
-  unfolding read_part part_bytes part_meaning
-  read_part_lem = rw (← is) (ap (λ (n : ℕ). take n (drop p.start v)) (add-sub_cancel_left p.start p.size))
+    -- its bytes, from its first place to the place after it
+    pub read_part_lem : take (p.start + p.size - p.start) (drop p.start v) ≡ read_part rule v len i
+    unfolding read_part part_bytes place_meaning part_meaning
+    read_part_lem = rw (← is) (ap (λ (n : ℕ). take n (drop p.start v)) (add-sub_cancel_left p.start p.size))
+
+  -- no part is empty
+  pub read_none : place_meaning None ≡ part_place rule v len i → [] ≡ read_part rule v len i
+  unfolding read_part part_bytes place_meaning no_part
+  read_none is = rw (← is) refl

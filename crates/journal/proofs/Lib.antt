@@ -3,11 +3,11 @@
 
 -- fields and sections
 pub mod Ranges
+pub mod Stopping
 pub mod Fields
 pub mod Items
 pub mod RuleLoop
 pub mod Sections
-pub mod Remembering
 pub mod LimitsLoop
 -- the record
 pub mod Flat

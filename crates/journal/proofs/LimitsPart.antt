@@ -1,10 +1,11 @@
 -- A record from its limits on: the section that the code reads, by the place of the chances, mean and spread of the times, finds what the
 -- record's own section of limits finds. Assumes nothing.
 use mathlib.Core.Path.{◌≡◌, refl, sym, ap, ap₂, ◌∙◌}
-use Prim.Native.Nat.{ℕ, ◌+◌, ◌*◌, ◌-◌, ◌<◌}
+use Prim.Native.Nat.{ℕ, ◌+◌, ◌*◌, ◌<◌}
 use mathlib.Core.List.{List, []}
 use mathlib.Core.Bool.{Bool, true, ◌&&◌}
 use native.Mathlib.Omega.{arith}
+use Rattle.std.specs.Prelude.{Result, Ok, Err}
 use lib.ListN.{length, drop, get_or}
 use lib.Dec.{leb, eqb}
 use borrow.Author.Tests.{eqb-true}
@@ -23,17 +24,13 @@ use Rattle.journal_spec.specs.Profile.{profile_chances, profile_times, in_profil
 use Rattle.journal_spec.specs.Stages.{limit_stage}
 use Rattle.journal_spec.proofs.Judging.{unless_none}
 use Rattle.journal_spec.proofs.Reading.{after, run_then}
-use Rattle.journal.specs.declared.Fault.{Fault}
-use Rattle.journal.specs.declared.field.FieldRead.{FieldRead}
-use Rattle.journal.specs.declared.field.FieldRead.TheVariants as F
-use Rattle.journal.specs.declared.limits.LimitsRead.{LimitsRead}
-use Rattle.journal.specs.declared.limits.LimitsRead.TheVariants as L
-use Rattle.journal.specs.declared.record.RecordRead.TheVariants as R
+use Rattle.journal.specs.Told.{Stopped, kept_of}
 use Rattle.journal.specs.Found.{field_by, limits_read, limit_refusal_at, limit_item, limits_by, limit_section_at}
 use Rattle.journal.specs.Records.{entry_of, record_read, Stands}
 use Rattle.journal.proofs.Fields.{after_field, by_field, read_value}
 use Rattle.journal.proofs.Items.{same_items}
 use Rattle.journal.proofs.Flat.{flat_exactly}
+use Rattle.journal.proofs.Stopping.{halted_found, halted_kept, halted_after}
 
 -- ---- the answer, taken back
 
@@ -42,25 +39,12 @@ record FoundPlace (f : Found (List ℕ)) (next : ℕ) : Type 0 where
   pub rest : List ℕ
   pub ran : f ≡ found xs next rest
 
-next_found : (f : Found (List ℕ)) (next : ℕ) → L.Next next ≡ limits_read f → FoundPlace f next
-unfolding limits_read
+next_found : (f : Found (List ℕ)) (next : ℕ) → Ok next ≡ limits_read f → FoundPlace f next
+unfolding kept_of
 next_found (found xs at rest) next h =
     let place : next ≡ at = cc in record { xs = xs; rest = rest; ran = ap (λ (e : ℕ). found xs e rest) (sym place) }
 next_found (fault n p) next h = let z : ◌≡◌ {A = ℕ} 0 1 = cc in absurd (omega arith)
 next_found short next h = let z : ◌≡◌ {A = ℕ} 0 1 = cc in absurd (omega arith)
-
-short_found : (f : Found (List ℕ)) → L.Short ≡ limits_read f → f ≡ short
-unfolding limits_read
-short_found (found xs at rest) h = let z : ◌≡◌ {A = ℕ} 0 1 = cc in absurd (omega arith)
-short_found (fault n p) h = let z : ◌≡◌ {A = ℕ} 0 1 = cc in absurd (omega arith)
-short_found short h = refl
-
-refused_found : (f : Found (List ℕ)) (x : Fault) → L.Refused x ≡ limits_read f → f ≡ fault x.number x.place
-unfolding limits_read
-refused_found (found xs at rest) x h = let z : ◌≡◌ {A = ℕ} 0 1 = cc in absurd (omega arith)
-refused_found (fault n p) x h =
-    let e : record { number = n; place = p } ≡ x = cc in ap (λ (y : Fault). fault y.number y.place) e
-refused_found short x h = let z : ◌≡◌ {A = ℕ} 0 1 = cc in absurd (omega arith)
 
 -- ---- the two sections
 
@@ -81,16 +65,15 @@ module _ (b : List ℕ) (chances n form : ℕ) (sums : Sums) (list times : List 
       (omega arith)
 
   module _ (at : ℕ) where
-    by_count : (f : FieldRead) → f ≡ field_by 2 (λ k. unless (eqb k n) limit_refusal) at b
+    by_count : (f : Result ℕ Stopped) → f ≡ field_by 2 (λ k. unless (eqb k n) limit_refusal) at b
         → after_field (λ k. items 8 (limit_item b chances (moments_of_sums form sums)) k []) 2 at b f
         ≡ after_field (λ k. items 8 (λ before. judge_limit (limit_of form times (get_or list (length before) 0))) k []) 2 at b f
     unfolding after_field
-    by_count (F.Value k) e =
+    by_count (Ok k) e =
         let v = read_value 2 (λ j. unless (eqb j n) limit_refusal) at b k e in
         let same : k ≡ n = eqb-true k n (unless_none (eqb k n) 6 v.good) in
         rw same (ap (λ r. run r (at + 2) (drop (at + 2) b)) items_agree)
-    by_count F.Short e = refl
-    by_count (F.Refused x) e = refl
+    by_count (Err x) e = refl
 
     sections_agree : run (section (limits_by b n chances (moments_of_sums form sums))) at (drop at b) ≡ run (section (limit_section form list times)) at (drop at b)
     unfolding section limits_by limit_section
@@ -103,28 +86,23 @@ module _ (b : List ℕ) (chances n form : ℕ) (sums : Sums) (list times : List 
 
     -- ---- the record, by the answer of the code's section
 
-    module _ (day : ℕ) (name : List ℕ) (x : LimitsRead) (read : x ≡ limit_section_at n chances (moments_of_sums form sums) at b) where
+    module _ (day : ℕ) (name : List ℕ) (x : Result ℕ Stopped) (read : x ≡ limit_section_at n chances (moments_of_sums form sums) at b) where
       ran : x ≡ limits_read (run (section (limit_section form list times)) at (drop at b))
       unfolding limit_section_at
       ran = read ∙ ap limits_read sections_agree
 
-      pub limits_part_short : x ≡ L.Short → R.Short ≡ record_read (run (limit_stage form day name list times) at (drop at b))
-      unfolding limit_stage after record_read
-      limits_part_short told =
-          ap record_read
+      pub limits_part_halted : (e : Stopped) → x ≡ Err e → Err e ≡ record_read (run (limit_stage form day name list times) at (drop at b))
+      unfolding limit_stage
+      limits_part_halted e told =
+          halted_kept entry_of e
+          ∙ ap record_read
           (sym (run_then (section (limit_section form list times)) _ at (drop at b)
-          ∙ ap (after _) (short_found (run (section (limit_section form list times)) at (drop at b)) (sym told ∙ ran))))
+          ∙ ap (after _) (halted_found (λ (xs : List ℕ) (q : ℕ). q) (run (section (limit_section form list times)) at (drop at b)) e (sym told ∙ ran))
+          ∙ halted_after _ e))
 
-      pub limits_part_refused : (f : Fault) → x ≡ L.Refused f → R.Refused f ≡ record_read (run (limit_stage form day name list times) at (drop at b))
-      unfolding limit_stage after record_read
-      limits_part_refused f told =
-          ap record_read
-          (sym (run_then (section (limit_section form list times)) _ at (drop at b)
-          ∙ ap (after _) (refused_found (run (section (limit_section form list times)) at (drop at b)) f (sym told ∙ ran))))
-
-      pub limits_part_read : (next : ℕ) → x ≡ L.Next next
+      pub limits_part_read : (next : ℕ) → x ≡ Ok next
           → (here : Bool) → here ≡ eqb form sample_form && same list profile_chances && leb profile_times sums.count
-          → R.Read
+          → Ok
           (record {
             next = next;
             form = form;
@@ -134,7 +112,7 @@ module _ (b : List ℕ) (chances n form : ℕ) (sums : Sums) (list times : List 
             in_profile = here;
           })
           ≡ record_read (run (limit_stage form day name list times) at (drop at b))
-      unfolding limit_stage after record_read entry_of in_profile run sums_of
+      unfolding limit_stage after kept_of entry_of in_profile run sums_of
       limits_part_read next told here is =
           let f = next_found (run (section (limit_section form list times)) at (drop at b)) next (sym told ∙ ran) in
           rw (is, total, flat_exactly times)

@@ -1,38 +1,45 @@
 -- Two answers with the same meaning are the same answer, and two appends that come to the same leave the same bytes: the equations of the
--- contracts leave nothing free. For each answer there is a way back from its meaning. Assumes nothing.
-use mathlib.Core.Path.{◌≡◌, refl, ap}
+-- contracts leave nothing free. No two refusals have one number. Assumes nothing.
+use mathlib.Core.Path.{◌≡◌, refl, ap, ap₂}
 use Prim.Native.Nat.{ℕ}
 use mathlib.Core.List.{List}
+use native.Mathlib.Omega.{arith}
+use Rattle.std.specs.Prelude.{Result, Ok, Err}
+use Rattle.refusals.specs.declared.Refusal.{Refusal}
+use Rattle.refusals.specs.Refusals.{number_of}
+use Rattle.refusals.proofs.Numbers.{own_number}
 use Rattle.limit.proofs.Meaning.{injective_by}
-use Rattle.journal_spec.specs.Scan.{ScanResult, whole, torn, damaged}
 use Rattle.journal_spec.specs.Read.{flat, few, normal, MarkResult, marked, unmarked}
 use Rattle.journal_spec.specs.Read as Read
-use Rattle.journal_spec.specs.Request.{AppendResult, extended, declined, Outcome}
-use Rattle.journal_spec.specs.Request as Request
+use Rattle.journal_spec.specs.Request.{Outcome}
+use Rattle.journal.specs.declared.Fault.{Fault}
 use Rattle.journal.specs.declared.Status.{Status}
 use Rattle.journal.specs.declared.Status.TheVariants as S
 use Rattle.journal.specs.declared.Part.{Part}
-use Rattle.journal.specs.declared.Marked.{Marked}
-use Rattle.journal.specs.declared.Marked.TheVariants as M
 use Rattle.journal.specs.declared.marks.Mark.{Mark}
 use Rattle.journal.specs.declared.marks.Mark.TheVariants as K
-use Rattle.journal.specs.declared.Appended.{Appended}
-use Rattle.journal.specs.declared.Appended.TheVariants as A
+use Rattle.journal.specs.declared.AppendError.{AppendError}
+use Rattle.journal.specs.declared.AppendError.TheVariants as A
 use Rattle.journal.specs.Answers.{meaning, part_meaning, as_mark, mark_meaning, append_meaning, outcome_with, outcome_of}
 
-of_scan : ScanResult → Status
-of_scan (whole n c) = S.Whole n c
-of_scan (torn n c) = S.Torn n c
-of_scan (damaged n p) = S.Damaged (record { number = n; place = p })
+fault_same : (f g : Fault) → number_of f.refusal ≡ number_of g.refusal → f.place ≡ g.place → f ≡ g
+fault_same f g e k =
+    ap₂ (λ (r : Refusal) (p : ℕ). record { refusal = r; place = p }) (own_number f.refusal g.refusal e) k
 
 pub meaning_injective : (a b : Status) → meaning a ≡ meaning b → a ≡ b
-unfolding meaning of_scan
-meaning_injective = injective_by meaning of_scan back
-  where
-    back : (s : Status) → of_scan (meaning s) ≡ s
-    back (S.Whole n c) = refl
-    back (S.Torn n c) = refl
-    back (S.Damaged f) = refl
+unfolding meaning
+meaning_injective (S.Whole n c) (S.Whole m d) e = cc
+meaning_injective (S.Torn n c) (S.Torn m d) e = cc
+meaning_injective (S.Damaged f) (S.Damaged g) e =
+    let number : number_of f.refusal ≡ number_of g.refusal = cc in
+    let place : f.place ≡ g.place = cc in
+    ap S.Damaged (fault_same f g number place)
+meaning_injective (S.Whole n c) (S.Torn m d) e = let z : ◌≡◌ {A = ℕ} 0 1 = cc in absurd (omega arith)
+meaning_injective (S.Whole n c) (S.Damaged g) e = let z : ◌≡◌ {A = ℕ} 0 1 = cc in absurd (omega arith)
+meaning_injective (S.Torn n c) (S.Whole m d) e = let z : ◌≡◌ {A = ℕ} 0 1 = cc in absurd (omega arith)
+meaning_injective (S.Torn n c) (S.Damaged g) e = let z : ◌≡◌ {A = ℕ} 0 1 = cc in absurd (omega arith)
+meaning_injective (S.Damaged f) (S.Whole m d) e = let z : ◌≡◌ {A = ℕ} 0 1 = cc in absurd (omega arith)
+meaning_injective (S.Damaged f) (S.Torn m d) e = let z : ◌≡◌ {A = ℕ} 0 1 = cc in absurd (omega arith)
 
 of_part : Read.Part → Part
 of_part p = record { start = p.start; size = p.size }
@@ -54,37 +61,40 @@ as_mark_injective = injective_by as_mark of_mark back
     back K.Few = refl
     back K.Normal = refl
 
-of_mark_result : MarkResult → Marked
-of_mark_result (marked m) = M.As (of_mark m)
-of_mark_result (unmarked n) = M.Refused n
+pub mark_meaning_injective : (a b : Result Mark Refusal) → mark_meaning a ≡ mark_meaning b → a ≡ b
+unfolding mark_meaning
+mark_meaning_injective (Ok x) (Ok y) e = let same : as_mark x ≡ as_mark y = cc in ap Ok (as_mark_injective x y same)
+mark_meaning_injective (Err r) (Err s) e = let same : number_of r ≡ number_of s = cc in ap Err (own_number r s same)
+mark_meaning_injective (Ok x) (Err s) e = let z : ◌≡◌ {A = ℕ} 0 1 = cc in absurd (omega arith)
+mark_meaning_injective (Err r) (Ok y) e = let z : ◌≡◌ {A = ℕ} 0 1 = cc in absurd (omega arith)
 
-pub mark_meaning_injective : (a b : Marked) → mark_meaning a ≡ mark_meaning b → a ≡ b
-unfolding mark_meaning as_mark of_mark_result of_mark
-mark_meaning_injective = injective_by mark_meaning of_mark_result back
-  where
-    back : (m : Marked) → of_mark_result (mark_meaning m) ≡ m
-    back (M.As K.Flat) = refl
-    back (M.As K.Few) = refl
-    back (M.As K.Normal) = refl
-    back (M.Refused n) = refl
+pub append_meaning_injective : (a b : Result ℕ AppendError) → append_meaning a ≡ append_meaning b → a ≡ b
+unfolding append_meaning
+append_meaning_injective (Ok n) (Ok m) e = let same : n ≡ m = cc in ap Ok same
+append_meaning_injective (Err (A.Declined r)) (Err (A.Declined s)) e =
+    let same : number_of r ≡ number_of s = cc in ap (λ (x : Refusal). Err (A.Declined x)) (own_number r s same)
+append_meaning_injective (Err (A.DeclinedAt f)) (Err (A.DeclinedAt g)) e =
+    let number : number_of f.refusal ≡ number_of g.refusal = cc in
+    let place : f.place ≡ g.place = cc in
+    ap (λ (x : Fault). Err (A.DeclinedAt x)) (fault_same f g number place)
+append_meaning_injective (Err (A.Damaged f)) (Err (A.Damaged g)) e =
+    let number : number_of f.refusal ≡ number_of g.refusal = cc in
+    let place : f.place ≡ g.place = cc in
+    ap (λ (x : Fault). Err (A.Damaged x)) (fault_same f g number place)
+append_meaning_injective (Ok n) (Err (A.Declined s)) e = let z : ◌≡◌ {A = ℕ} 0 1 = cc in absurd (omega arith)
+append_meaning_injective (Ok n) (Err (A.DeclinedAt g)) e = let z : ◌≡◌ {A = ℕ} 0 1 = cc in absurd (omega arith)
+append_meaning_injective (Ok n) (Err (A.Damaged g)) e = let z : ◌≡◌ {A = ℕ} 0 1 = cc in absurd (omega arith)
+append_meaning_injective (Err (A.Declined r)) (Ok m) e = let z : ◌≡◌ {A = ℕ} 0 1 = cc in absurd (omega arith)
+append_meaning_injective (Err (A.Declined r)) (Err (A.DeclinedAt g)) e = let z : ◌≡◌ {A = ℕ} 0 1 = cc in absurd (omega arith)
+append_meaning_injective (Err (A.Declined r)) (Err (A.Damaged g)) e = let z : ◌≡◌ {A = ℕ} 0 1 = cc in absurd (omega arith)
+append_meaning_injective (Err (A.DeclinedAt f)) (Ok m) e = let z : ◌≡◌ {A = ℕ} 0 1 = cc in absurd (omega arith)
+append_meaning_injective (Err (A.DeclinedAt f)) (Err (A.Declined s)) e = let z : ◌≡◌ {A = ℕ} 0 1 = cc in absurd (omega arith)
+append_meaning_injective (Err (A.DeclinedAt f)) (Err (A.Damaged g)) e = let z : ◌≡◌ {A = ℕ} 0 1 = cc in absurd (omega arith)
+append_meaning_injective (Err (A.Damaged f)) (Ok m) e = let z : ◌≡◌ {A = ℕ} 0 1 = cc in absurd (omega arith)
+append_meaning_injective (Err (A.Damaged f)) (Err (A.Declined s)) e = let z : ◌≡◌ {A = ℕ} 0 1 = cc in absurd (omega arith)
+append_meaning_injective (Err (A.Damaged f)) (Err (A.DeclinedAt g)) e = let z : ◌≡◌ {A = ℕ} 0 1 = cc in absurd (omega arith)
 
-of_append : AppendResult → Appended
-of_append (extended n) = A.Extended n
-of_append (declined n) = A.Declined n
-of_append (Request.declined_at n p) = A.DeclinedAt (record { number = n; place = p })
-of_append (Request.damaged n p) = A.Damaged (record { number = n; place = p })
-
-pub append_meaning_injective : (a b : Appended) → append_meaning a ≡ append_meaning b → a ≡ b
-unfolding append_meaning of_append
-append_meaning_injective = injective_by append_meaning of_append back
-  where
-    back : (a : Appended) → of_append (append_meaning a) ≡ a
-    back (A.Extended n) = refl
-    back (A.Declined n) = refl
-    back (A.DeclinedAt f) = refl
-    back (A.Damaged f) = refl
-
-pub outcome_injective : (len : ℕ) (a b : Appended) (v w : List ℕ) → outcome_of len a v ≡ outcome_of len b w → (a ≡ b) × (v ≡ w)
+pub outcome_injective : (len : ℕ) (a b : Result ℕ AppendError) (v w : List ℕ) → outcome_of len a v ≡ outcome_of len b w → (a ≡ b) × (v ≡ w)
 unfolding outcome_with
 outcome_injective len a b v w e =
     (append_meaning_injective a b (ap (λ (o : Outcome). o.answer) e), ap (λ (o : Outcome). o.journal.slice) e)

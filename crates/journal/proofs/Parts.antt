@@ -1,10 +1,11 @@
 -- A record from one of its sections on: what is found by the section's answer.
 -- The numbers that the section holds stand in the bytes, and the rest of the record is read after it. Assumes nothing.
 use mathlib.Core.Path.{◌≡◌, refl, sym, ap, ◌∙◌}
-use Prim.Native.Nat.{ℕ, zero, suc, ◌+◌, ◌*◌, ◌-◌}
+use Prim.Native.Nat.{ℕ, zero, suc, ◌+◌, ◌*◌}
 use mathlib.Core.List.{List, [], ◌∷◌, ◌++◌}
 use mathlib.Core.Bool.{true}
 use native.Mathlib.Omega.{arith}
+use Rattle.std.specs.Prelude.{Result, Ok, Err}
 use lib.ListN.{length, take, drop}
 use Rattle.limit.specs.declared.sums.Sums.{Sums}
 use Rattle.limit.specs.Times.{min_ticks, max_ticks, min_count, max_count, all_in_range, times_in_range}
@@ -21,12 +22,12 @@ use Rattle.journal_spec.specs.Record.{chance_section, time_section}
 use Rattle.journal_spec.proofs.Judging.{outside_none}
 use Rattle.journal_spec.proofs.Reading.{field_found, after, run_then}
 use Rattle.journal_spec.proofs.SectionAt.{SectionAt, section_at_lem}
-use Rattle.journal.specs.declared.Fault.{Fault}
+use Rattle.journal.specs.Told.{Stopped, kept_of}
 use Rattle.journal.specs.declared.section.SectionRule.{SectionRule}
-use Rattle.journal.specs.declared.section.SectionRead.{SectionRead}
-use Rattle.journal.specs.declared.section.SectionRead.TheVariants as S
+use Rattle.journal.specs.declared.section.Section as Code
 use Rattle.journal.specs.Rules.{ruled}
-use Rattle.journal.specs.Found.{section_read, section_at}
+use Rattle.journal.specs.Found.{section_kept, section_read, section_at}
+use Rattle.journal.proofs.Stopping.{halted, halted_found, halted_after}
 use Rattle.journal.specs.Records.{Stands}
 use Rattle.journal.proofs.RuleLoop.{time_between}
 
@@ -38,45 +39,32 @@ record FoundNumbers (f : Found (List ℕ)) (next : ℕ) (sums : Sums) : Type 0 w
   pub total : sums ≡ sums_of xs
   pub ran : f ≡ found xs next rest
 
-read_found : (f : Found (List ℕ)) (next : ℕ) (sums : Sums) → S.Read next sums ≡ section_read f → FoundNumbers f next sums
-unfolding section_read
-read_found (found xs at rest) next sums h =
-    let place : next ≡ at = cc in
-    let total : sums ≡ sums_of xs = cc in
-    record { xs = xs; rest = rest; total = total; ran = ap (λ (e : ℕ). found xs e rest) (sym place) }
-read_found (fault n p) next sums h = let z : ◌≡◌ {A = ℕ} 0 1 = cc in absurd (omega arith)
-read_found short next sums h = let z : ◌≡◌ {A = ℕ} 0 1 = cc in absurd (omega arith)
-
-short_found : (f : Found (List ℕ)) → S.Short ≡ section_read f → f ≡ short
-unfolding section_read
-short_found (found xs at rest) h = let z : ◌≡◌ {A = ℕ} 0 1 = cc in absurd (omega arith)
-short_found (fault n p) h = let z : ◌≡◌ {A = ℕ} 0 1 = cc in absurd (omega arith)
-short_found short h = refl
-
-refused_found : (f : Found (List ℕ)) (x : Fault) → S.Refused x ≡ section_read f → f ≡ fault x.number x.place
-unfolding section_read
-refused_found (found xs at rest) x h = let z : ◌≡◌ {A = ℕ} 0 1 = cc in absurd (omega arith)
-refused_found (fault n p) x h =
-    let e : record { number = n; place = p } ≡ x = cc in ap (λ (y : Fault). fault y.number y.place) e
-refused_found short x h = let z : ◌≡◌ {A = ℕ} 0 1 = cc in absurd (omega arith)
+read_found : (f : Found (List ℕ)) (x : Code.Section) → Ok x ≡ section_read f → FoundNumbers f x.next x.sums
+unfolding kept_of
+read_found (found xs at rest) x h =
+    let same : section_kept xs at ≡ x = cc in
+    record {
+      xs = xs;
+      rest = rest;
+      total = ap (λ (y : Code.Section). y.sums) (sym same);
+      ran = ap (λ (e : ℕ). found xs e rest) (ap (λ (y : Code.Section). y.next) same);
+    }
+read_found (fault n p) x h = let z : ◌≡◌ {A = ℕ} 0 1 = cc in absurd (omega arith)
+read_found short x h = let z : ◌≡◌ {A = ℕ} 0 1 = cc in absurd (omega arith)
 
 -- ---- what follows a section
 
 module _ {B : Type 0} (k : List ℕ → Reader B) (s : Section) (w : ℕ) (r : SectionRule) (same : ruled w r ≡ s) (at : ℕ) (b : List ℕ)
-    (x : SectionRead) (read : x ≡ section_at w r at b) where
+    (x : Result Code.Section Stopped) (read : x ≡ section_at w r at b) where
   ran : x ≡ section_read (run (section s) at (drop at b))
   unfolding section_at
   ran = read ∙ ap (λ (t : Section). section_read (run (section t) at (drop at b))) same
 
-  pub part_short : x ≡ S.Short → short ≡ run (then (section s) k) at (drop at b)
-  unfolding after
-  part_short told =
-      sym (run_then (section s) k at (drop at b) ∙ ap (after k) (short_found (run (section s) at (drop at b)) (sym told ∙ ran)))
-
-  pub part_refused : (f : Fault) → x ≡ S.Refused f → fault f.number f.place ≡ run (then (section s) k) at (drop at b)
-  unfolding after
-  part_refused f told =
-      sym (run_then (section s) k at (drop at b) ∙ ap (after k) (refused_found (run (section s) at (drop at b)) f (sym told ∙ ran)))
+  pub part_halted : (e : Stopped) → x ≡ Err e → halted e ≡ run (then (section s) k) at (drop at b)
+  part_halted e told =
+      sym (run_then (section s) k at (drop at b)
+      ∙ ap (after k) (halted_found section_kept (run (section s) at (drop at b)) e (sym told ∙ ran))
+      ∙ halted_after k e)
 
   -- the section was read: its numbers, and what the reader finds after it
   pub record Part (next : ℕ) (sums : Sums) : Type 0 where
@@ -87,18 +75,18 @@ module _ {B : Type 0} (k : List ℕ → Reader B) (s : Section) (w : ℕ) (r : S
     pub known : SectionAt s b xs at next rest
     pub goes : run (k xs) next (drop next b) ≡ run (then (section s) k) at (drop at b)
 
-  pub part_read : (next : ℕ) (sums : Sums) → x ≡ S.Read next sums → Part next sums
+  pub part_read : (y : Code.Section) → x ≡ Ok y → Part y.next y.sums
   unfolding after
-  part_read next sums told =
-      let f = read_found (run (section s) at (drop at b)) next sums (sym told ∙ ran) in
-      let known = section_at_lem s b f.xs at next f.rest f.ran in
+  part_read y told =
+      let f = read_found (run (section s) at (drop at b)) y (sym told ∙ ran) in
+      let known = section_at_lem s b f.xs at y.next f.rest f.ran in
       record {
         xs = f.xs;
         rest = f.rest;
         total = f.total;
         found' = f.ran;
         known = known;
-        goes = ap (λ (l : List ℕ). run (k f.xs) next l) (sym known.drops)
+        goes = ap (λ (l : List ℕ). run (k f.xs) y.next l) (sym known.drops)
             ∙ sym (run_then (section s) k at (drop at b) ∙ ap (after k) f.ran);
       }
 

@@ -30,6 +30,10 @@ module _ (low high n x : ℕ) where
       (λ k. unless_true (leb low x) n (le-leb low x k) ∙ sym (inside low high n x k h))
       (λ k. unless_false (leb low x) n (lt-leb low x k) ∙ sym (below low high n x k))
 
+-- a number that is below the range or above it
+pub not_inside : (low high n x : ℕ) → (low ≤ x → x ≤ high → ⊥) → outside low high n x ≡ n
+not_inside low high n x h = by_order low x (λ k. above low high n x (by_order x high (λ l. absurd (h k l)) (λ l. l))) (λ k. below low high n x k)
+
 -- one number and no other
 pub one_alone : (k n x : ℕ) → unless (eqb x k) n ≡ outside k k n x
 one_alone k n x =

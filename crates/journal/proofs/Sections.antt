@@ -5,6 +5,8 @@ use Prim.Native.Nat.{ℕ, suc, ◌+◌}
 use mathlib.Core.List.{List, [], ◌∷◌}
 use mathlib.Core.Bool.{true, false}
 use lib.ListN.{drop}
+use Rattle.std.specs.Prelude.{Result, Ok, Err}
+use Rattle.refusals.specs.Refusals.{number_of}
 use Rattle.limit.specs.Times.{min_ticks, max_ticks, min_count, max_count}
 use Rattle.limit.specs.Limit.{max_chance}
 use Rattle.limit.specs.Answer.{chance_refusal, times_refusal}
@@ -13,39 +15,34 @@ use Rattle.journal_spec.specs.Reader.{run}
 use Rattle.journal_spec.specs.Section.{Section, section, items}
 use Rattle.journal_spec.specs.Record.{min_name, max_name, min_byte, max_byte, min_chances, max_chances, last_chance}
 use Rattle.journal_spec.specs.Record.{name_section, chance_section, time_section}
-use Rattle.journal.specs.declared.Fault.{Fault}
-use Rattle.journal.specs.declared.field.FieldRead.{FieldRead}
-use Rattle.journal.specs.declared.field.FieldRead.TheVariants as F
+use Rattle.journal.specs.Told.{Stopped}
 use Rattle.journal.specs.declared.section.SectionRule.{SectionRule}
-use Rattle.journal.specs.declared.section.SectionRead.TheVariants as S
 use Rattle.journal.specs.Rules.{least_next, least_after, item_refusal, ruled, name_rule, chance_rule, time_rule}
-use Rattle.journal.specs.Found.{field_at, section_read, numbers_at, section_at}
+use Rattle.journal.specs.Found.{field_at, section_kept, numbers_at, section_at}
 use Rattle.journal.proofs.Ranges.{chance_agrees}
 use Rattle.journal.proofs.Fields.{after_field, by_field}
+use Rattle.journal.proofs.Stopping.{halted_kept}
 
 -- ---- by the count
 
-module _ (w : ℕ) (r : SectionRule) (at : ℕ) (b : List ℕ) (f : FieldRead) (read : f ≡ field_at 2 r.least r.most r.refusal at b) where
+module _ (w : ℕ) (r : SectionRule) (at : ℕ) (b : List ℕ) (f : Result ℕ Stopped)
+    (read : f ≡ field_at 2 r.least r.most (number_of r.refusal) at b) where
   -- what the section's reader finds, by the answer of its count
   by_count : run (section (ruled w r)) at (drop at b)
-      ≡ after_field (λ n. items w (item_refusal r.rising r.low r.high r.refusal) n []) 2 at b f
+      ≡ after_field (λ n. items w (item_refusal r.rising r.low r.high (number_of r.refusal)) n []) 2 at b f
   unfolding section ruled
   by_count =
-      by_field 2 (outside r.least r.most r.refusal)
-      (λ n. items w (item_refusal r.rising r.low r.high r.refusal) n []) at b
+      by_field 2 (outside r.least r.most (number_of r.refusal))
+      (λ n. items w (item_refusal r.rising r.low r.high (number_of r.refusal)) n []) at b
       ∙ rw (← read) refl
 
-  pub section_numbers : (n : ℕ) → f ≡ F.Value n → numbers_at w r n (at + 2) b ≡ section_at w r at b
+  pub section_numbers : (n : ℕ) → f ≡ Ok n → numbers_at w r n (at + 2) b ≡ section_at w r at b
   unfolding numbers_at section_at after_field
   section_numbers n told = rw by_count (rw told refl)
 
-  pub section_short : f ≡ F.Short → S.Short ≡ section_at w r at b
-  unfolding section_at section_read after_field
-  section_short told = rw by_count (rw told refl)
-
-  pub section_refused : (x : Fault) → f ≡ F.Refused x → S.Refused x ≡ section_at w r at b
-  unfolding section_at section_read after_field
-  section_refused x told = rw by_count (rw told refl)
+  pub section_halted : (e : Stopped) → f ≡ Err e → Err e ≡ section_at w r at b
+  unfolding section_at after_field
+  section_halted e told = rw by_count (rw told (halted_kept section_kept e))
 
 -- ---- the rules
 

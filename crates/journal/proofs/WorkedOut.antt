@@ -5,13 +5,13 @@ use Prim.Native.Nat.{ℕ, ◌+◌, ◌≤◌, ◌<◌}
 use mathlib.Core.Bool.{true}
 use mathlib.Core.List.{List, [], ◌∷◌, ◌++◌, map-append}
 use native.Mathlib.Omega.{arith}
+use Rattle.std.specs.Prelude.{Result, Ok, Err}
+use Rattle.refusals.specs.declared.Refusal.{Refusal}
 use native.Mathlib.Numerals.{add-one}
 use lib.ListN.{length, take, get_or, set, length-set}
 use lib.Seq.{take-suc, take_all, take-suc-set}
 use lib.Ieee.{binary64, to_bits}
 use Rattle.limit.specs.declared.Figures.{Figures}
-use Rattle.limit.specs.declared.Answer.{Answer}
-use Rattle.limit.specs.declared.Answer.TheVariants as W
 use Rattle.limit.specs.declared.sums.Sums.{Sums}
 use Rattle.limit.specs.Times.{times_in_range}
 use Rattle.limit.specs.Sums.{sums_of}
@@ -25,12 +25,12 @@ use Rattle.journal.specs.Handed.{limits_from}
 
 -- ---- one limit
 
-module _ (a : Answer) (r : LimitResult) (is : meaning a ≡ r) where
-  pub bits_given : (f : Figures) (b : ℕ) → a ≡ W.Limit f → b ≡ to_bits binary64 f.limit → b ≡ limit_bits r
+module _ (a : Result Figures Refusal) (r : LimitResult) (is : meaning a ≡ r) where
+  pub bits_given : (f : Figures) (b : ℕ) → a ≡ Ok f → b ≡ to_bits binary64 f.limit → b ≡ limit_bits r
   unfolding meaning limit_bits
   bits_given f b told e = e ∙ ap limit_bits (sym (ap meaning told) ∙ is)
 
-  pub bits_none : (n : ℕ) → a ≡ W.Refused n → 0 ≡ limit_bits r
+  pub bits_none : (n : Refusal) → a ≡ Err n → 0 ≡ limit_bits r
   unfolding meaning limit_bits
   bits_none n told = ap limit_bits (sym (ap meaning told) ∙ is)
 

@@ -1,6 +1,8 @@
 -- What a call is handed, as the journal's definitions take it: the offer, and the record of it with given limits.
 -- The contracts of the check, the writers and append cite these.
-use Rattle.std.specs.Prelude.{◌≡◌, ℕ, List, [], ◌∷◌, map, Bool, true, ◌&&◌, length, take, leb}
+use Rattle.std.specs.Prelude.{◌≡◌, ℕ, List, [], ◌∷◌, map, Bool, true, ◌&&◌, length, take, leb, Result}
+use Rattle.refusals.specs.declared.Refusal.{Refusal}
+use Rattle.journal.specs.Told.{Judged}
 use Rattle.std.proofs.Math.Option.{Option}
 use Rattle.limit.specs.declared.sums.Sums.{Sums}
 use Rattle.limit.specs.Formula.{sample_form}
@@ -68,9 +70,9 @@ unfoldable pub rule_refusal : Profile.Rule → List ℕ → ℕ → ℕ
 rule_refusal rule chances times = unless (kept_by rule (same chances profile_chances && leb profile_times times)) profile_refusal
 
 -- chances in range and times with these sums were judged by a rule, and where it does not refuse the limits' bits stand first in `bits`
-pub record RuleChecked (rule : Profile.Rule) (s : Sums) (chances : List ℕ) (r : ℕ) (bits : List ℕ) : Type 0 where
-  pub refusal : r ≡ rule_refusal rule chances s.count
-  pub limits : r ≡ 0 → take (length chances) bits ≡ limits_from (moments_of_sums sample_form s) chances
+pub record RuleChecked (rule : Profile.Rule) (s : Sums) (chances : List ℕ) {A : Type 0} (r : Result A Refusal) (bits : List ℕ) : Type 0 where
+  pub refusal : Judged r (rule_refusal rule chances s.count)
+  pub limits : rule_refusal rule chances s.count ≡ 0 → take (length chances) bits ≡ limits_from (moments_of_sums sample_form s) chances
 
 -- the rows of append's refusals that need no room: 3, 4, 5, 17, 6, 19
 unfoldable pub offer_refusals : Profile.Rule → Last → Offer → List ℕ
@@ -84,6 +86,6 @@ offer_refusals rule last o =
     ∷ []
 
 -- the offer was judged by these after the record `last`, and where there is no refusal the limits' bits stand first in `bits`
-pub record OfferChecked (rule : Profile.Rule) (last : Last) (o : Offer) (r : ℕ) (bits : List ℕ) : Type 0 where
-  pub refusal : r ≡ first_of (offer_refusals rule last o)
-  pub limits : r ≡ 0 → take (length o.chances) bits ≡ limits_of o.times o.chances
+pub record OfferChecked (rule : Profile.Rule) (last : Last) (o : Offer) {A : Type 0} (r : Result A Refusal) (bits : List ℕ) : Type 0 where
+  pub refusal : Judged r (first_of (offer_refusals rule last o))
+  pub limits : first_of (offer_refusals rule last o) ≡ 0 → take (length o.chances) bits ≡ limits_of o.times o.chances

@@ -7,10 +7,11 @@ pub mod Answers
 pub mod Handed
 -- the step of the call with k
 pub mod Stepped
+-- an answer with its refusal by number
+pub mod Told
 -- for private contracts:
 -- the rules of sections, fields and sections, the record, the pass over the records
 pub mod Rules
 pub mod Found
-pub mod Remembered
 pub mod Records
 pub mod Contents

@@ -1,8 +1,8 @@
 -- What the reading of a record answers, by what the record's reader finds: the place after it, its form and day, of its times what the
 -- mark needs, and whether it is one of the profile's.
-use Rattle.std.specs.Prelude.{◌≡◌, ℕ, ◌+◌, ◌*◌, ◌<◌, List, length, get_or, drop}
+use Rattle.std.specs.Prelude.{◌≡◌, ℕ, ◌+◌, ◌*◌, ◌<◌, List, length, get_or, drop, Result}
 use Rattle.journal_spec.specs.Bytes.{number_at}
-use Rattle.journal_spec.specs.Reader.{Found, found, fault, short, run}
+use Rattle.journal_spec.specs.Reader.{Found, run}
 use Rattle.journal_spec.specs.Record.{Record, Last, record_reader}
 use Rattle.journal_spec.specs.Profile.{in_profile}
 use Rattle.journal_spec.specs.Scan as Scan
@@ -11,8 +11,7 @@ use Rattle.journal.specs.Handed.{as_rule}
 use Rattle.journal.specs.declared.profile.Rule.{Rule}
 use Rattle.journal.specs.declared.record.Head.{Head}
 use Rattle.journal.specs.declared.record.Entry.{Entry}
-use Rattle.journal.specs.declared.record.RecordRead.{RecordRead}
-use Rattle.journal.specs.declared.record.RecordRead.TheVariants as R
+use Rattle.journal.specs.Told.{Stopped, kept_of}
 
 -- the record before, as the record's reader knows it
 unfoldable pub as_last : Head → Last
@@ -30,17 +29,15 @@ entry_of r next = record {
 }
 
 -- the answer
-unfoldable pub record_read : Found Record → RecordRead
-record_read (found r next rest) = R.Read (entry_of r next)
-record_read (fault n p) = R.Refused (record { number = n; place = p })
-record_read short = R.Short
+abbrev pub record_read : Found Record → Result Entry Stopped
+record_read = kept_of entry_of
 
 -- the record at a place, after the record `last`
-unfoldable pub record_at : Head → ℕ → List ℕ → RecordRead
+unfoldable pub record_at : Head → ℕ → List ℕ → Result Entry Stopped
 record_at last at b = record_read (run (record_reader (as_last last)) at (drop at b))
 
 -- the same by a rule
-unfoldable pub record_by : Rule → Head → ℕ → List ℕ → RecordRead
+unfoldable pub record_by : Rule → Head → ℕ → List ℕ → Result Entry Stopped
 record_by rule last at b = record_read (Scan.record_at (as_rule rule) (as_last last) at (drop at b))
 
 -- n numbers of 4 bytes that stand from a place on, as chances that were read do

@@ -3,8 +3,9 @@
 use Rattle.std.specs.Prelude.{ℕ, suc, ◌≤◌, ◌<◌, List, [], ◌∷◌, Bool, true, false, cond}
 use Rattle.limit.specs.Times.{min_ticks, max_ticks, min_count, max_count}
 use Rattle.limit.specs.Limit.{min_chance, max_chance}
-use Rattle.limit.specs.Answer.{chance_refusal, times_refusal}
-use Rattle.journal_spec.specs.Refusals.{name_refusal, outside}
+use Rattle.refusals.specs.declared.Refusal.TheVariants as R
+use Rattle.refusals.specs.Refusals.{number_of}
+use Rattle.journal_spec.specs.Refusals.{outside}
 use Rattle.journal_spec.specs.Section.{Section}
 use Rattle.journal_spec.specs.Record.{min_name, max_name, min_byte, max_byte, min_chances, max_chances}
 use Rattle.journal.specs.declared.section.SectionRule.{SectionRule}
@@ -26,13 +27,13 @@ item_refusal rising low high n before = outside (least_after rising low before) 
 unfoldable pub ruled : ℕ → SectionRule → Section
 ruled w r = record {
   width = w;
-  count = outside r.least r.most r.refusal;
-  item = item_refusal r.rising r.low r.high r.refusal;
+  count = outside r.least r.most (number_of r.refusal);
+  item = item_refusal r.rising r.low r.high (number_of r.refusal);
 }
 
 -- What every rule here keeps: its numbers are in the range of times and no more than there are times, so that their sums are exact.
 pub record RuleFits (r : SectionRule) : Type 0 where
-  pub refuses : 0 < r.refusal
+  pub refuses : 0 < number_of r.refusal
   pub few : r.most ≤ max_count
   pub least : min_ticks ≤ r.low
   pub greatest : r.high ≤ max_ticks
@@ -47,7 +48,7 @@ name_rule = record {
   low = min_byte;
   high = max_byte;
   rising = false;
-  refusal = name_refusal;
+  refusal = R.Name;
 }
 
 -- the chances: 1 to 8, in range, rising strictly
@@ -58,7 +59,7 @@ chance_rule = record {
   low = min_chance;
   high = max_chance;
   rising = true;
-  refusal = chance_refusal;
+  refusal = R.Chance;
 }
 
 -- the times: 2 to 128, in range
@@ -69,5 +70,5 @@ time_rule = record {
   low = min_ticks;
   high = max_ticks;
   rising = false;
-  refusal = times_refusal;
+  refusal = R.Times;
 }

@@ -11,16 +11,14 @@ ghost use Rattle.journal.specs.Records.{as_last};
 ghost use Rattle.journal.specs.Handed.{request_by, as_budget};
 ghost use Rattle.journal.specs.Answers.{outcome_of};
 
-use crate::Appended;
-use crate::contents::{Contents, MAX_LENGTH, contents_of};
+use crate::AppendError;
+use crate::contents::{MAX_LENGTH, contents_of};
 use crate::layout::{MAX_RECORD, lay_record};
 use crate::offer::offer_refusal;
 use crate::profile::Rule;
 use crate::record::{Head, MAX_CHANCES};
 use crate::write::put_record;
-
-// Document 01's number for a record that ends beyond the slice or the longest journal.
-pub const ROOM_REFUSAL: u32 = 9;
+use refusals::Refusal;
 
 // The bytes that every record has, whatever its sections hold: form, day and the four sections' counts, two bytes each.
 pub const FIXED_SIZE: usize = 12;
@@ -48,20 +46,13 @@ pub fn append_with(
     chances: &[u32],
     times: &[u32],
     asked: Asked,
-) -> Appended
+) -> Result<usize, AppendError>
     ensures { outcome_of len result v.new ≡ append_of (record { slice = v.old; len = len })
         (request_by asked name.now chances.now (Request.times times.now) none) }
 {
-    let rule = asked.rule;
-    let x = contents_of(v, len, 0, rule);
-    match x {
-        Contents::Stands {
-            records: _,
-            committed,
-            last,
-            shown: _,
-        } => extend_by(v, committed, last, name, chances, times, asked),
-        Contents::Damaged(f) => Appended::Damaged(f),
+    match contents_of(v, len, 0, asked.rule) {
+        Ok(c) => extend_by(v, c.committed, c.last, name, chances, times, asked),
+        Err(fault) => Err(AppendError::Damaged(fault)),
     }
 }
 
@@ -74,7 +65,7 @@ pub fn extend_by(
     chances: &[u32],
     times: &[u32],
     asked: Asked,
-) -> Appended
+) -> Result<usize, AppendError>
     ensures { (len : ℕ) (ps : List Placed) → as_last last ≡ last_of (records_of ps)
         → outcome_of len result v.new ≡ append_to (standing ps committed) (record { slice = v.old; len = len })
         (request_by asked name.now chances.now (Request.times times.now) none) }
@@ -83,9 +74,8 @@ pub fn extend_by(
     let budget = asked.budget;
     let rule = asked.rule;
     let mut bits: [u64; MAX_CHANCES] = [0; MAX_CHANCES];
-    let refusal = offer_refusal(last, day, name, chances, times, rule, &mut bits);
-    if 0 < refusal {
-        return Appended::Declined(refusal);
+    if let Err(refusal) = offer_refusal(last, day, name, chances, times, rule, &mut bits) {
+        return Err(AppendError::Declined(refusal));
     }
     let n = chances.len();
     let mut bytes: [u8; MAX_RECORD] = [0; MAX_RECORD];
@@ -94,35 +84,31 @@ pub fn extend_by(
 }
 
 // A record that nothing else refuses: no room, or its first bytes are written, as many as the budget lets through.
-fn extend_within(v: &mut [u8], committed: usize, bytes: &[u8], budget: Budget) -> Appended
+fn extend_within(
+    v: &mut [u8],
+    committed: usize,
+    bytes: &[u8],
+    budget: Budget,
+) -> Result<usize, AppendError>
     ensures { (len : ℕ) → outcome_of len result v.new
         ≡ settle (judge_room (length v.old) committed (length bytes.now)) (record { slice = v.old; len = len }) none
         committed (take (allowed (as_budget budget) (length bytes.now)) bytes.now) none }
 {
     let size = bytes.len();
     if !has_room(v.len(), committed, size) {
-        return Appended::Declined(ROOM_REFUSAL);
+        return Err(AppendError::Declined(Refusal::Room));
     }
     let end = end_of(budget, size);
     let n = put_record(&mut v[committed..], end, bytes);
     let after = committed + n;
-    Appended::Extended(after)
+    Ok(after)
 }
 
 // Whether so many bytes after the committed length end inside the slice and the longest journal.
 fn has_room(room: usize, committed: usize, size: usize) -> bool
     ensures { result ≡ leb (committed + size) (min room max_length) }
 {
-    if room < size {
-        return false;
-    }
-    if MAX_LENGTH < size {
-        return false;
-    }
-    if room - size < committed {
-        return false;
-    }
-    committed <= MAX_LENGTH - size
+    size <= room && size <= MAX_LENGTH && committed <= room - size && committed <= MAX_LENGTH - size
 }
 
 // How many bytes of a record of that size are written.
@@ -131,13 +117,6 @@ fn end_of(budget: Budget, size: usize) -> usize
 {
     match budget {
         Budget::All => size,
-        Budget::UpTo(k) => least(k, size),
+        Budget::UpTo(k) => k.min(size),
     }
-}
-
-// The smaller of two numbers.
-fn least(a: usize, b: usize) -> usize
-    ensures { result ≡ min a b }
-{
-    if a < b { a } else { b }
 }

@@ -1,15 +1,17 @@
 // One field of a record: a number of some bytes that has to lie in a range.
 // It is judged when its last byte stands; a refusal's place is its first byte.
 ghost use Rattle.std.specs.Prelude.{◌≡◌, ◌≤◌, ◌<◌, length};
+ghost use Rattle.refusals.specs.Refusals.{number_of};
+ghost use Rattle.journal.specs.Told.{told};
 ghost use Rattle.journal.specs.Found.{field_at};
 
 use crate::Fault;
 use journal_parts::number_at;
+use refusals::Refusal;
 
-// The field's value; that the bytes run out before its last; or its refusal.
+// Why the reading of a record stops: its bytes run out, or what stands there is refused.
 #[derive(Clone, Copy)]
-pub(crate) enum FieldRead {
-    Value(u64),
+pub(crate) enum Stop {
     Short,
     Refused(Fault),
 }
@@ -21,26 +23,17 @@ pub(crate) fn field_at(
     w: usize,
     low: u64,
     high: u64,
-    refusal: u32,
-) -> FieldRead
-    requires { (at ≤ length b.now) × (w ≤ 8) × (0 < refusal) }
-    ensures { result ≡ field_at w low high refusal at b.now }
+    refusal: Refusal,
+) -> Result<u64, Stop>
+    requires { (at ≤ length b.now) × (w ≤ 8) × (0 < number_of refusal) }
+    ensures { told result ≡ field_at w low high (number_of refusal) at b.now }
 {
     if b.len() - at < w {
-        return FieldRead::Short;
+        return Err(Stop::Short);
     }
     let x = number_at(b, at, w);
-    if x < low {
-        return FieldRead::Refused(Fault {
-            number: refusal,
-            place: at,
-        });
+    if x < low || high < x {
+        return Err(Stop::Refused(Fault { refusal, place: at }));
     }
-    if high < x {
-        return FieldRead::Refused(Fault {
-            number: refusal,
-            place: at,
-        });
-    }
-    FieldRead::Value(x)
+    Ok(x)
 }

@@ -6,14 +6,16 @@
 ghost use Rattle.std.specs.Prelude.{◌≡◌};
 ghost use Rattle.std.proofs.Math.Option.{none};
 ghost use Rattle.journal_spec.specs.Profile.{plain};
-ghost use Rattle.journal_spec.specs.Scan.{scan_of};
+ghost use Rattle.journal_spec.specs.Scan.{contents_of, scan_of};
 ghost use Rattle.journal_spec.specs.Read.{part_place, read_part, read_mark};
 ghost use Rattle.journal_spec.specs.Request.{all, up_to, request_of};
 ghost use Rattle.journal_spec.specs.Request as Request;
 ghost use Rattle.journal_spec.specs.Append.{append_of};
-ghost use Rattle.journal.specs.Answers.{meaning, part_meaning, mark_meaning, outcome_of};
+ghost use Rattle.journal.specs.Answers.{meaning, place_meaning, mark_meaning, outcome_of};
+ghost use Rattle.journal.specs.Contents.{place_read};
 
 use crate::marks::Mark;
+use refusals::Refusal;
 
 mod contents;
 mod extend;
@@ -31,49 +33,41 @@ mod section;
 mod write;
 
 pub use contents::{Contents, MAX_LENGTH, Shown, contents_of};
-pub use extend::{Asked, Budget, FIXED_SIZE, ROOM_REFUSAL, append_with, extend_by};
+pub use extend::{Asked, Budget, FIXED_SIZE, append_with, extend_by};
 pub use layout::MAX_RECORD;
 pub use log::{append_log, append_log_upto, append_log_with};
 pub use profile::Rule;
-pub use reading::{ABSENT_REFUSAL, mark_by, part_place_by, read_by, scan_by, status_of};
-pub use record::{Head, MAX_CHANCES, MAX_DAY, OLD_FORM_REFUSAL};
+pub use reading::{mark_by, part_place_by, read_by, scan_by, status_of};
+pub use record::{Head, MAX_CHANCES, MAX_DAY};
 
-// A refusal's number, and the place of what is refused: a field's first byte in the journal, or a line's in the log.
-#[derive(Clone, Copy)]
+// A refusal, and the place of what is refused: a field's first byte in the journal, or a line's in the log.
+#[derive(Clone, Copy, Debug, PartialEq, Eq)]
 pub struct Fault {
-    pub number: u32,
+    pub refusal: Refusal,
     pub place: usize,
 }
 
 // Whole if the records take all of the length, torn if bytes of a record that is not whole follow them; with the number of the records
-// and the committed length. Or damaged, with the first fault.
-#[derive(Clone, Copy)]
+// and the committed length. Or damaged, with the first fault. These are document 01's three cases, and no case is an error to its callers.
+#[derive(Clone, Copy, Debug, PartialEq, Eq)]
 pub enum Status {
     Whole { records: usize, committed: usize },
     Torn { records: usize, committed: usize },
     Damaged(Fault),
 }
 
-// A record's part of the slice: the place of its first byte and its bytes' number, both 0 where reading is refused.
-#[derive(Clone, Copy)]
+// A record's part of the slice: the place of its first byte and its bytes' number.
+#[derive(Clone, Copy, Debug, PartialEq, Eq)]
 pub struct Part {
     pub start: usize,
     pub size: usize,
 }
 
-// A record's mark, or the refusal's number.
-#[derive(Clone, Copy)]
-pub enum Marked {
-    As(Mark),
-    Refused(u32),
-}
-
-// The journal's length after an append; or declined, with the refusal's number; or declined for a line of the log, with the refusal's number
-// and the place in the log of that line's first byte; or damaged, with the journal's first fault.
-#[derive(Clone, Copy)]
-pub enum Appended {
-    Extended(usize),
-    Declined(u32),
+// Why an append leaves the journal as it was: declined; or declined for a line of the log, with the place in the log of that line's first byte;
+// or damaged, with the journal's first fault.
+#[derive(Clone, Copy, Debug, PartialEq, Eq)]
+pub enum AppendError {
+    Declined(Refusal),
     DeclinedAt(Fault),
     Damaged(Fault),
 }
@@ -92,15 +86,16 @@ pub fn read<'a>(v: &'a [u8], len: usize, i: usize) -> &'a [u8]
     read_by(v, len, i, Rule::Plain)
 }
 
-// Where that part stands.
-pub fn part_place(v: &[u8], len: usize, i: usize) -> Part
-    ensures { part_meaning result ≡ part_place plain v.now len i }
+// Where that part stands; nowhere where refused.
+pub fn part_place(v: &[u8], len: usize, i: usize) -> Option<Part>
+    ensures place { result ≡ place_read i (contents_of plain v.now len) }
+    ensures value { place_meaning result ≡ part_place plain v.now len i }
 {
     part_place_by(v, len, i, Rule::Plain)
 }
 
-// Reading's second call: the mark of record i, or the refusal's number.
-pub fn mark(v: &[u8], len: usize, i: usize) -> Marked
+// Reading's second call: the mark of record i, or the refusal.
+pub fn mark(v: &[u8], len: usize, i: usize) -> Result<Mark, Refusal>
     ensures { mark_meaning result ≡ read_mark plain v.now len i }
 {
     mark_by(v, len, i, Rule::Plain)
@@ -115,7 +110,7 @@ pub fn append(
     name: &[u8],
     chances: &[u32],
     times: &[u32],
-) -> Appended
+) -> Result<usize, AppendError>
     ensures { outcome_of len result v.new
         ≡ append_of (record { slice = v.old; len = len })
         (request_of day name.now chances.now (Request.times times.now) all plain none) }
@@ -138,7 +133,7 @@ pub fn append_upto(
     chances: &[u32],
     times: &[u32],
     budget: usize,
-) -> Appended
+) -> Result<usize, AppendError>
     ensures { outcome_of len result v.new
         ≡ append_of (record { slice = v.old; len = len })
         (request_of day name.now chances.now (Request.times times.now) (up_to budget) plain none) }

@@ -2,79 +2,52 @@
 // bits that stand have to be its own. Of the record before the quantiles are known.
 ghost use Rattle.std.specs.Prelude.{◌≡◌, ◌+◌, ◌*◌, ◌≤◌, length};
 ghost use Rattle.limit.specs.Answer.{moments_meaning};
-ghost use Rattle.journal.specs.Remembered.{Remembered};
+ghost use Rattle.journal.specs.Told.{told};
 ghost use Rattle.journal.specs.Found.{field_by, limit_refusal_at, limits_at, limit_section_at};
 
-use crate::Fault;
-use crate::field::{FieldRead, field_at};
-use crate::quantiles::quantile_at;
+use crate::field::{Stop, field_at};
+use crate::quantiles::{Known, quantile_at};
 use crate::record::MAX_CHANCES;
 use journal_parts::number_at;
-use limit::{Answer, Worked};
+use limit::Moments;
+use refusals::Refusal;
 
-// Document 01's number for a count of limits or the bits of a limit that are not the record's own.
-pub(crate) const LIMIT_REFUSAL: u32 = 7;
-
-// The place after the limits; that the bytes run out in them; or their refusal.
-#[derive(Clone, Copy)]
-pub(crate) enum LimitsRead {
-    Next(usize),
-    Short,
-    Refused(Fault),
-}
-
-// The limits' section at a place, for n chances that stand from another place on, mean and spread.
+// The limits' section at a place, for n chances that stand from another place on, mean and spread. Answers the place after it.
 pub(crate) fn limit_section_at(
     b: &[u8],
     at: usize,
     n: u64,
     chances: usize,
-    worked: Worked,
-    kept: &mut [u32; MAX_CHANCES],
-    quantiles: &mut [f64; MAX_CHANCES],
-) -> LimitsRead
-    requires { (at ≤ length b.now) × (chances + n * 4 ≤ length b.now) × Remembered kept.old quantiles.old }
-    ensures value { result ≡ limit_section_at n chances (moments_meaning worked) at b.now }
-    ensures remembered { Remembered kept.new quantiles.new }
+    worked: Result<Moments, Refusal>,
+    kept: &mut [Known; MAX_CHANCES],
+) -> Result<usize, Stop>
+    requires { (at ≤ length b.now) × (chances + n * 4 ≤ length b.now) }
+    ensures { told result ≡ limit_section_at n chances (moments_meaning worked) at b.now }
 {
-    let count = field_at(b, at, 2, n, n, LIMIT_REFUSAL);
-    match count {
-        FieldRead::Value(_) => limits_at(b, at + 2, n, chances, worked, kept, quantiles),
-        FieldRead::Short => LimitsRead::Short,
-        FieldRead::Refused(f) => LimitsRead::Refused(f),
-    }
+    let _count = field_at(b, at, 2, n, n, Refusal::Limit)?;
+    limits_at(b, at + 2, n, chances, worked, kept)
 }
 
-// The n limits at a place.
+// The n limits at a place. Answers the place after them.
 fn limits_at(
     b: &[u8],
     at: usize,
     n: u64,
     chances: usize,
-    worked: Worked,
-    kept: &mut [u32; MAX_CHANCES],
-    quantiles: &mut [f64; MAX_CHANCES],
-) -> LimitsRead
-    requires { (at ≤ length b.now) × (chances + n * 4 ≤ length b.now) × Remembered kept.old quantiles.old }
-    ensures value { result ≡ limits_at n chances (moments_meaning worked) at b.now }
-    ensures remembered { Remembered kept.new quantiles.new }
+    worked: Result<Moments, Refusal>,
+    kept: &mut [Known; MAX_CHANCES],
+) -> Result<usize, Stop>
+    requires { (at ≤ length b.now) × (chances + n * 4 ≤ length b.now) }
+    ensures { told result ≡ limits_at n chances (moments_meaning worked) at b.now }
 {
-    let mut p = at;
+    let mut next = at;
     let mut chance = chances;
-    let mut left = n;
-    while 0 < left {
-        let x = limit_at(b, p, chance, worked, left, kept, quantiles);
-        match x {
-            FieldRead::Value(_) => {
-                p += 8;
-                chance += 4;
-                left -= 1;
-            }
-            FieldRead::Short => return LimitsRead::Short,
-            FieldRead::Refused(f) => return LimitsRead::Refused(f),
-        }
+    for i in 0..n {
+        let _bits = limit_at(b, next, chance, worked, n - i, kept)?;
+        next += 8;
+        chance += 4;
     }
-    LimitsRead::Next(p)
+    Ok(next)
 }
 
 // The limit at a place, one of so many that are left, against the one worked out for the chance that stands at another place. Where that one
@@ -83,23 +56,20 @@ fn limit_at(
     b: &[u8],
     at: usize,
     chance: usize,
-    worked: Worked,
+    worked: Result<Moments, Refusal>,
     left: u64,
-    kept: &mut [u32; MAX_CHANCES],
-    quantiles: &mut [f64; MAX_CHANCES],
-) -> FieldRead
-    requires { (at ≤ length b.now) × (chance + 4 ≤ length b.now) × Remembered kept.old quantiles.old }
-    ensures value { result ≡ field_by 8 (limit_refusal_at b.now (moments_meaning worked) chance) at b.now }
-    ensures remembered { Remembered kept.new quantiles.new }
+    kept: &mut [Known; MAX_CHANCES],
+) -> Result<u64, Stop>
+    requires { (at ≤ length b.now) × (chance + 4 ≤ length b.now) }
+    ensures { told result ≡ field_by 8 (limit_refusal_at b.now (moments_meaning worked) chance) at b.now }
 {
     let c = number_at(b, chance, 4);
-    let quantile = quantile_at(left, c as u32, kept, quantiles);
-    let answer = limit::limit_of_quantile(worked, c as u32, quantile);
-    match answer {
-        Answer::Limit(f) => {
+    let quantile = quantile_at(left, c as u32, kept);
+    match limit::limit_of_quantile(worked, c as u32, quantile) {
+        Ok(f) => {
             let bits = double_bits::bits_of(f.limit);
-            field_at(b, at, 8, bits, bits, LIMIT_REFUSAL)
+            field_at(b, at, 8, bits, bits, Refusal::Limit)
         }
-        Answer::Refused(_) => field_at(b, at, 8, 1, 0, LIMIT_REFUSAL),
+        Err(_) => field_at(b, at, 8, 1, 0, Refusal::Limit),
     }
 }

@@ -11,7 +11,7 @@ ghost use Rattle.journal.specs.Answers.{outcome_of};
 
 use crate::extend::{Asked, Budget, append_with};
 use crate::profile::Rule;
-use crate::{Appended, Fault};
+use crate::{AppendError, Fault};
 
 // Request 2026-01: append with the times of the name in a build server's log, in file order. A line of the log that is refused is judged
 // before the journal; else it ends as `append` of those times does.
@@ -22,7 +22,7 @@ pub fn append_log(
     name: &[u8],
     chances: &[u32],
     log: &[u8],
-) -> Appended
+) -> Result<usize, AppendError>
     ensures { outcome_of len result v.new
         ≡ append_of (record { slice = v.old; len = len })
         (request_of day name.now chances.now (Request.log log.now) all plain none) }
@@ -44,7 +44,7 @@ pub fn append_log_upto(
     chances: &[u32],
     log: &[u8],
     budget: usize,
-) -> Appended
+) -> Result<usize, AppendError>
     ensures { outcome_of len result v.new
         ≡ append_of (record { slice = v.old; len = len })
         (request_of day name.now chances.now (Request.log log.now) (up_to budget) plain none) }
@@ -65,18 +65,16 @@ pub fn append_log_with(
     chances: &[u32],
     log: &[u8],
     asked: Asked,
-) -> Appended
+) -> Result<usize, AppendError>
     ensures { outcome_of len result v.new ≡ append_of (record { slice = v.old; len = len })
         (request_by asked name.now chances.now (Request.log log.now) none) }
 {
     let g = journal_log::gather(name, log);
-    let cursor = g.cursor;
-    let times = g.times;
-    let number = cursor.refusal;
-    let place = cursor.start;
-    let count = cursor.count;
-    if 0 < number {
-        return Appended::DeclinedAt(Fault { number, place });
+    match g.times() {
+        Ok(times) => append_with(v, len, name, chances, times, asked),
+        Err(misread) => Err(AppendError::DeclinedAt(Fault {
+            refusal: misread.refusal,
+            place: misread.place,
+        })),
     }
-    append_with(v, len, name, chances, &times[..count], asked)
 }

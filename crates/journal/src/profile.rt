@@ -17,9 +17,6 @@ pub enum Rule {
     Profile,
 }
 
-// Document 02's number for a record that breaks the profile.
-pub(crate) const PROFILE_REFUSAL: u32 = 19;
-
 // The least number of times.
 const PROFILE_TIMES: u64 = 32;
 
@@ -42,13 +39,7 @@ pub(crate) fn record_in_profile(b: &[u8], form: u64, chances: usize, n: u64, tim
     ensures { (list : List ℕ) → Stands b.now chances n list
         → result ≡ eqb form sample_form && same list profile_chances && leb profile_times times }
 {
-    if form != SAMPLE_FORM {
-        return false;
-    }
-    if n != PROFILE_CHANCES as u64 {
-        return false;
-    }
-    if times < PROFILE_TIMES {
+    if form != SAMPLE_FORM || n != PROFILE_CHANCES as u64 || times < PROFILE_TIMES {
         return false;
     }
     let first = number_at(b, chances, 4);
@@ -80,13 +71,7 @@ pub(crate) fn offer_in_profile(chances: &[u32], times: u64) -> bool
 fn are_profile(first: u64, second: u64, third: u64, fourth: u64) -> bool
     ensures { result ≡ same (first ∷ second ∷ third ∷ fourth ∷ []) profile_chances }
 {
-    if first != 1 {
-        return false;
-    }
-    if second != 10 {
-        return false;
-    }
-    if third != 100 {
+    if first != 1 || second != 10 || third != 100 {
         return false;
     }
     fourth == 1000

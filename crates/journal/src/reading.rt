@@ -1,19 +1,18 @@
 // Scan and reading's two calls by a rule: the plain ones and request 2026-14's profile calls are these with their rule.
 // One pass over the journal serves each.
 ghost use Rattle.std.specs.Prelude.{◌≡◌};
-ghost use Rattle.journal_spec.specs.Scan.{scan_of};
+ghost use Rattle.journal_spec.specs.Scan.{contents_of, scan_of};
 ghost use Rattle.journal_spec.specs.Read.{part_place, read_part, read_mark};
-ghost use Rattle.journal.specs.Contents.{status_read};
+ghost use Rattle.journal.specs.Told.{by_number};
+ghost use Rattle.journal.specs.Contents.{status_read, place_read};
 ghost use Rattle.journal.specs.Handed.{as_rule};
-ghost use Rattle.journal.specs.Answers.{meaning, part_meaning, mark_meaning};
+ghost use Rattle.journal.specs.Answers.{meaning, place_meaning, mark_meaning};
 
 use crate::contents::{Contents, contents_of};
-use crate::marks::mark_from;
+use crate::marks::{Mark, mark_from};
 use crate::profile::Rule;
-use crate::{Marked, Part, Status};
-
-// Document 01's number for an i that is not below the number of records.
-pub const ABSENT_REFUSAL: u32 = 10;
+use crate::{Fault, Part, Status};
+use refusals::Refusal;
 
 // Document 01's survey by a rule.
 pub fn scan_by(v: &[u8], len: usize, rule: Rule) -> Status
@@ -24,23 +23,24 @@ pub fn scan_by(v: &[u8], len: usize, rule: Rule) -> Status
 }
 
 // What scan answers of a journal of a length, by what stands in it.
-pub fn status_of(x: Contents, len: usize) -> Status
-    ensures { meaning result ≡ status_read len x }
+pub fn status_of(x: Result<Contents, Fault>, len: usize) -> Status
+    ensures { meaning result ≡ status_read len (by_number x) }
 {
     match x {
-        Contents::Stands {
-            records,
-            committed,
-            last: _,
-            shown: _,
-        } => {
+        Ok(
+            Contents {
+                records,
+                committed,
+                ..
+            },
+        ) => {
             if committed == len {
                 Status::Whole { records, committed }
             } else {
                 Status::Torn { records, committed }
             }
         }
-        Contents::Damaged(f) => Status::Damaged(f),
+        Err(fault) => Status::Damaged(fault),
     }
 }
 
@@ -48,48 +48,36 @@ pub fn status_of(x: Contents, len: usize) -> Status
 pub fn read_by<'a>(v: &'a [u8], len: usize, i: usize, rule: Rule) -> &'a [u8]
     ensures { result.now ≡ read_part (as_rule rule) v.now len i }
 {
-    let p = part_place_by(v, len, i, rule);
-    let start = p.start;
-    let end = start + p.size;
-    &v[start..end]
-}
-
-// Where that part stands.
-pub fn part_place_by(v: &[u8], len: usize, i: usize, rule: Rule) -> Part
-    ensures { part_meaning result ≡ part_place (as_rule rule) v.now len i }
-{
-    let x = contents_of(v, len, i, rule);
-    match x {
-        Contents::Stands {
-            records: _,
-            committed: _,
-            last: _,
-            shown,
-        } => Part {
-            start: shown.start,
-            size: shown.size,
-        },
-        Contents::Damaged(_) => Part { start: 0, size: 0 },
+    match part_place_by(v, len, i, rule) {
+        Some(p) => &v[p.start..p.start + p.size],
+        None => &v[..0],
     }
 }
 
-// The mark of record i, or the refusal's number.
-pub fn mark_by(v: &[u8], len: usize, i: usize, rule: Rule) -> Marked
+// Where that part stands; nowhere where refused.
+pub fn part_place_by(v: &[u8], len: usize, i: usize, rule: Rule) -> Option<Part>
+    ensures place { result ≡ place_read i (contents_of (as_rule rule) v.now len) }
+    ensures value { place_meaning result ≡ part_place (as_rule rule) v.now len i }
+{
+    let Ok(contents) = contents_of(v, len, i, rule) else {
+        return None;
+    };
+    let shown = contents.shown?;
+    Some(Part {
+        start: shown.start,
+        size: shown.size,
+    })
+}
+
+// The mark of record i, or the refusal.
+pub fn mark_by(v: &[u8], len: usize, i: usize, rule: Rule) -> Result<Mark, Refusal>
     ensures { mark_meaning result ≡ read_mark (as_rule rule) v.now len i }
 {
-    let x = contents_of(v, len, i, rule);
-    match x {
-        Contents::Stands {
-            records,
-            committed: _,
-            last: _,
-            shown,
-        } => {
-            if records <= i {
-                return Marked::Refused(ABSENT_REFUSAL);
-            }
-            Marked::As(mark_from(shown.flat, shown.times))
-        }
-        Contents::Damaged(f) => Marked::Refused(f.number),
+    match contents_of(v, len, i, rule) {
+        Ok(contents) => match contents.shown {
+            Some(shown) => Ok(mark_from(shown.flat, shown.times)),
+            None => Err(Refusal::Absent),
+        },
+        Err(fault) => Err(fault.refusal),
     }
 }

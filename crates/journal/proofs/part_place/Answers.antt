@@ -5,4 +5,4 @@ use Rattle.journal.proofs.part_place.Goals as goal
 
 pub returns : goal.returns
 unfolding as_rule
-returns c = c.part_place_by.ensures
+returns c = record { place = c.part_place_by.ensures.place; value = c.part_place_by.ensures.value }

@@ -1,6 +1,7 @@
 -- `contents_of` refuses a length beyond the slice or the longest journal, and hands the bytes up to it on.
 -- Assumes nothing.
 use mathlib.Core.Path.{◌∙◌}
+use mathlib.Core.Logic.{inl, inr}
 use native.Mathlib.Omega.{arith}
 use lib.ListN.{length-take}
 use Rattle.journal.specs.Handed.{as_rule}
@@ -10,12 +11,7 @@ use Rattle.journal.proofs.contents.contents_of.Goals as goal
 pub returns-then-v-len : goal.returns-then-v-len
 returns-then-v-len c =
     let a = c.args in
-    contents_beyond (as_rule a.rule) a.v.now a.len a.i (omega arith)
-
-pub returns-then-len-gt-MAX_LENGTH : goal.returns-then-len-gt-MAX_LENGTH
-returns-then-len-gt-MAX_LENGTH c =
-    let a = c.args in
-    contents_beyond (as_rule a.rule) a.v.now a.len a.i (omega arith)
+    contents_beyond (as_rule a.rule) a.v.now a.len a.i (elim c.then-v-len.either [ inl l ↦ omega arith | inr l ↦ omega (arith, l) ])
 
 pub returns : goal.returns
 returns c =

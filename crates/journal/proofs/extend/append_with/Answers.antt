@@ -5,14 +5,14 @@ use Rattle.journal_spec.specs.Request.{gather_by, times_of}
 use Rattle.journal.proofs.Answering.{append_stands, append_damaged}
 use Rattle.journal.proofs.extend.append_with.Goals as goal
 
-pub returns-in-Stands : goal.returns-in-Stands
+pub returns-in-Ok : goal.returns-in-Ok
 unfolding times_of gather_by
-returns-in-Stands c =
-    let read = c.contents_of-x in
-    append_stands _ _ _ 0 read.result read.ensures _ _ _ _ c.in-Stands.is _ _ refl refl _ (c.extend_by.ensures _)
+returns-in-Ok c =
+    let read = c.contents_of in
+    append_stands _ _ _ 0 read.result read.ensures _ c.in-Ok.is _ _ refl refl _ (c.extend_by.ensures _)
 
-pub returns-in-Damaged : goal.returns-in-Damaged
+pub returns-in-Err : goal.returns-in-Err
 unfolding times_of gather_by
-returns-in-Damaged c =
-    let read = c.contents_of-x in
-    append_damaged _ _ _ 0 read.result read.ensures _ c.in-Damaged.is _ _ refl refl refl
+returns-in-Err c =
+    let read = c.contents_of in
+    append_damaged _ _ _ 0 read.result read.ensures _ c.in-Err.is _ _ refl refl refl

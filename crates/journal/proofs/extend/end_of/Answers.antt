@@ -11,4 +11,4 @@ returns-in-All c = rw c.in-All.is (omega arith)
 
 pub returns-in-UpTo : goal.returns-in-UpTo
 unfolding allowed as_budget
-returns-in-UpTo c = rw c.in-UpTo.is c.least.ensures
+returns-in-UpTo c = rw c.in-UpTo.is c.min.ensures

@@ -1,7 +1,6 @@
 -- `lay_bits` lays the limits' count and their bits, a number a turn. The measure is how many are left.
 -- Assumes nothing.
 use mathlib.Core.Path.{refl}
-use Prim.Native.Nat.{◌-◌}
 use native.Mathlib.Omega.{arith}
 use Rattle.journal.proofs.Laying.{laid_none, laid_next, laid_all}
 use Rattle.journal.proofs.layout.lay_bits.Goals as goal

@@ -1,54 +1,55 @@
 -- `limits_at` passes one limit a turn, and the place of its chance with it.
--- The measure is how many limits are left. Assumes nothing.
+-- Assumes nothing.
+use mathlib.Core.Path.{◌≡◌, refl}
+use Prim.Native.Nat.{◌+◌, ◌-◌}
 use native.Mathlib.Omega.{arith}
 use Rattle.limit.specs.Answer.{moments_meaning}
-use Rattle.journal.proofs.LimitsLoop.{limiting_start, limiting_end, limiting_short, limiting_refused, limiting_more}
-use Rattle.journal.proofs.LimitsLoop.{chance_there}
+use Rattle.std.proofs.lemmas.Result.{err_from_is_err_and}
+use Rattle.journal.proofs.LimitsLoop.{limiting_start, limiting_end, limiting_halted, limiting_more, limit_there, chance_there}
 use Rattle.journal.proofs.limits.limits_at.Goals as goal
 
-pub loop-left-init : goal.loop-left-init
-loop-left-init c =
+pub loop-i-init : goal.loop-i-init
+loop-i-init c =
     let a = c.args in
-    (limiting_start a.b.now a.at a.n a.chances (moments_meaning a.worked) c.requires.0, c.requires.2)
+    let all : a.n - 0 ≡ a.n = omega arith in
+    rw all (limiting_start a.b.now a.at a.n a.chances (moments_meaning a.worked) c.requires.0)
 
-pub limit_at-x-requires : goal.limit_at-x-requires
-limit_at-x-requires c =
+pub limit_at-requires : goal.limit_at-requires
+limit_at-requires c =
     let a = c.args in
-    let l = c.loop-left in (
-      l.invariant.0.passed.inside,
-      chance_there a.b.now a.at a.n a.chances (moments_meaning a.worked) l.p l.chance l.left l.invariant.0 c.requires.1
-          (omega arith),
-      l.invariant.1,
+    let l = c.loop-i in (
+      l.invariant.passed.inside,
+      chance_there a.b.now a.at a.n a.chances (moments_meaning a.worked) l.next l.chance (a.n - l.i) l.invariant c.requires.1 (omega arith),
     )
 
-pub loop-left-preserved : goal.loop-left-preserved
-loop-left-preserved c =
-    let l = c.loop-left in
-    let a = c.args in (
-      limiting_more a.b.now a.at a.n a.chances (moments_meaning a.worked) l.p l.chance l.left l.invariant.0
-          c.limit_at-x.result (omega arith) c.limit_at-x.ensures.value c.in-Value.field-0 c.in-Value.is,
-      c.limit_at-x.ensures.remembered,
+pub overflow_add-next : goal.overflow_add-next
+overflow_add-next c =
+    let a = c.args in
+    let l = c.loop-i in
+    omega (
+      arith,
+      limit_there a.b.now a.at a.n a.chances (moments_meaning a.worked) l.next l.chance (a.n - l.i) l.invariant
+          (a.n - (l.i + 1)) (omega arith) _ c.in_ok-_bits.ensures _ refl,
     )
 
-pub returns-in-Short : goal.returns-in-Short
-returns-in-Short c =
-    let l = c.loop-left in
-    let a = c.args in record {
-      value = limiting_short a.b.now a.at a.n a.chances (moments_meaning a.worked) l.p l.chance l.left l.invariant.0
-          c.limit_at-x.result (omega arith) c.limit_at-x.ensures.value c.in-Short.is;
-      remembered = c.limit_at-x.ensures.remembered;
-    }
+pub loop-i-preserved : goal.loop-i-preserved
+loop-i-preserved c =
+    let l = c.loop-i in
+    let a = c.args in
+    limiting_more a.b.now a.at a.n a.chances (moments_meaning a.worked) l.next l.chance (a.n - l.i) l.invariant
+    (a.n - (l.i + 1)) (omega arith) _ c.in_ok-_bits.ensures _ refl
 
-pub returns-in-Refused : goal.returns-in-Refused
-returns-in-Refused c =
-    let l = c.loop-left in
-    let a = c.args in record {
-      value = limiting_refused a.b.now a.at a.n a.chances (moments_meaning a.worked) l.p l.chance l.left l.invariant.0
-          c.limit_at-x.result (omega arith) c.limit_at-x.ensures.value c.in-Refused.f c.in-Refused.is;
-      remembered = c.limit_at-x.ensures.remembered;
-    }
+pub returns-in_err-_bits : goal.returns-in_err-_bits
+returns-in_err-_bits c =
+    let l = c.loop-i in
+    let a = c.args in
+    let p = err_from_is_err_and c.from_residual.result c.from_residual.ensures.1 in
+    rw (p.1, p.2)
+    (limiting_halted a.b.now a.at a.n a.chances (moments_meaning a.worked) l.next l.chance (a.n - l.i) l.invariant
+    (a.n - (l.i + 1)) (omega arith) _ c.in_err-_bits.ensures _ refl)
 
 pub returns : goal.returns
 returns c =
-    let l = c.loop-left in
-    let a = c.args in record { value = limiting_end a.b.now a.at a.n a.chances (moments_meaning a.worked) l.p l.chance l.left l.invariant.0 (omega arith); remembered = l.invariant.1 }
+    let l = c.loop-i in
+    let a = c.args in
+    limiting_end a.b.now a.at a.n a.chances (moments_meaning a.worked) l.next l.chance (a.n - l.i) l.invariant (omega arith)

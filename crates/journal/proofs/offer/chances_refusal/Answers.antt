@@ -1,48 +1,40 @@
 -- `chances_refusal` judges the count, then one chance a turn, whose least value is above the chance before it.
--- The measure is how many chances are left. Assumes nothing.
-use mathlib.Core.Path.{sym, ◌∙◌}
-use Prim.Native.Nat.{◌-◌}
+-- Assumes nothing.
 use native.Mathlib.Omega.{arith}
+use Rattle.std.proofs.lemmas.Result.{err_from_is_err_and}
 use Rattle.journal_spec.specs.Record.{chance_section}
-use Rattle.journal.proofs.Checking.{count_refused, number_refused, all_passed, chances_start, chance_judged, chances_more}
+use Rattle.journal.proofs.Checking.{count_judged, number_judged, all_passed, chances_start, chance_judged, chances_more}
 use Rattle.journal.proofs.offer.chances_refusal.Goals as goal
 
-pub returns-then-count-gt0 : goal.returns-then-count-gt0
+pub returns-in_err-range_refusal : goal.returns-in_err-range_refusal
 unfolding chance_section
-returns-then-count-gt0 c =
-    let count = c.range_refusal-count in
-    count_refused chance_section c.args.chances.now count.result (omega arith) count.ensures
+returns-in_err-range_refusal c =
+    let p = err_from_is_err_and c.from_residual.result c.from_residual.ensures.1 in
+    rw (p.1, p.2) (count_judged chance_section c.args.chances.now c.in_err-range_refusal.field-0.0 c.in_err-range_refusal.ensures)
 
-pub loop-i-init : goal.loop-i-init
+pub loop-chance-init : goal.loop-chance-init
 unfolding chance_section
-loop-i-init c =
-    let count = c.range_refusal-count in
-    chances_start c.args.chances.now (sym count.ensures ∙ omega arith)
+loop-chance-init c = chances_start c.args.chances.now c.in_ok-range_refusal.ensures
 
-pub returns-then-x-gt0 : goal.returns-then-x-gt0
-returns-then-x-gt0 c =
-    let l = c.loop-i in
+pub returns-in_err-range_refusal-2 : goal.returns-in_err-range_refusal-2
+returns-in_err-range_refusal-2 c =
+    let l = c.loop-chance in
     let chances = c.args.chances.now in
-    let chance = c.range_refusal-x in
-    number_refused chance_section chances l.i l.invariant.passed chance.result (omega arith) (omega arith)
-    (chance.ensures ∙ chance_judged chances l.low l.i l.invariant)
+    let again = c.from_residual-in_err-range_refusal-2 in
+    let p = err_from_is_err_and again.result again.ensures.1 in
+    rw (p.1, p.2)
+    (number_judged chance_section chances l.chance-index l.invariant.passed c.in_err-range_refusal-2.field-0.0 (omega arith)
+    (rw (← chance_judged chances l.low l.chance-index l.invariant) c.in_err-range_refusal-2.ensures))
 
-pub loop-i-preserved : goal.loop-i-preserved
-loop-i-preserved c =
-    let l = c.loop-i in
-    let chances = c.args.chances.now in
-    chances_more chances l.low l.i l.invariant (omega arith) (sym c.range_refusal-x.ensures ∙ omega arith)
+pub loop-chance-preserved : goal.loop-chance-preserved
+loop-chance-preserved c =
+    let l = c.loop-chance in
+    chances_more c.args.chances.now l.low l.chance-index l.invariant (omega arith) c.in_ok-range_refusal-2.ensures
+
+pub overflow_add-low : goal.overflow_add-low
+overflow_add-low c = omega (arith, c.type_inv.chances c.loop-chance.chance-index)
 
 pub returns : goal.returns
 returns c =
-    let l = c.loop-i in
-    all_passed chance_section c.args.chances.now l.i l.invariant.passed (omega arith)
-
-pub overflow_add-low : goal.overflow_add-low
-overflow_add-low c = omega (arith, c.type_inv.chances c.loop-i.i)
-
-pub overflow_add-i : goal.overflow_add-i
-overflow_add-i c = omega arith
-
-pub loop-i-smaller : goal.loop-i-smaller
-loop-i-smaller c = omega arith
+    let l = c.loop-chance in
+    all_passed chance_section c.args.chances.now l.chance-index l.invariant.passed (omega arith)

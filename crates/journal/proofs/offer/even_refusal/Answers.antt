@@ -16,20 +16,20 @@ beyond : (xs : List ℕ) → even_chance < get_or xs (length xs - 1) 0 → even_
 unfolding judge_even unless
 beyond xs h = rw (last_at xs, lt-leb (get_or xs (length xs - 1) 0) even_chance h) refl
 
-within : (xs : List ℕ) → get_or xs (length xs - 1) 0 ≤ even_chance → 0 ≡ judge_even xs
+within : (xs : List ℕ) → get_or xs (length xs - 1) 0 ≤ even_chance → judge_even xs ≡ 0
 unfolding judge_even unless
 within xs h = rw (last_at xs, le-leb (get_or xs (length xs - 1) 0) even_chance h) refl
 
-none : (xs : List ℕ) → length xs ≡ 0 → 0 ≡ judge_even xs
+none : (xs : List ℕ) → length xs < 1 → judge_even xs ≡ 0
 unfolding judge_even unless last_chance
 none [] h = refl
 none (x ∷ xs) h = absurd (omega arith)
 
-pub returns-then-n-eq0 : goal.returns-then-n-eq0
-returns-then-n-eq0 c = none _ c.if-n-eq0.true
+pub returns-in-len1-up : goal.returns-in-len1-up
+returns-in-len1-up c = let e = beyond _ c.if-last-gt-EVEN_CHANCE.true in (e, omega (arith, e))
 
-pub returns-then-chances-n-gt-EVEN_CHANCE : goal.returns-then-chances-n-gt-EVEN_CHANCE
-returns-then-chances-n-gt-EVEN_CHANCE c = beyond _ c.if-chances-n-gt-EVEN_CHANCE.true
+pub returns-in_default : goal.returns-in_default
+returns-in_default c = none _ c.in_default.len_below
 
-pub returns : goal.returns
-returns c = within _ c.if-chances-n-gt-EVEN_CHANCE.false
+pub returns-in_default-2 : goal.returns-in_default-2
+returns-in_default-2 c = within _ c.if-last-gt-EVEN_CHANCE.false

@@ -1,47 +1,37 @@
--- `name_refusal` judges the count, then one byte a turn. The measure is how many bytes are left.
+-- `name_refusal` judges the count, then one byte a turn.
 -- Assumes nothing.
-use mathlib.Core.Path.{sym, ◌∙◌}
-use Prim.Native.Nat.{◌-◌}
 use native.Mathlib.Omega.{arith}
+use Rattle.std.proofs.lemmas.Result.{err_from_is_err_and}
 use Rattle.journal_spec.specs.Record.{name_section}
-use Rattle.journal.proofs.Checking.{count_refused, count_passed, number_refused, number_passed, all_passed}
+use Rattle.journal.proofs.Checking.{count_judged, count_passed, number_judged, number_passed, all_passed}
 use Rattle.journal.proofs.offer.name_refusal.Goals as goal
 
-pub returns-then-count-gt0 : goal.returns-then-count-gt0
+pub returns-in_err-range_refusal : goal.returns-in_err-range_refusal
 unfolding name_section
-returns-then-count-gt0 c =
-    let count = c.range_refusal-count in
-    count_refused name_section c.args.name.now count.result (omega arith) count.ensures
+returns-in_err-range_refusal c =
+    let p = err_from_is_err_and c.from_residual.result c.from_residual.ensures.1 in
+    rw (p.1, p.2) (count_judged name_section c.args.name.now c.in_err-range_refusal.field-0.0 c.in_err-range_refusal.ensures)
 
-pub loop-i-init : goal.loop-i-init
+pub loop-b-init : goal.loop-b-init
 unfolding name_section
-loop-i-init c =
-    let count = c.range_refusal-count in
-    count_passed name_section c.args.name.now (sym count.ensures ∙ omega arith)
+loop-b-init c = count_passed name_section c.args.name.now c.in_ok-range_refusal.ensures
 
-pub returns-then-x-gt0 : goal.returns-then-x-gt0
+pub returns-in_err-range_refusal-2 : goal.returns-in_err-range_refusal-2
 unfolding name_section
-returns-then-x-gt0 c =
-    let l = c.loop-i in
-    let name = c.args.name.now in
-    let byte = c.range_refusal-x in
-    number_refused name_section name l.i l.invariant byte.result (omega arith) (omega arith) byte.ensures
+returns-in_err-range_refusal-2 c =
+    let l = c.loop-b in
+    let again = c.from_residual-in_err-range_refusal-2 in
+    let p = err_from_is_err_and again.result again.ensures.1 in
+    rw (p.1, p.2)
+    (number_judged name_section c.args.name.now l.b-index l.invariant c.in_err-range_refusal-2.field-0.0 (omega arith) c.in_err-range_refusal-2.ensures)
 
-pub loop-i-preserved : goal.loop-i-preserved
+pub loop-b-preserved : goal.loop-b-preserved
 unfolding name_section
-loop-i-preserved c =
-    let l = c.loop-i in
-    let name = c.args.name.now in
-    let byte = c.range_refusal-x in
-    number_passed name_section name l.i l.invariant (omega arith) (sym byte.ensures ∙ omega arith)
+loop-b-preserved c =
+    let l = c.loop-b in
+    number_passed name_section c.args.name.now l.b-index l.invariant (omega arith) c.in_ok-range_refusal-2.ensures
 
 pub returns : goal.returns
 returns c =
-    let l = c.loop-i in
-    all_passed name_section c.args.name.now l.i l.invariant (omega arith)
-
-pub overflow_add-i : goal.overflow_add-i
-overflow_add-i c = omega arith
-
-pub loop-i-smaller : goal.loop-i-smaller
-loop-i-smaller c = omega arith
+    let l = c.loop-b in
+    all_passed name_section c.args.name.now l.b-index l.invariant (omega arith)

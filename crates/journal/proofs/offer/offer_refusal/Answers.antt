@@ -1,7 +1,8 @@
 -- `offer_refusal` asks one part of the offer after another: each return is the first refusal, in document 01's order.
 -- Assumes nothing.
-use mathlib.Core.Path.{sym, ◌∙◌}
+use mathlib.Core.Path.{refl}
 use native.Mathlib.Omega.{arith}
+use Rattle.std.proofs.lemmas.Result.{err_from_is_err_and}
 use Rattle.journal.specs.Records.{as_last}
 use Rattle.journal.specs.Handed.{as_rule, offer_from}
 use Rattle.journal.proofs.RefusalOrder.{chances_few, day_refused, name_refused, chances_refused, even_refused, times_refused, rule_judged}
@@ -13,49 +14,60 @@ returns-then-day-last c =
     let a = c.args in
     day_refused (as_rule a.rule) (as_last a.last) (offer_from a.day a.name.now a.chances.now a.times.now) a.bits.now (omega arith)
 
-pub returns-then-of_name-gt0 : goal.returns-then-of_name-gt0
+pub returns-in_err-name_refusal : goal.returns-in_err-name_refusal
 unfolding offer_from as_last
-returns-then-of_name-gt0 c =
-    let name = c.name_refusal-of_name in
+returns-in_err-name_refusal c =
     let a = c.args in
-    name_refused (as_rule a.rule) (as_last a.last) (offer_from a.day a.name.now a.chances.now a.times.now) a.bits.now (omega arith)
-    name.result (omega arith) name.ensures
+    let again = c.from_residual in
+    let p = err_from_is_err_and again.result again.ensures.1 in
+    rw (p.1, p.2)
+    (name_refused (as_rule a.rule) (as_last a.last) (offer_from a.day a.name.now a.chances.now a.times.now) a.bits.now (omega arith)
+    c.in_err-name_refusal.field-0.0 c.in_err-name_refusal.ensures)
 
-pub returns-then-of_chances-gt0 : goal.returns-then-of_chances-gt0
+pub returns-in_err-chances_refusal : goal.returns-in_err-chances_refusal
 unfolding offer_from as_last
-returns-then-of_chances-gt0 c =
-    let chances = c.chances_refusal-of_chances in
+returns-in_err-chances_refusal c =
     let a = c.args in
-    chances_refused (as_rule a.rule) (as_last a.last) (offer_from a.day a.name.now a.chances.now a.times.now) a.bits.now (omega arith)
-    (sym c.name_refusal-of_name.ensures ∙ omega arith) chances.result (omega arith) chances.ensures
+    let again = c.from_residual-in_err-chances_refusal in
+    let p = err_from_is_err_and again.result again.ensures.1 in
+    rw (p.1, p.2)
+    (chances_refused (as_rule a.rule) (as_last a.last) (offer_from a.day a.name.now a.chances.now a.times.now) a.bits.now (omega arith)
+    c.in_ok-name_refusal.ensures
+    c.in_err-chances_refusal.field-0.0 c.in_err-chances_refusal.ensures)
 
-pub returns-then-of_even-gt0 : goal.returns-then-of_even-gt0
+pub returns-in_err-even_refusal : goal.returns-in_err-even_refusal
 unfolding offer_from as_last
-returns-then-of_even-gt0 c =
-    let even = c.even_refusal-of_even in
+returns-in_err-even_refusal c =
     let a = c.args in
-    even_refused (as_rule a.rule) (as_last a.last) (offer_from a.day a.name.now a.chances.now a.times.now) a.bits.now (omega arith)
-    (sym c.name_refusal-of_name.ensures ∙ omega arith) (sym c.chances_refusal-of_chances.ensures ∙ omega arith)
-    even.result (omega arith) even.ensures
+    let again = c.from_residual-in_err-even_refusal in
+    let p = err_from_is_err_and again.result again.ensures.1 in
+    rw (p.1, p.2)
+    (even_refused (as_rule a.rule) (as_last a.last) (offer_from a.day a.name.now a.chances.now a.times.now) a.bits.now (omega arith)
+    c.in_ok-name_refusal.ensures c.in_ok-chances_refusal.ensures
+    c.in_err-even_refusal.field-0.0 c.in_err-even_refusal.ensures)
 
 pub rule_refusal-requires : goal.rule_refusal-requires
-rule_refusal-requires c = (chances_few c.args.chances.now (sym c.chances_refusal-of_chances.ensures ∙ omega arith), c.requires)
+rule_refusal-requires c =
+    (chances_few c.args.chances.now c.in_ok-chances_refusal.ensures, c.requires)
 
-pub returns-in-Within : goal.returns-in-Within
+pub returns : goal.returns
 unfolding offer_from as_last
-returns-in-Within c =
+returns c =
     let judged = c.rule_refusal in
     let a = c.args in
     rule_judged (as_rule a.rule) (as_last a.last) (offer_from a.day a.name.now a.chances.now a.times.now) _ (omega arith)
-    (sym c.name_refusal-of_name.ensures ∙ omega arith) (sym c.chances_refusal-of_chances.ensures ∙ omega arith)
-    (sym c.even_refusal-of_even.ensures ∙ omega arith)
-    c.gather-g.result c.gather-g.ensures c.in-Within.sums c.in-Within.is judged.result judged.ensures
+    c.in_ok-name_refusal.ensures c.in_ok-chances_refusal.ensures
+    c.in_ok-even_refusal.ensures
+    _ c.in_ok-sums.ensures _ refl _ judged.ensures
 
-pub returns-in-Outside : goal.returns-in-Outside
+pub returns-in_err-sums : goal.returns-in_err-sums
 unfolding offer_from as_last
-returns-in-Outside c =
+returns-in_err-sums c =
     let a = c.args in
-    times_refused (as_rule a.rule) (as_last a.last) (offer_from a.day a.name.now a.chances.now a.times.now) a.bits.now (omega arith)
-    (sym c.name_refusal-of_name.ensures ∙ omega arith) (sym c.chances_refusal-of_chances.ensures ∙ omega arith)
-    (sym c.even_refusal-of_even.ensures ∙ omega arith)
-    c.gather-g.result c.gather-g.ensures c.in-Outside.is
+    let again = c.from_residual-in_err-sums in
+    let p = err_from_is_err_and again.result again.ensures.1 in
+    rw (p.1, p.2)
+    (times_refused (as_rule a.rule) (as_last a.last) (offer_from a.day a.name.now a.chances.now a.times.now) a.bits.now (omega arith)
+    c.in_ok-name_refusal.ensures c.in_ok-chances_refusal.ensures
+    c.in_ok-even_refusal.ensures
+    _ c.in_err-sums.ensures c.in_err-sums.field-0.0 refl)

@@ -1,6 +1,5 @@
--- `work_out` works one limit out a turn and keeps its bits. The measure is how many chances are left.
+-- `work_out` works one limit out a turn and keeps its bits.
 -- Assumes nothing.
-use Prim.Native.Nat.{◌-◌}
 use native.Mathlib.Omega.{arith}
 use Rattle.limit.specs.Answer.{moments_meaning}
 use Rattle.journal.proofs.WorkedOut.{kept_start, kept_more, kept_all}
@@ -23,15 +22,3 @@ returns c =
     let l = c.loop-i in
     let a = c.args in
     kept_all (moments_meaning a.worked) a.chances.now l.bits l.i l.invariant (omega arith)
-
-pub bounds-chances-i : goal.bounds-chances-i
-bounds-chances-i c = omega arith
-
-pub offset_bounds-bits-i : goal.offset_bounds-bits-i
-offset_bounds-bits-i c = omega arith
-
-pub overflow_add-i : goal.overflow_add-i
-overflow_add-i c = omega arith
-
-pub loop-i-smaller : goal.loop-i-smaller
-loop-i-smaller c = omega arith

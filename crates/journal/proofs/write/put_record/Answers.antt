@@ -1,7 +1,6 @@
 -- `put_record` takes one step after another to the budget's end. The measure is how many bytes are left.
 -- Assumes nothing.
 use mathlib.Core.Path.{refl}
-use Prim.Native.Nat.{◌-◌}
 use native.Mathlib.Omega.{arith}
 use Rattle.journal.proofs.Filling.{filled_none, filled_length, filled_more}
 use Rattle.journal.proofs.write.put_record.Goals as goal
