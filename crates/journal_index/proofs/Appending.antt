@@ -1,7 +1,7 @@
 -- An append that is handed an index, by appends that are not: with a budget of nothing such a one tells whether the journal's rows decline, and
 -- where nothing declines it writes what the other does. Assumes nothing.
 use mathlib.Core.Path.{◌≡◌, refl, sym, ap, ap₂, ◌∙◌}
-use Prim.Native.Nat.{ℕ, zero, suc, ◌+◌, ◌<◌}
+use Prim.Native.Nat.{ℕ, zero, suc, ◌<◌}
 use mathlib.Core.List.{List, [], ◌∷◌, ◌++◌}
 use mathlib.Core.Bool.{Bool, true, false, cond}
 use mathlib.Core.Option.{Option, none, some}
@@ -12,12 +12,15 @@ use Rattle.journal_spec.specs.Refusals.{first_of}
 use Rattle.journal_spec.specs.Record.{last_of, record_bytes}
 use Rattle.journal_spec.specs.Scan.{Placed, records_of, standing}
 use Rattle.journal_spec.specs.Index.{index_bytes, index_of}
-use Rattle.journal_spec.specs.Request.{Journal, Budget, up_to, Request, request_of, times_of, offer_of, allowed, Outcome}
+use Rattle.journal_spec.specs.Request.{Journal, Budget, up_to, Request, request_of, times_of, offer_of, allowed, Outcome, declined}
 use Rattle.journal_spec.specs.Append.{offered, judge_room, of_handed, judge_index, judge_index_room, next_index, append_refusals, written}
 use Rattle.journal_spec.specs.Append.{unchanged, extend, put_index, settle, append_to}
 use Rattle.journal_spec.proofs.Writing.{written_nil}
-use Rattle.journal.specs.declared.Appended.{Appended}
-use Rattle.journal.specs.declared.Appended.TheVariants as A
+use Rattle.std.specs.Prelude.{Result, Err}
+use Rattle.refusals.specs.declared.Refusal.{Refusal}
+use Rattle.refusals.specs.Refusals.{number_of}
+use Rattle.journal.specs.declared.AppendError.{AppendError}
+use Rattle.journal.specs.declared.AppendError.TheVariants as A
 use Rattle.journal.specs.Handed.{offer_refusals}
 use Rattle.journal.specs.Answers.{append_meaning, length_after, outcome_with, outcome_of}
 use Rattle.journal.proofs.Checking.{first_front, first_back}
@@ -71,41 +74,56 @@ module _ (j : Journal) (ps : List Placed) (committed : ℕ) (q : Request) (b : L
         rows_without (either_none (leb (length bytes) (allowed budget (length bytes))))
 
   -- with a budget of nothing: its answer has the refusal, and no byte is changed
-  pub record Judged (r : Appended) (after : List ℕ) : Type 0 where
+  pub record JudgedBy (r : Result ℕ AppendError) (after : List ℕ) : Type 0 where
     pub refusal : refusal_in (append_meaning r) ≡ first_of journal_rows
     pub same : after ≡ j.slice
+    pub declines : (f : Refusal) → r ≡ Err (A.Declined f) → 0 < first_of journal_rows
 
-  settled_judged : (r : Appended) (after : List ℕ) (n : ℕ) → outcome_of j.len r after ≡ settle n j none committed [] none
-      → (refusal_in (append_meaning r) ≡ n) × (after ≡ j.slice)
-  unfolding settle extend unchanged outcome_with refusal_in
-  settled_judged r after zero e =
-      (ap (λ (o : Outcome). refusal_in o.answer) e, ap (λ (o : Outcome). o.journal.slice) e ∙ written_nil j.slice committed)
-  settled_judged r after (suc n) e = (ap (λ (o : Outcome). refusal_in o.answer) e, ap (λ (o : Outcome). o.journal.slice) e)
+  settled_judged : (r : Result ℕ AppendError) (after : List ℕ) (n : ℕ) → outcome_of j.len r after ≡ settle n j none committed [] none
+      → (refusal_in (append_meaning r) ≡ n) × (after ≡ j.slice) × ((f : Refusal) → r ≡ Err (A.Declined f) → 0 < n)
+  unfolding settle extend unchanged outcome_with refusal_in append_meaning
+  settled_judged r after zero e = (
+    ap (λ (o : Outcome). refusal_in o.answer) e,
+    ap (λ (o : Outcome). o.journal.slice) e ∙ written_nil j.slice committed,
+    λ f t.
+        let answered = ap (λ (o : Outcome). o.answer) e in
+        let declines = ap append_meaning t in
+        let z : ◌≡◌ {A = ℕ} 0 1 = cc in
+        omega arith,
+  )
+  settled_judged r after (suc n) e =
+      (ap (λ (o : Outcome). refusal_in o.answer) e, ap (λ (o : Outcome). o.journal.slice) e, λ f t. omega arith)
 
-  pub judged : (r : Appended) (after : List ℕ) → outcome_of j.len r after ≡ append_to (standing ps committed) j (without (up_to 0) q) → Judged r after
+  pub judged : (r : Result ℕ AppendError) (after : List ℕ) → outcome_of j.len r after ≡ append_to (standing ps committed) j (without (up_to 0) q)
+      → JudgedBy r after
   unfolding allowed
   judged r after e =
       let s = settled_judged r after (first_of journal_rows) (e ∙ settles_without (up_to 0)) in
-      record { refusal = s.0; same = s.1 }
+      record { refusal = s.0; same = s.1; declines = s.2 }
 
   -- ---- with it
 
   -- declined
-  pub declined_by : (r : ℕ) → 0 < r → r ≡ first_of (journal_rows ++ index_rows)
-      → indexed_outcome j.len (A.Declined r) j.slice b ≡ append_to (standing ps committed) j q
-  unfolding append_to settle unchanged outcome_with append_meaning length_after
-  declined_by zero h e = absurd (omega arith)
-  declined_by (suc r) h e = rw (ap first_of all_rows ∙ sym e, handed) refl
+  declined_as : (n : ℕ) → 0 < n → n ≡ first_of (journal_rows ++ index_rows)
+      → record { answer = declined n; journal = record { slice = j.slice; len = j.len }; index = some b } ≡ append_to (standing ps committed) j q
+  unfolding append_to settle unchanged
+  declined_as zero h e = absurd (omega arith)
+  declined_as (suc n) h e = rw (ap first_of all_rows ∙ sym e, handed) refl
+
+  declined_by : (r : Refusal) (n : ℕ) → number_of r ≡ n → 0 < n → n ≡ first_of (journal_rows ++ index_rows)
+      → indexed_outcome j.len (Err (A.Declined r)) j.slice b ≡ append_to (standing ps committed) j q
+  unfolding outcome_with append_meaning length_after
+  declined_by r n is h e = declined_as (number_of r) (rw is h) (is ∙ e)
 
   -- by a row of the journal's
-  pub declined_first : (r : ℕ) → 0 < r → r ≡ first_of journal_rows
-      → indexed_outcome j.len (A.Declined r) j.slice b ≡ append_to (standing ps committed) j q
-  declined_first r h e = declined_by r h (first_front r journal_rows index_rows h e)
+  pub declined_first : (r : Refusal) (n : ℕ) → number_of r ≡ n → 0 < n → n ≡ first_of journal_rows
+      → indexed_outcome j.len (Err (A.Declined r)) j.slice b ≡ append_to (standing ps committed) j q
+  declined_first r n is h e = declined_by r n is h (first_front n journal_rows index_rows h e)
 
   -- by one of the index's
-  pub declined_then : (r : ℕ) → 0 < r → first_of journal_rows ≡ 0 → r ≡ first_of index_rows
-      → indexed_outcome j.len (A.Declined r) j.slice b ≡ append_to (standing ps committed) j q
-  declined_then r h z e = declined_by r h (e ∙ sym (first_back journal_rows index_rows z))
+  pub declined_then : (r : Refusal) (n : ℕ) → number_of r ≡ n → 0 < n → first_of journal_rows ≡ 0 → n ≡ first_of index_rows
+      → indexed_outcome j.len (Err (A.Declined r)) j.slice b ≡ append_to (standing ps committed) j q
+  declined_then r n is h z e = declined_by r n is h (e ∙ sym (first_back journal_rows index_rows z))
 
   pub none_declines : first_of journal_rows ≡ 0 → first_of index_rows ≡ 0 → first_of (append_refusals (length j.slice) ps committed q) ≡ 0
   none_declines z y = ap first_of all_rows ∙ first_back journal_rows index_rows z ∙ y
@@ -122,7 +140,7 @@ module _ (j : Journal) (ps : List Placed) (committed : ℕ) (q : Request) (b : L
     unfolding journal_rows
     offer_none = first_of_front (offer_refusals q.rule (last_of (records_of ps)) (offer_of q)) _ journal_none
 
-    pub written_with : (r : Appended) (after index : List ℕ) → outcome_of j.len r after ≡ append_to (standing ps committed) j (without q.budget q)
+    pub written_with : (r : Result ℕ AppendError) (after index : List ℕ) → outcome_of j.len r after ≡ append_to (standing ps committed) j (without q.budget q)
         → index ≡ cond (leb (length bytes) (allowed q.budget (length bytes))) (written b 0 (index_bytes (next_index ps committed (offer_of q)))) b
         → indexed_outcome j.len r after index ≡ append_to (standing ps committed) j q
     unfolding append_to settle extend put_index outcome_with offer_of times_of

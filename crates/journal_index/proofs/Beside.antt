@@ -9,11 +9,12 @@ use Rattle.facts.proofs.Tests.{not_both}
 use Rattle.journal_spec.specs.Profile.{Rule}
 use Rattle.journal_spec.specs.Request.{Journal, Budget, Source, request_of}
 use Rattle.journal_spec.specs.Append.{append_of}
-use Rattle.journal.specs.declared.Appended.{Appended}
+use Rattle.std.specs.Prelude.{Result}
+use Rattle.journal.specs.declared.AppendError.{AppendError}
 use Rattle.journal.specs.Answers.{outcome_with, outcome_of}
 use Rattle.journal_index.specs.Outcome.{handed, indexed_outcome}
 
-module _ (indexed : Bool) (len : ℕ) (r : Appended) (after : List ℕ) (j : Journal) (day : ℕ) (name chances : List ℕ) (source : Source)
+module _ (indexed : Bool) (len : ℕ) (r : Result ℕ AppendError) (after : List ℕ) (j : Journal) (day : ℕ) (name chances : List ℕ) (source : Source)
     (budget : Budget) (rule : Rule) (index : List ℕ) where
   -- what is to be shown, with the buffer b after the call
   abbrev Beside : List ℕ → Type 0

@@ -3,22 +3,23 @@
 use mathlib.Core.Path.{◌≡◌, refl, sym, ap, ap₂, ◌∙◌}
 use Prim.Native.Nat.{ℕ, ◌+◌, ◌-◌, ◌≤◌, ◌<◌}
 use mathlib.Core.List.{List, [], ◌∷◌}
-use mathlib.Core.Bool.{Bool, true, false, ◌&&◌}
+use mathlib.Core.Bool.{Bool, true, false, not, ◌&&◌}
 use native.Mathlib.Omega.{arith}
 use native.Mathlib.Numerals.{add-one}
-use borrow.Author.Tests.{eqb-true, eq-eqb, ne_eqb}
+use borrow.Author.Tests.{eqb-true, eq-eqb, not-true, not-false}
 use lib.ListN.{length, drop, get_or, drop_of_length-le}
 use lib.Seq.{drop-cons}
 use lib.Dec.{eqb}
 use Rattle.facts.proofs.Tests.{both_hold}
-use Rattle.facts.proofs.Orders.{by_order}
 use Rattle.text_digits.specs.Same.{same_bytes}
 use Rattle.text_digits.proofs.Comparing.{equal_same, same_equal}
 use Rattle.journal_spec.specs.Index.{IndexEntry}
 use Rattle.journal_parts.specs.Numbers.{number_in}
 use Rattle.journal_parts.specs.Front.{record_name}
-use Rattle.journal_entries.specs.Entries.{name_at, start_at, size_at, entries_from, entries_in}
-use Rattle.journal_entries.proofs.ByCounts.{entries_end, entries_none, entries_more, count_read}
+use Rattle.std.specs.Prelude.{Option, Some, None, MatchOption, is_some}
+use Rattle.journal_entries.specs.Entries.{EntryIs, size_at, entries_from, entries_in}
+use Rattle.journal_entries.specs.declared.walking.Entry.{Entry}
+use Rattle.journal_entries.proofs.ByCounts.{entries_end, entries_none, entry_more, count_read}
 use Rattle.journal_index.specs.Places.{entry_at, entries_of, same_entries}
 
 -- ---- the same entries
@@ -63,31 +64,36 @@ module _ (b ps index : List ℕ) (left place i : ℕ) (v : Comparing b ps index 
     pub comparing_none : left ≡ 0 → false ≡ same_entries (entries_in index) (entries_of b ps)
     comparing_none e = missing (entries_none index left place e)
 
-    pub comparing_short : (size : ℕ) → size ≡ size_at index place → size ≡ 0 → false ≡ same_entries (entries_in index) (entries_of b ps)
-    comparing_short size e z = missing (entries_end index place left (sym z ∙ e))
+    pub comparing_short : size_at index place ≡ 0 → false ≡ same_entries (entries_in index) (entries_of b ps)
+    comparing_short z = missing (entries_end index place left (sym z))
 
     -- one more, by whether it is the record's
-    module _ (size at : ℕ) (name : List ℕ) (t : Bool) (some : left ≡ 0 → ⊥) (is : size ≡ size_at index place) (whole : size ≡ 0 → ⊥)
-        (from : at ≡ get_or ps i 0) (named : name ≡ record_name (drop at b))
-        (told : t ≡ (same_bytes (name_at index place) name && eqb (start_at index place) at)) where
+    module _ (called : List ℕ) (start at : ℕ) (name : List ℕ) (t : Bool) (some : left ≡ 0 → ⊥) (x : EntryIs index place called start)
+        (from : at ≡ get_or ps i 0) (named : name ≡ record_name (drop (get_or ps i 0) b))
+        (told : t ≡ (same_bytes called name && eqb start at)) where
       turn : same_entries (entries_in index) (entries_of b ps)
-          ≡ (t && same_entries (entries_from index (left - 1) (place + size)) (entries_of b (drop (i + 1) ps)))
+          ≡ (t && same_entries (entries_from index (left - 1) (place + (length called + 6))) (entries_of b (drop (i + 1) ps)))
       unfolding same_entries entry_at
       turn =
-          let rest : Bool = same_entries (entries_from index (left - 1) (place + size)) (entries_of b (drop (i + 1) ps)) in
+          let rest : Bool = same_entries (entries_from index (left - 1) (place + (length called + 6))) (entries_of b (drop (i + 1) ps)) in
           v.same
-          ∙ ap₂ same_entries (entries_more index place left size (omega (arith, some)) is (omega (arith, whole))) (next_entry b ps i h)
-          ∙ ap (λ (p : ℕ). (same_bytes (name_at index place) (record_name (drop p b)) && eqb (start_at index place) p) && rest) (sym from)
-          ∙ ap (λ (l : List ℕ). (same_bytes (name_at index place) l && eqb (start_at index place) at) && rest) (sym named)
+          ∙ ap₂ same_entries (entry_more index place called start x left (omega (arith, some))) (next_entry b ps i h)
+          ∙ ap (λ (l : List ℕ). (same_bytes called l && eqb start (get_or ps i 0)) && rest) (sym named)
+          ∙ ap (λ (p : ℕ). (same_bytes called name && eqb start p) && rest) (sym from)
           ∙ ap (λ (s : Bool). s && rest) (sym told)
 
       pub comparing_other : t ≡ false → false ≡ same_entries (entries_in index) (entries_of b ps)
-      comparing_other f = sym (turn ∙ ap (λ (s : Bool). s && same_entries (entries_from index (left - 1) (place + size)) (entries_of b (drop (i + 1) ps))) f)
+      comparing_other f =
+          sym (turn ∙ ap (λ (s : Bool). s && same_entries (entries_from index (left - 1) (place + (length called + 6))) (entries_of b (drop (i + 1) ps))) f)
 
-      pub comparing_next : t ≡ true → Comparing b ps index (left - 1) (place + size) (i + 1)
-      comparing_next f = record {
-        same = turn ∙ ap (λ (s : Bool). s && same_entries (entries_from index (left - 1) (place + size)) (entries_of b (drop (i + 1) ps))) f;
-      }
+      pub comparing_next : (behind : ℕ) → behind ≡ place + (length called + 6) → t ≡ true → Comparing b ps index (left - 1) behind (i + 1)
+      comparing_next behind p f =
+          rw p
+          (record {
+            same =
+                turn
+                ∙ ap (λ (s : Bool). s && same_entries (entries_from index (left - 1) (place + (length called + 6))) (entries_of b (drop (i + 1) ps))) f;
+          })
 
   -- no place is left
   module _ (h : length ps ≤ i) where
@@ -95,18 +101,18 @@ module _ (b ps index : List ℕ) (left place i : ℕ) (v : Comparing b ps index 
     unfolding entries_of
     ends = v.same ∙ ap (λ (l : List ℕ). same_entries (entries_from index left place) (entries_of b l)) (drop_of_length-le ps {i = i} h)
 
-    pub comparing_all : left ≡ 0 → true ≡ same_entries (entries_in index) (entries_of b ps)
+    pub comparing_end : left ≡ 0 → eqb left 0 ≡ same_entries (entries_in index) (entries_of b ps)
     unfolding same_entries
-    comparing_all e = sym (ends ∙ ap (λ (es : List IndexEntry). same_entries es []) (entries_none index left place e))
+    comparing_end e = eq-eqb left 0 e ∙ sym (ends ∙ ap (λ (es : List IndexEntry). same_entries es []) (entries_none index left place e))
 
-    pub comparing_end : (left ≡ 0 → ⊥) → (size : ℕ) → size ≡ size_at index place → eqb size 0 ≡ same_entries (entries_in index) (entries_of b ps)
+    -- whether an entry stands behind them all
+    pub comparing_last : (left ≡ 0 → ⊥) → (r : Option Entry)
+        → MatchOption r (size_at index place ≡ 0) (λ e. EntryIs index place e.name.now e.start)
+        → (t : Bool) → is_some r ≡ not t → t ≡ same_entries (entries_in index) (entries_of b ps)
     unfolding same_entries
-    comparing_end some size e =
-        by_order size 0
-        (λ l. eq-eqb size 0 (omega arith)
-        ∙ sym (ends ∙ ap (λ (es : List IndexEntry). same_entries es []) (entries_end index place left (zero_is (omega arith) ∙ e))))
-        (λ l. ne_eqb size 0 (λ z. omega arith)
-        ∙ sym (ends ∙ ap (λ (es : List IndexEntry). same_entries es []) (entries_more index place left size (omega (arith, some)) e l)))
-      where
-        zero_is : size ≡ 0 → 0 ≡ size
-        zero_is z = sym z
+    comparing_last some None z t e =
+        not-false t (sym e)
+        ∙ sym (ends ∙ ap (λ (es : List IndexEntry). same_entries es []) (entries_end index place left (sym z)))
+    comparing_last some (Some f) x t e =
+        not-true t (sym e)
+        ∙ sym (ends ∙ ap (λ (es : List IndexEntry). same_entries es []) (entry_more index place f.name.now f.start x left (omega (arith, some))))

@@ -1,6 +1,6 @@
 -- No volume's index is longer than 38,914 bytes: an entry has at most 38 bytes for 64 of its record. So a buffer of as many bytes never lacks room
 -- for an index that is made. Assumes nothing.
-use mathlib.Core.Path.{◌≡◌, refl, sym, ap, ◌∙◌}
+use mathlib.Core.Path.{◌≡◌, refl, ap}
 use Prim.Native.Nat.{ℕ, zero, suc, ◌+◌, ◌*◌, ◌≤◌}
 use mathlib.Core.List.{List, [], ◌∷◌}
 use native.Mathlib.Omega.{arith}
@@ -14,9 +14,8 @@ use Rattle.journal_spec.specs.Profile.{plain}
 use Rattle.journal_spec.specs.Scan.{Contents, standing, faulty, contents_of}
 use Rattle.journal_spec.specs.Cursor.{records_in}
 use Rattle.journal_spec.specs.Index.{IndexEntry, Order, lower, equal, higher, order_of, index_bytes, entries_size, index_of, enroll, fresh_from, fresh_index}
-use Rattle.journal_spec.specs.Request.{Journal}
 use Rattle.journal_spec.specs.Append.{judge_index_room}
-use Rattle.journal_spec.specs.MakeIndex.{IndexResult, made, declined, damaged, make_unless, make_from, make_index_of}
+use Rattle.journal_spec.specs.MakeIndex.{declined, make_unless, make_from, make_index_of}
 use Rattle.journal_spec.proofs.Records.{length_record}
 use Rattle.journal_spec.proofs.Cursor.{AllGood}
 use Rattle.journal_spec.proofs.Indexes.{same_index}

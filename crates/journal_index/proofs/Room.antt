@@ -1,7 +1,7 @@
 -- The rows of an index that is handed, as the code finds them: 14, 15, or none; and what amending it in its buffer comes to where there is none.
 -- Assumes nothing.
 use mathlib.Core.Path.{◌≡◌, refl, sym, ◌∙◌}
-use Prim.Native.Nat.{ℕ}
+use Prim.Native.Nat.{ℕ, ◌<◌}
 use mathlib.Core.List.{List, [], ◌∷◌}
 use mathlib.Core.Bool.{Bool, true, false, not}
 use native.Mathlib.Omega.{arith}
@@ -32,9 +32,10 @@ module _ (b name index : List ℕ) (whole : WholeBytes b) (start : ℕ) where
   rows = rows_of b name index start
 
   module _ (own : Bool) (is : own ≡ in_front (index_bytes (index_in b)) index) where
-    pub not_own : not own ≡ true → index_refusal ≡ first_of rows
+    pub not_own : not own ≡ true → (index_refusal ≡ first_of rows) × (0 < first_of rows)
     unfolding judge_index
-    not_own h = first_this index_refusal _ _ (omega arith) (sym (unless_false _ index_refusal (sym is ∙ not-true own h)))
+    not_own h = let e : index_refusal ≡ first_of rows = first_this index_refusal _ _ (omega arith) (sym (unless_false _ index_refusal (sym is ∙ not-true own h))) in
+        (e, omega (arith, e))
 
     module _ (h : not own ≡ false) (room : Bool) (by : room ≡ leb (length (next_bytes (entry name start) index)) (length index)) where
       front : in_front (index_bytes (index_in b)) index ≡ true
@@ -49,13 +50,13 @@ module _ (b name index : List ℕ) (whole : WholeBytes b) (start : ℕ) where
       unfolding next_bytes
       told = rw (own_entries b index whole front) at by
 
-      pub no_room : not room ≡ true → index_room_refusal ≡ first_of rows
+      pub no_room : not room ≡ true → (index_room_refusal ≡ first_of rows) × (0 < first_of rows)
       unfolding judge_index_room
-      no_room n = sym (second ∙ unless_false _ index_room_refusal (sym told ∙ not-true room n))
+      no_room n = let e : index_room_refusal ≡ first_of rows = sym (second ∙ unless_false _ index_room_refusal (sym told ∙ not-true room n)) in (e, omega (arith, e))
 
-      pub some_room : not room ≡ false → 0 ≡ first_of rows
+      pub some_room : not room ≡ false → first_of rows ≡ 0
       unfolding judge_index_room
-      some_room n = sym (second ∙ unless_true _ index_room_refusal (sym told ∙ not-false room n))
+      some_room n = second ∙ unless_true _ index_room_refusal (sym told ∙ not-false room n)
 
   -- where neither holds, the index amended is in the buffer
   pub amended_in_lem : first_of rows ≡ 0 → amended_in (entry name start) index ≡ written index 0 (index_bytes (amend (entry name start) (index_in b)))

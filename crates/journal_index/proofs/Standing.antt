@@ -25,12 +25,12 @@ use Rattle.journal_spec.proofs.Places.{records_of_placed}
 use Rattle.journal_spec.proofs.Logs.{append_read}
 use Rattle.journal_spec.proofs.Whole.{WholeBytes, Committed, committed_bytes}
 use Rattle.journal.specs.declared.Fault.{Fault}
-use Rattle.journal.specs.declared.record.Head.{Head}
-use Rattle.journal.specs.declared.contents.Shown.{Shown}
+use Rattle.std.specs.Prelude.{Result, Ok, Err}
+use Rattle.refusals.specs.declared.Refusal.{Refusal}
 use Rattle.journal.specs.declared.contents.Contents.{Contents}
-use Rattle.journal.specs.declared.contents.Contents.TheVariants as C
-use Rattle.journal.specs.declared.Appended.{Appended}
-use Rattle.journal.specs.declared.Appended.TheVariants as A
+use Rattle.journal.specs.declared.AppendError.{AppendError}
+use Rattle.journal.specs.declared.AppendError.TheVariants as A
+use Rattle.journal.specs.Told.{by_number, Judged}
 use Rattle.journal.specs.Records.{as_last}
 use Rattle.journal.specs.Contents.{contents_read}
 use Rattle.journal.specs.Answers.{append_meaning, length_after, outcome_with}
@@ -39,20 +39,20 @@ use Rattle.journal.proofs.RefusalOrder.{Few, offer_few}
 use Rattle.journal_entries.specs.Amending.{amended_in}
 use Rattle.journal_index.specs.Outcome.{indexed_outcome}
 use Rattle.journal_index.specs.Standing.{placed_in, index_in, Stands, refusal_in}
-use Rattle.journal_index.proofs.Appending.{index_rows, Judged, declined_first, declined_then, none_declines, index_none, offer_none}
+use Rattle.journal_index.proofs.Appending.{index_rows, JudgedBy, declined_first, declined_then, none_declines, index_none, offer_none}
 use Rattle.journal_index.proofs.Room.{rows_of, amended_in_lem}
 
 -- ---- from the pass on
 
-module _ (rule : Rule) (v : List ℕ) (len i : ℕ) (x : Contents) (read : x ≡ contents_read i (contents_of rule v len)) where
-  module _ (all : (i : ℕ) → get_or v i 0 < 256) (records committed : ℕ) (last : Head) (shown : Shown) (told : x ≡ C.Stands records committed last shown) where
-    s : Stood (contents_of rule v len) i records committed last shown
-    s = stood rule v len i x read records committed last shown told
+module _ (rule : Rule) (v : List ℕ) (len i : ℕ) (x : Result Contents Fault) (read : by_number x ≡ contents_read i (contents_of rule v len)) where
+  module _ (all : (i : ℕ) → get_or v i 0 < 256) (c : Contents) (told : x ≡ Ok c) where
+    s : Stood (contents_of rule v len) i c
+    s = stood rule v len i x read c told
 
-    upto : Committed v s.ps committed
-    upto = committed_bytes rule v len s.ps committed (are_bytes v all) s.is
+    upto : Committed v s.ps c.committed
+    upto = committed_bytes rule v len s.ps c.committed (are_bytes v all) s.is
 
-    pub stands : Stands v committed (as_last last)
+    pub stands : Stands v c.committed (as_last c.last)
     stands = record {
       fits = upto.fits;
       whole = upto.whole;
@@ -61,15 +61,15 @@ module _ (rule : Rule) (v : List ℕ) (len i : ℕ) (x : Contents) (read : x ≡
     }
 
     pub appends : (q : Request) (ts : List ℕ) → q.rule ≡ rule → times_of q ≡ gathered ts → (out : Outcome)
-        → out ≡ append_to (standing (placed_in (take committed v)) committed) (record { slice = v; len = len }) q
+        → out ≡ append_to (standing (placed_in (take c.committed v)) c.committed) (record { slice = v; len = len }) q
         → out ≡ append_of (record { slice = v; len = len }) q
     appends q ts by is out e =
         e
-        ∙ ap (λ k. append_to k (record { slice = v; len = len }) q) (sym (rw by (s.is ∙ ap (λ ps. standing ps committed) upto.places)))
+        ∙ ap (λ k. append_to k (record { slice = v; len = len }) q) (sym (rw by (s.is ∙ ap (λ ps. standing ps c.committed) upto.places)))
         ∙ append_read (record { slice = v; len = len }) q ts is
 
-  pub appends_damaged : (f : Fault) → x ≡ C.Damaged f → (q : Request) (ts b : List ℕ) → q.rule ≡ rule → times_of q ≡ gathered ts → q.index ≡ some b
-      → indexed_outcome len (A.Damaged f) v b ≡ append_of (record { slice = v; len = len }) q
+  pub appends_damaged : (f : Fault) → x ≡ Err f → (q : Request) (ts b : List ℕ) → q.rule ≡ rule → times_of q ≡ gathered ts → q.index ≡ some b
+      → indexed_outcome len (Err (A.Damaged f)) v b ≡ append_of (record { slice = v; len = len }) q
   unfolding append_to outcome_with append_meaning length_after unchanged
   appends_damaged f told q ts b by is handed =
       rw (← append_read (record { slice = v; len = len }) q ts is, by, faulted rule v len i x read f told, handed) refl
@@ -81,8 +81,8 @@ ends_placed v committed last s = s.ends ∙ ap last_of (sym (records_of_placed 0
 
 -- ---- after the call with a budget of nothing
 
-module _ {v : List ℕ} {committed len day : ℕ} {name chances ts : List ℕ} {budget : Budget} {rule : Rule} {b : List ℕ} {r : Appended} {after : List ℕ}
-    (t : Judged (record { slice = v; len = len }) (placed_in (take committed v)) committed (request_of day name chances (times ts) budget rule (some b)) b refl r after) where
+module _ {v : List ℕ} {committed len day : ℕ} {name chances ts : List ℕ} {budget : Budget} {rule : Rule} {b : List ℕ} {r : Result ℕ AppendError} {after : List ℕ}
+    (t : JudgedBy (record { slice = v; len = len }) (placed_in (take committed v)) committed (request_of day name chances (times ts) budget rule (some b)) b refl r after) where
   abbrev asked : Request
   asked = request_of day name chances (times ts) budget rule (some b)
 
@@ -97,17 +97,20 @@ module _ {v : List ℕ} {committed len day : ℕ} {name chances ts : List ℕ} {
   same_rows = rw t.same refl
 
   -- declined by a row of the journal's
-  pub judged_first : (n : ℕ) → 0 < n → n ≡ refusal_in (append_meaning r) → indexed_outcome len (A.Declined n) after b ≡ outcome
-  judged_first n h e =
-      ap (λ (s : List ℕ). indexed_outcome len (A.Declined n) s b) t.same
-      ∙ declined_first (record { slice = v; len = len }) (placed_in (take committed v)) committed asked b refl n h (e ∙ t.refusal)
+  pub judged_first : (f : Refusal) → r ≡ Err (A.Declined f) → indexed_outcome len (Err (A.Declined f)) after b ≡ outcome
+  unfolding refusal_in append_meaning
+  judged_first f d =
+      ap (λ (s : List ℕ). indexed_outcome len (Err (A.Declined f)) s b) t.same
+      ∙ declined_first (record { slice = v; len = len }) (placed_in (take committed v)) committed asked b refl f _
+      (sym (ap (λ (x : Result ℕ AppendError). refusal_in (append_meaning x)) d) ∙ t.refusal) (t.declines f d) refl
 
   module _ (none : refusal_in (append_meaning r) ≡ 0) where
     -- by one of the index's
-    pub judged_then : (n : ℕ) → 0 < n → n ≡ first_of (rows_of (take committed after) name b committed) → indexed_outcome len (A.Declined n) after b ≡ outcome
-    judged_then n h e =
-        ap (λ (s : List ℕ). indexed_outcome len (A.Declined n) s b) t.same
-        ∙ declined_then (record { slice = v; len = len }) (placed_in (take committed v)) committed asked b refl n h (sym t.refusal ∙ none) (e ∙ same_rows)
+    pub judged_then : (f : Refusal) → Judged {A = Unit {0}} (Err f) (first_of (rows_of (take committed after) name b committed))
+        → indexed_outcome len (Err (A.Declined f)) after b ≡ outcome
+    judged_then f d =
+        ap (λ (s : List ℕ). indexed_outcome len (Err (A.Declined f)) s b) t.same
+        ∙ declined_then (record { slice = v; len = len }) (placed_in (take committed v)) committed asked b refl f _ d.0 d.1 (sym t.refusal ∙ none) same_rows
 
     -- by none
     pub judged_none : (last : Last) → Stands v committed last → first_of (rows_of (take committed after) name b committed) ≡ 0

@@ -1,15 +1,16 @@
 -- What the code that makes an index answers, in the definition's words.
 -- Assumes nothing.
-use Rattle.std.specs.Prelude.{ℕ, List}
+use Rattle.std.specs.Prelude.{ℕ, List, Result, Ok, Err}
+use Rattle.refusals.specs.Refusals.{number_of}
 use Rattle.journal_spec.specs.MakeIndex.{IndexResult, made, declined, damaged, Made}
-use Rattle.journal_index.specs.declared.make.IndexMade.{IndexMade}
-use Rattle.journal_index.specs.declared.make.IndexMade.TheVariants as I
+use Rattle.journal_index.specs.declared.IndexError.{IndexError}
+use Rattle.journal_index.specs.declared.IndexError.TheVariants as E
 
-unfoldable pub made_meaning : IndexMade → IndexResult
-made_meaning (I.Length n) = made n
-made_meaning (I.Declined n) = declined n
-made_meaning (I.Damaged f) = damaged f.number f.place
+unfoldable pub made_meaning : Result ℕ IndexError → IndexResult
+made_meaning (Ok n) = made n
+made_meaning (Err (E.Declined r)) = declined (number_of r)
+made_meaning (Err (E.Damaged f)) = damaged (number_of f.refusal) f.place
 
 -- the answer, and the buffer after it
-unfoldable pub made_outcome : IndexMade → List ℕ → Made
+unfoldable pub made_outcome : Result ℕ IndexError → List ℕ → Made
 made_outcome r b = record { answer = made_meaning r; buffer = b }

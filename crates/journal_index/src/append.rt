@@ -1,6 +1,6 @@
 // Append that may be handed the index (request 2026-08): the journal's rows first, then 14 and 15, then the record is written, and where it is
 // finished the index is amended in its place. Every check is over before the first byte of either buffer is written.
-ghost use Rattle.std.specs.Prelude.{◌≡◌, false, [], ◌∷◌, ℕ, ◌+◌, ◌*◌, ◌≤◌, leb, length, take};
+ghost use Rattle.std.specs.Prelude.{◌≡◌, false, [], ◌∷◌, ℕ, ◌+◌, ◌*◌, ◌≤◌, leb, length, take, MatchResult};
 ghost use Rattle.std.proofs.Math.Option.{some};
 ghost use Rattle.limit.specs.Times.{max_count};
 ghost use Rattle.journal_spec.specs.Refusals.{first_of};
@@ -14,17 +14,17 @@ ghost use Rattle.journal_spec.proofs.Whole.{WholeBytes};
 ghost use Rattle.journal.specs.Records.{as_last};
 ghost use Rattle.journal.specs.Handed.{request_by, as_budget};
 ghost use Rattle.journal.specs.Answers.{append_meaning, outcome_with};
+ghost use Rattle.journal.specs.Told.{Judged};
 ghost use Rattle.journal_index.specs.Outcome.{handed, indexed_outcome};
 ghost use Rattle.journal_index.specs.Standing.{placed_in, index_in, Stands, refusal_in};
 
-use crate::make::INDEX_ROOM_REFUSAL;
-use crate::own::{INDEX_REFUSAL, is_own};
-use journal::{
-    Appended, Asked, Budget, Contents, FIXED_SIZE, Head, append_with, contents_of, extend_by,
-};
+use crate::own::is_own;
+use journal::{AppendError, Asked, Budget, FIXED_SIZE, Head, append_with, contents_of, extend_by};
 use journal_entries::{amend, has_room};
+use refusals::Refusal;
 
 // Append of times with an index in a buffer of its own; or, where none is handed, without one, and the buffer stays.
+// The buffer and its flag are no Option<&mut [u8]>: three forms were tried, and none proves at a caller what its buffer holds after the call.
 pub fn append_beside(
     v: &mut [u8],
     len: usize,
@@ -34,7 +34,7 @@ pub fn append_beside(
     index: &mut [u8],
     indexed: bool,
     asked: Asked,
-) -> Appended
+) -> Result<usize, AppendError>
     ensures index_after { outcome_with len result v.new (handed indexed index.new)
         ≡ append_of (record { slice = v.old; len = len })
         (request_by asked name.now chances.now (Request.times times.now) (handed indexed index.old)) }
@@ -55,20 +55,13 @@ fn append_indexed(
     times: &[u32],
     index: &mut [u8],
     asked: Asked,
-) -> Appended
+) -> Result<usize, AppendError>
     ensures { indexed_outcome len result v.new index.new ≡ append_of (record { slice = v.old; len = len })
         (request_by asked name.now chances.now (Request.times times.now) (some index.old)) }
 {
-    let rule = asked.rule;
-    let x = contents_of(v, len, 0, rule);
-    match x {
-        Contents::Stands {
-            records: _,
-            committed,
-            last,
-            shown: _,
-        } => extend_indexed(v, committed, last, name, chances, times, index, asked),
-        Contents::Damaged(f) => Appended::Damaged(f),
+    match contents_of(v, len, 0, asked.rule) {
+        Ok(c) => extend_indexed(v, c.committed, c.last, name, chances, times, index, asked),
+        Err(fault) => Err(AppendError::Damaged(fault)),
     }
 }
 
@@ -83,27 +76,22 @@ fn extend_indexed(
     times: &[u32],
     index: &mut [u8],
     asked: Asked,
-) -> Appended
+) -> Result<usize, AppendError>
     requires { Stands v.old committed (as_last last) }
     ensures { (len : ℕ) → indexed_outcome len result v.new index.new
         ≡ append_to (standing (placed_in (take committed v.old)) committed) (record { slice = v.old; len = len })
         (request_by asked name.now chances.now (Request.times times.now) (some index.old)) }
 {
-    let day = asked.day;
-    let rule = asked.rule;
     let nothing = Asked {
-        day,
         budget: Budget::UpTo(0),
-        rule,
+        ..asked
     };
     let judged = extend_by(v, committed, last, name, chances, times, nothing);
-    let refusal = refusal_of(judged);
-    if 0 < refusal {
-        return Appended::Declined(refusal);
+    if let Err(refusal) = refusal_of(judged) {
+        return Err(AppendError::Declined(refusal));
     }
-    let unfit = index_refusal(&v[..committed], name, index);
-    if 0 < unfit {
-        return Appended::Declined(unfit);
+    if let Err(refusal) = index_refusal(&v[..committed], name, index) {
+        return Err(AppendError::Declined(refusal));
     }
     extend_and_amend(v, committed, last, name, chances, times, index, asked)
 }
@@ -118,7 +106,7 @@ fn extend_and_amend(
     times: &[u32],
     index: &mut [u8],
     asked: Asked,
-) -> Appended
+) -> Result<usize, AppendError>
     requires stands { Stands v.old committed (as_last last) }
     requires index_value { first_of (append_refusals (length v.old) (placed_in (take committed v.old)) committed
         (request_by asked name.now chances.now (Request.times times.now) (some index.old))) ≡ 0 }
@@ -126,43 +114,40 @@ fn extend_and_amend(
         ≡ append_to (standing (placed_in (take committed v.old)) committed) (record { slice = v.old; len = len })
         (request_by asked name.now chances.now (Request.times times.now) (some index.old)) }
 {
-    let size = size_of(name, chances, times);
-    let budget = asked.budget;
-    let finished = is_finished(budget, size);
+    let finished = is_finished(asked.budget, size_of(name, chances, times));
     let r = extend_by(v, committed, last, name, chances, times, asked);
-    if !finished {
-        return r;
+    if finished {
+        amend(index, name, committed);
     }
-    amend(index, name, committed);
     r
 }
 
-// The number by which an answer declines, 0 where it does not.
-fn refusal_of(r: Appended) -> u32
-    ensures { result ≡ refusal_in (append_meaning r) }
+// What an answer declines by, if it does.
+#[tactic(auto, unfolding(journal::specs::Answers::append_meaning, crate::specs::Standing::refusal_in))]
+fn refusal_of(r: Result<usize, AppendError>) -> Result<(), Refusal>
+    ensures { MatchResult result (λ _. refusal_in (append_meaning r) ≡ 0) (λ f. r ≡ Err (AppendError.Declined f)) }
 {
     match r {
-        Appended::Extended(_) => 0,
-        Appended::Declined(n) => n,
-        Appended::DeclinedAt(_) => 0,
-        Appended::Damaged(_) => 0,
+        Err(AppendError::Declined(refusal)) => Err(refusal),
+        _ => Ok(()),
     }
 }
 
 // What is refused of an index for the records of some bytes, behind which one of the name is to stand: 14, 15, or nothing.
-fn index_refusal(b: &[u8], name: &[u8], index: &[u8]) -> u32
+fn index_refusal(b: &[u8], name: &[u8], index: &[u8]) -> Result<(), Refusal>
     requires { WholeBytes b.now }
-    ensures { (start : ℕ) → result ≡ first_of (judge_index (index_in b.now) index.now
+    ensures { (start : ℕ) → Judged result
+        (first_of (judge_index (index_in b.now) index.now
         ∷ judge_index_room (amend (record { name = name.entry.now; start = start }) (index_in b.now)) index.now
-        ∷ []) }
+        ∷ [])) }
 {
     if !is_own(b, index) {
-        return INDEX_REFUSAL;
+        return Err(Refusal::Index);
     }
     if !has_room(index, name) {
-        return INDEX_ROOM_REFUSAL;
+        return Err(Refusal::IndexRoom);
     }
-    0
+    Ok(())
 }
 
 // The bytes of the record that is offered: it has as many limits as chances.

@@ -8,7 +8,7 @@ ghost use Rattle.journal_spec.specs.Tests.{each};
 ghost use Rattle.journal_index.specs.Begun.{max_index, entry_ranges, is_begun};
 
 use crate::longest::MAX_INDEX;
-use journal_entries::{is_below, size_at};
+use journal_entries::{entry_at, is_below};
 use journal_parts::number_in;
 
 // The most entries: a record has 33 bytes or more.
@@ -30,35 +30,29 @@ pub fn is_begun(b: &[u8]) -> bool
     if MAX_INDEX < b.len() {
         return false;
     }
-    let mut left = number_so_far(b, 0, 2);
-    if MAX_ENTRIES < left {
+    let count = number_so_far(b, 0, 2);
+    if MAX_ENTRIES < count {
         return false;
     }
-    let mut low: usize = 0;
-    let mut low_end: usize = 0;
+    let mut low = &b[..0];
     let mut at: usize = 2;
-    while at < b.len() {
-        if left == 0 {
-            return false;
+    for _ in 0..count {
+        if b.len() <= at {
+            return true;
         }
         if !is_in_range(b, at) {
             return false;
         }
-        let size = size_at(b, at);
-        if size == 0 {
+        let Some(entry) = entry_at(b, at) else {
             return true;
-        }
-        let start = at + 2;
-        let end = at + size - 4;
-        if !is_below(&b[low..low_end], &b[start..end]) {
+        };
+        if !is_below(low, entry.name) {
             return false;
         }
-        low = start;
-        low_end = end;
-        at += size;
-        left -= 1;
+        low = entry.name;
+        at += entry.size();
     }
-    true
+    b.len() <= at
 }
 
 // Whether the entry at a place is in range, as far as it stands.
@@ -67,49 +61,27 @@ fn is_in_range(b: &[u8], at: usize) -> bool
     ensures { result ≡ entry_ranges b.now at }
 {
     let count = number_so_far(b, at, 2) as usize;
-    if count < 1 {
+    if !(1..=MAX_NAME).contains(&count) {
         return false;
     }
-    if MAX_NAME < count {
-        return false;
-    }
-    if !is_named(b, at + 2, count) {
-        return false;
-    }
-    number_so_far(b, at + 2 + count, 4) < MAX_LENGTH
+    is_named(b, at + 2, count) && number_so_far(b, at + 2 + count, 4) < MAX_LENGTH
 }
 
 // Whether so many bytes from a place on are those of a name, as far as they stand.
 fn is_named(b: &[u8], from: usize, count: usize) -> bool
-    requires { from + count ≤ 65_536 }
     ensures { result ≡ each (in_range min_byte max_byte) (take count (drop from b.now)) }
 {
-    if b.len() <= from {
-        return true;
-    }
-    let stands = b.len() - from;
-    if stands < count {
-        return are_visible(&b[from..]);
-    }
-    let end = from + count;
-    are_visible(&b[from..end])
+    let rest = b.get(from..).unwrap_or(&[]);
+    are_visible(&rest[..count.min(rest.len())])
 }
 
 // Whether each byte is one of a name's.
 fn are_visible(bytes: &[u8]) -> bool
     ensures { result ≡ each (in_range min_byte max_byte) bytes.now }
 {
-    let mut i: usize = 0;
-    while i < bytes.len() {
-        if bytes[i] < MIN_BYTE {
-            return false;
-        }
-        if MAX_BYTE < bytes[i] {
-            return false;
-        }
-        i += 1;
-    }
-    true
+    bytes
+        .iter()
+        .all(|&byte| MIN_BYTE <= byte && byte <= MAX_BYTE)
 }
 
 // The number in the w bytes at a place, as far as they stand.
@@ -117,12 +89,6 @@ fn number_so_far(b: &[u8], at: usize, w: usize) -> u64
     requires { w ≤ 8 }
     ensures { result ≡ number_at w at b.now }
 {
-    if b.len() < at {
-        return 0;
-    }
-    let stands = b.len() - at;
-    if stands < w {
-        return number_in(b, at, stands);
-    }
-    number_in(b, at, w)
+    let stands = b.len().saturating_sub(at);
+    number_in(b, at, w.min(stands))
 }

@@ -2,6 +2,9 @@
 // Nothing is assumed of the slices, the lengths or the buffers. Making and telling it takes an array of places on the stack.
 #![tactic(auto)]
 
+use journal::Fault;
+use refusals::Refusal;
+
 mod append;
 mod begun;
 mod log;
@@ -13,5 +16,12 @@ pub use append::append_beside;
 pub use begun::is_begun;
 pub use log::append_log_beside;
 pub use longest::{MAX_INDEX, index_room};
-pub use make::{INDEX_ROOM_REFUSAL, IndexMade, Scanned, make_index, scan_and_index};
-pub use own::{Checked, INDEX_REFUSAL, check_index};
+pub use make::{Scanned, make_index, scan_and_index};
+pub use own::check_index;
+
+// Why an index is not made, or is not the journal's: declined; or damaged, with the journal's first fault.
+#[derive(Clone, Copy, Debug, PartialEq, Eq)]
+pub enum IndexError {
+    Declined(Refusal),
+    Damaged(Fault),
+}

@@ -8,7 +8,7 @@ ghost use Rattle.journal.specs.Answers.{outcome_with};
 ghost use Rattle.journal_index.specs.Outcome.{handed};
 
 use crate::append::append_beside;
-use journal::{Appended, Asked, Fault};
+use journal::{AppendError, Asked, Fault};
 
 // The append of the times of the name in a log, with an index in a buffer of its own or without one.
 pub fn append_log_beside(
@@ -20,29 +20,18 @@ pub fn append_log_beside(
     index: &mut [u8],
     indexed: bool,
     asked: Asked,
-) -> Appended
+) -> Result<usize, AppendError>
     ensures index_after { outcome_with len result v.new (handed indexed index.new)
         ≡ append_of (record { slice = v.old; len = len })
         (request_by asked name.now chances.now (Request.log log.now) (handed indexed index.old)) }
     ensures index_unchanged { indexed ≡ false → index.new ≡ index.old }
 {
     let g = journal_log::gather(name, log);
-    let cursor = g.cursor;
-    let times = g.times;
-    let number = cursor.refusal;
-    let place = cursor.start;
-    let count = cursor.count;
-    if 0 < number {
-        return Appended::DeclinedAt(Fault { number, place });
+    match g.times() {
+        Ok(times) => append_beside(v, len, name, chances, times, index, indexed, asked),
+        Err(misread) => Err(AppendError::DeclinedAt(Fault {
+            refusal: misread.refusal,
+            place: misread.place,
+        })),
     }
-    append_beside(
-        v,
-        len,
-        name,
-        chances,
-        &times[..count],
-        index,
-        indexed,
-        asked,
-    )
 }

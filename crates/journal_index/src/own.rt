@@ -9,40 +9,26 @@ ghost use Rattle.journal_index.specs.Standing.{index_in};
 ghost use Rattle.journal_index.specs.Places.{entries_of, same_entries};
 ghost use Rattle.journal_index.specs.Checked.{check_meaning};
 
-use journal::{Contents, Fault, Rule, contents_of};
-use journal_entries::{is_entry, is_index, size_at};
-use journal_order::{Key, MOST, key_at, latest_of, wide};
+use crate::IndexError;
+use crate::make::name_at;
+use journal::{Rule, contents_of};
+use journal_entries::{entry_at, is_index};
+use journal_order::{Key, Keyed, MOST};
 use journal_parts::number_in;
-
-// Document 02's number for an index that is not the journal's.
-pub const INDEX_REFUSAL: u32 = 14;
-
-// The buffer begins with the journal's index; or declined, with the refusal's number; or damaged, with the journal's first fault.
-#[derive(Clone, Copy)]
-pub enum Checked {
-    Own,
-    Declined(u32),
-    Damaged(Fault),
-}
+use refusals::Refusal;
 
 // Whether a buffer begins with the index of the journal of a length in a slice.
-pub fn check_index(v: &[u8], len: usize, index: &[u8]) -> Checked
+pub fn check_index(v: &[u8], len: usize, index: &[u8]) -> Result<(), IndexError>
     ensures { check_meaning result ≡ check_index_of (record { slice = v.now; len = len }) index.now }
 {
-    let x = contents_of(v, len, 0, Rule::Plain);
-    match x {
-        Contents::Stands {
-            records: _,
-            committed,
-            last: _,
-            shown: _,
-        } => {
-            if is_own(&v[..committed], index) {
-                return Checked::Own;
+    match contents_of(v, len, 0, Rule::Plain) {
+        Ok(contents) => {
+            if !is_own(&v[..contents.committed], index) {
+                return Err(IndexError::Declined(Refusal::Index));
             }
-            Checked::Declined(INDEX_REFUSAL)
+            Ok(())
         }
-        Contents::Damaged(fault) => Checked::Damaged(fault),
+        Err(fault) => Err(IndexError::Damaged(fault)),
     }
 }
 
@@ -55,7 +41,11 @@ pub(crate) fn is_own(b: &[u8], index: &[u8]) -> bool
         return false;
     }
     let mut places: [u16; MOST] = [0; MOST];
-    let count = latest_of(b, Key::Name, &mut places);
+    let named = Keyed {
+        bytes: b,
+        key: Key::Name,
+    };
+    let count = named.latest_of(&mut places);
     has_entries(b, &places[..count], index)
 }
 
@@ -65,26 +55,18 @@ fn has_entries(b: &[u8], places: &[u16], index: &[u8]) -> bool
 {
     let mut left = number_in(index, 0, 2);
     let mut place: usize = 2;
-    let mut i: usize = 0;
-    while i < places.len() {
+    for &at in places {
         if left == 0 {
             return false;
         }
-        let size = size_at(index, place);
-        if size == 0 {
+        let Some(entry) = entry_at(index, place) else {
+            return false;
+        };
+        if !entry.is_entry(name_at(b, at), usize::from(at)) {
             return false;
         }
-        let at = wide(places[i]);
-        let name = key_at(b, Key::Name, at);
-        if !is_entry(index, place, size, name, at) {
-            return false;
-        }
-        place += size;
+        place += entry.size();
         left -= 1;
-        i += 1;
     }
-    if left == 0 {
-        return true;
-    }
-    size_at(index, place) == 0
+    left == 0 || entry_at(index, place).is_none()
 }

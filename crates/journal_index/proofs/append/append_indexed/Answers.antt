@@ -8,18 +8,17 @@ use Rattle.journal_index.proofs.append.append_indexed.Goals as goal
 
 pub extend_indexed-requires : goal.extend_indexed-requires
 extend_indexed-requires c =
-    let read = c.contents_of-x in
-    stands _ _ _ 0 read.result read.ensures (λ i. omega (arith, c.slice_known-1.given i)) _ _ _ _ c.in-Stands.is
+    let read = c.contents_of in
+    stands _ _ _ 0 read.result read.ensures (λ i. omega (arith, c.slice_known-1.given i)) _ c.in-Ok.is
 
-pub returns-in-Stands : goal.returns-in-Stands
+pub returns-in-Ok : goal.returns-in-Ok
 unfolding times_of gather_by
-returns-in-Stands c =
-    let read = c.contents_of-x in
-    appends _ _ _ 0 read.result read.ensures (λ i. omega (arith, c.slice_known-1.given i)) _ _ _ _ c.in-Stands.is _ _
-    refl refl _ (c.extend_indexed.ensures _)
+returns-in-Ok c =
+    let read = c.contents_of in
+    appends _ _ _ 0 read.result read.ensures (λ i. omega (arith, c.slice_known-1.given i)) _ c.in-Ok.is _ _ refl refl _ (c.extend_indexed.ensures _)
 
-pub returns-in-Damaged : goal.returns-in-Damaged
+pub returns-in-Err : goal.returns-in-Err
 unfolding times_of gather_by
-returns-in-Damaged c =
-    let read = c.contents_of-x in
-    appends_damaged _ _ _ 0 read.result read.ensures _ c.in-Damaged.is _ _ _ refl refl refl
+returns-in-Err c =
+    let read = c.contents_of in
+    appends_damaged _ _ _ 0 read.result read.ensures _ c.in-Err.is _ _ _ refl refl refl

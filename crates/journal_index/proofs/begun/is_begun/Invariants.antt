@@ -1,10 +1,9 @@
--- `is_begun` passes one entry a turn: those left decide. The measure is how many are left.
+-- `is_begun` passes one entry a turn: those left decide.
 -- Assumes nothing.
+use Prim.Native.Nat.{◌-◌}
+use Rattle.journal_spec.specs.Bytes.{number_at}
 use Rattle.journal_index.proofs.Beginning.{Beginning}
 use Rattle.journal_index.proofs.begun.is_begun.Given as goal
 
-abbrev pub invariant-loop-at : goal.invariant-loop-at
-invariant-loop-at l = Beginning l.b l.left l.low l.low_end l.at
-
-abbrev pub decreases-loop-at : goal.decreases-loop-at
-decreases-loop-at l = l.left
+abbrev pub invariant-loop : goal.invariant-loop
+invariant-loop l = Beginning l.b (number_at 2 0 l.b - l.counter) l.low l.at

@@ -2,4 +2,4 @@
 use Rattle.journal_index.proofs.make.make_index.Goals as goal
 
 pub returns : goal.returns
-returns c = c.scan_and_index-both.ensures.1
+returns c = c.scan_and_index.ensures.1

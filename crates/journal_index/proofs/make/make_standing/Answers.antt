@@ -9,19 +9,17 @@ use Rattle.journal_index.proofs.make.make_standing.Goals as goal
 pub slice_bounds-make_whole-end : goal.slice_bounds-make_whole-end
 slice_bounds-make_whole-end c =
     let v = c.args.v.now in
-    let u = upto v _ c.args.x c.requires (are_bytes v (λ i. omega (arith, c.type_inv.v i))) _ _ _ _ c.in-Stands.is in
+    let u = upto v _ c.args.x c.requires (are_bytes v (λ i. omega (arith, c.type_inv.v i))) _ c.in-Ok.is in
     sym (length-take-le _ _ u.fits)
 
 pub make_whole-requires : goal.make_whole-requires
 make_whole-requires c =
-    let v = c.args.v.now in
-    (upto v _ c.args.x c.requires (are_bytes v (λ i. omega (arith, c.type_inv.v i))) _ _ _ _ c.in-Stands.is).whole
+    let v = c.args.v.now in (upto v _ c.args.x c.requires (are_bytes v (λ i. omega (arith, c.type_inv.v i))) _ c.in-Ok.is).whole
 
-pub returns-in-Stands : goal.returns-in-Stands
-returns-in-Stands c =
+pub returns-in-Ok : goal.returns-in-Ok
+returns-in-Ok c =
     let v = c.args.v.now in
-    made_standing v _ c.args.x c.requires (are_bytes v (λ i. omega (arith, c.type_inv.v i))) _ _ _ _ c.in-Stands.is
-    _ _ c.make_whole.ensures
+    made_standing v _ c.args.x c.requires (are_bytes v (λ i. omega (arith, c.type_inv.v i))) _ c.in-Ok.is _ _ c.make_whole.ensures
 
-pub returns-in-Damaged : goal.returns-in-Damaged
-returns-in-Damaged c = made_damaged _ _ c.args.x c.requires _ c.in-Damaged.is _
+pub returns-in-Err : goal.returns-in-Err
+returns-in-Err c = made_damaged _ _ c.args.x c.requires _ c.in-Err.is _
