@@ -1,25 +1,20 @@
 -- Lines of fixed length: where one ends, a number in it, a count of them, and what they make of a state one after another.
 -- Assumes nothing.
-use Rattle.std.specs.Prelude.{ℕ, zero, suc, ◌+◌, ◌-◌, ◌^◌, min, cond, List, ltb, eqb, length, take, drop}
-use Rattle.text_digits.specs.declared.read.Number.{Number}
-use Rattle.text_digits.specs.declared.read.Number.TheVariants as N
-use Rattle.replay_lines.specs.declared.field.Field.{Field}
-use Rattle.replay_lines.specs.declared.field.Field.TheVariants as F
+use Rattle.std.specs.Prelude.{ℕ, zero, suc, ◌+◌, ◌-◌, ◌^◌, min, cond, List, ltb, eqb, length, take, drop, Option, None, Some, Result, Ok, Err}
+use Rattle.text_digits.specs.declared.read.HexError.{HexError}
 
 -- what reading found: the number, or none
-unfoldable pub field_of : Number → Field
-field_of (N.Value n) = F.Value n
-field_of N.TooWide = F.Nothing
-field_of N.Short = F.Nothing
-field_of (N.NoDigit place) = F.Nothing
+unfoldable pub field_of : Result ℕ HexError → Option ℕ
+field_of (Ok n) = Some n
+field_of (Err e) = None
 
 -- a field's number goes on; where there is none, the answer is the first argument
-unfoldable pub after_field : {A : Type 0} → A → Field → (ℕ → A) → A
-after_field none (F.Value n) next = next n
-after_field none F.Nothing next = none
+unfoldable pub after_field : {A : Type 0} → A → Option ℕ → (ℕ → A) → A
+after_field none (Some n) next = next n
+after_field none None next = none
 
 -- the numbers of three fields go on together; where one holds none, the answer is the first argument
-unfoldable pub after_three : {A : Type 0} → A → Field → Field → Field → (ℕ → ℕ → ℕ → A) → A
+unfoldable pub after_three : {A : Type 0} → A → Option ℕ → Option ℕ → Option ℕ → (ℕ → ℕ → ℕ → A) → A
 after_three none f g h next = after_field none f (λ x. after_field none g (λ y. after_field none h (λ z. next x y z)))
 
 -- the end of a line of so many bytes from a place on, or of the bytes

@@ -4,11 +4,9 @@ ghost use Rattle.std.specs.Prelude.{◌≡◌};
 ghost use Rattle.replay_lines.specs.Lines.{one_more};
 
 // One more.
+#[tactic(auto, using(std::proofs::lemmas::Bool::Decides::nat_tests), unfolding(crate::specs::Lines::one_more))]
 pub fn one_more(n: u64) -> u64
     ensures { result ≡ one_more n }
 {
-    if n < 0xffffffffffffffff {
-        return n + 1;
-    }
-    n
+    n.saturating_add(1)
 }

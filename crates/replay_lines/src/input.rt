@@ -24,18 +24,12 @@ pub fn read_full(rt: &HostRuntime, buf: &mut [u8]) -> usize
 fn read_some(input: &mut Stdin, buf: &mut [u8]) -> usize
     ensures { result ≤ length buf.new }
 {
-    match input.read(buf) {
-        Ok(n) => n,
-        Err(_) => 0,
-    }
+    input.read(buf).unwrap_or(0)
 }
 
 // Whether nothing more can be read, and no read failed.
 pub fn input_ended(rt: &HostRuntime) -> bool {
     let mut input = rt.stdin();
     let mut byte = [0u8; 1];
-    match input.read(&mut byte) {
-        Ok(n) => n == 0,
-        Err(_) => false,
-    }
+    matches!(input.read(&mut byte), Ok(0))
 }

@@ -10,8 +10,8 @@ mod report;
 mod tally;
 
 pub use count::one_more;
-pub use field::{Field, number_at};
+pub use field::number_at;
 pub use input::{input_ended, read_full};
 pub use place::line_end;
-pub use report::{is_read_to_end, print, print_malformed, print_number, print_verdict};
-pub use tally::{Tally, compared_more, malformed_more};
+pub use report::Output;
+pub use tally::Tally;

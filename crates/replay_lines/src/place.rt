@@ -3,15 +3,9 @@
 ghost use Rattle.std.specs.Prelude.{◌≡◌};
 ghost use Rattle.replay_lines.specs.Lines.{line_end};
 
-// The end of the line of `width` bytes that starts at a place, or where the bytes run out.
+// The end of the line of `width` bytes that starts at a place, or where the bytes run out. A slice has no `chunks` here that would cut the lines.
 pub fn line_end(at: usize, width: usize, len: usize) -> usize
     ensures { result ≡ line_end at width len }
 {
-    if len <= at {
-        return at;
-    }
-    if len - at < width {
-        return len;
-    }
-    at + width
+    at + width.min(len.saturating_sub(at))
 }

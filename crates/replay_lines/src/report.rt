@@ -1,67 +1,74 @@
 // What a program that replays lines writes to standard output.
 // What fails is said on standard error, with the program's name first.
 use crate::input::input_ended;
-use crate::tally::{Tally, malformed_more};
+use crate::tally::Tally;
 
-// A text.
-pub fn print(rt: &HostRuntime, program: &[u8], text: &[u8]) {
-    match rt.write_all(text) {
-        Ok(()) => {}
-        Err(_) => complain(rt, program, b": standard output cannot be written\n"),
+// Where a program writes, and its name.
+#[derive(Clone, Copy)]
+pub struct Output<'a> {
+    pub rt: &'a HostRuntime,
+    pub program: &'a [u8],
+}
+
+impl<'a> Output<'a> {
+    // A text.
+    pub fn print(&self, text: &[u8]) {
+        if self.rt.write_all(text).is_err() {
+            self.complain(b": standard output cannot be written\n");
+        }
     }
-}
 
-// A number in decimal.
-pub fn print_number(rt: &HostRuntime, program: &[u8], n: u64) {
-    match rt.print(n) {
-        Ok(()) => {}
-        Err(_) => complain(rt, program, b": standard output cannot be written\n"),
+    // A number in decimal.
+    pub fn print_number(&self, n: u64) {
+        if self.rt.print(n).is_err() {
+            self.complain(b": standard output cannot be written\n");
+        }
     }
-}
 
-// The line for a malformed line.
-pub fn print_malformed(rt: &HostRuntime, program: &[u8], t: Tally) {
-    print(rt, program, b"malformed line after ");
-    print_number(rt, program, t.compared);
-    print(rt, program, b" compared\n");
-}
-
-// The last line of the output. What cannot be read counts as a malformed line.
-pub fn print_verdict(rt: &HostRuntime, program: &[u8], t: Tally) {
-    if is_read_to_end(rt, program) {
-        print_tally(rt, program, t);
-    } else {
-        print_tally(rt, program, malformed_more(t));
+    // The line for a malformed line.
+    pub fn print_malformed(&self, t: Tally) {
+        self.print(b"malformed line after ");
+        self.print_number(t.compared);
+        self.print(b" compared\n");
     }
-}
 
-// Whether the input was read to its end; if not, that is said.
-pub fn is_read_to_end(rt: &HostRuntime, program: &[u8]) -> bool {
-    let ended = input_ended(rt);
-    if !ended {
-        complain(rt, program, b": standard input cannot be read to its end\n");
+    // The last line of the output. What cannot be read counts as a malformed line.
+    pub fn print_verdict(&self, t: Tally) {
+        self.print_tally(if self.is_read_to_end() {
+            t
+        } else {
+            t.malformed_more()
+        });
     }
-    ended
-}
 
-// The program's name and the counts.
-fn print_tally(rt: &HostRuntime, program: &[u8], t: Tally) {
-    print(rt, program, program);
-    print(rt, program, b": ");
-    print_number(rt, program, t.compared);
-    print(rt, program, b" compared, ");
-    print_number(rt, program, t.differ);
-    print(rt, program, b" differ");
-    if t.malformed > 0 {
-        print(rt, program, b", ");
-        print_number(rt, program, t.malformed);
-        print(rt, program, b" malformed");
+    // Whether the input was read to its end; if not, that is said.
+    pub fn is_read_to_end(&self) -> bool {
+        let ended = input_ended(self.rt);
+        if !ended {
+            self.complain(b": standard input cannot be read to its end\n");
+        }
+        ended
     }
-    print(rt, program, b"\n");
-}
 
-// What is wrong, on standard error.
-fn complain(rt: &HostRuntime, program: &[u8], what: &[u8]) {
-    let _ = rt.stderr().write_all(program);
-    let _ = rt.stderr().write_all(what);
+    // The program's name and the counts.
+    fn print_tally(&self, t: Tally) {
+        self.print(self.program);
+        self.print(b": ");
+        self.print_number(t.compared);
+        self.print(b" compared, ");
+        self.print_number(t.differ);
+        self.print(b" differ");
+        if t.malformed > 0 {
+            self.print(b", ");
+            self.print_number(t.malformed);
+            self.print(b" malformed");
+        }
+        self.print(b"\n");
+    }
+
+    // What is wrong, on standard error.
+    fn complain(&self, what: &[u8]) {
+        let _ = self.rt.stderr().write_all(self.program);
+        let _ = self.rt.stderr().write_all(what);
+    }
 }

@@ -19,26 +19,32 @@ impl Tally {
         differ: 0,
         malformed: 0,
     };
-}
 
-// A tally with one answer more, which is the same as expected or not.
-pub fn compared_more(t: Tally, same: bool) -> Tally
-    ensures { result ≡ compared_more t same }
-{
-    let mut r = t;
-    r.compared = one_more(t.compared);
-    if same {
-        return r;
+    // A tally with one answer more, which is the same as expected or not.
+    #[tactic(auto, unfolding(crate::specs::Tally::compared_more))]
+    pub fn compared_more(self, same: bool) -> Tally
+        ensures { result ≡ compared_more self same }
+    {
+        let differ = if same {
+            self.differ
+        } else {
+            one_more(self.differ)
+        };
+        Tally {
+            compared: one_more(self.compared),
+            differ,
+            ..self
+        }
     }
-    r.differ = one_more(t.differ);
-    r
-}
 
-// A tally with one malformed line more.
-pub fn malformed_more(t: Tally) -> Tally
-    ensures { result ≡ malformed_more t }
-{
-    let mut r = t;
-    r.malformed = one_more(t.malformed);
-    r
+    // A tally with one malformed line more.
+    #[tactic(auto, unfolding(crate::specs::Tally::malformed_more))]
+    pub fn malformed_more(self) -> Tally
+        ensures { result ≡ malformed_more self }
+    {
+        Tally {
+            malformed: one_more(self.malformed),
+            ..self
+        }
+    }
 }
