@@ -5,7 +5,7 @@ use Rattle.facts.proofs.Tests.{by_test_lem}
 use Rattle.facts.proofs.Orders.{by_order}
 use Rattle.pxfm.specs.Inverfc.{f_erfcinv_bits}
 use Rattle.law_mirror.proofs.Patterns.{mirror_patterns}
-use Rattle.replay_numbers.specs.Numbers.{distance_of, steps_above, steps_below, ten_thousandths, answer_of, value_of, measured_at, NeverDiffers}
+use Rattle.replay_numbers.specs.Numbers.{distance_of, steps_above, steps_below, ten_thousandths, measured_at, NeverDiffers}
 
 -- the same bits are at no distance
 pub no_distance : (b : ℕ) → distance_of b b 0 ≡ 0
@@ -58,6 +58,6 @@ beyond_differs a b =
     (λ e. rw e (some_units (distance_of a b 0) (some_distance a b e)))
 
 pub never_differs : (x : ℕ) → NeverDiffers x
-unfolding measured_at answer_of value_of
+unfolding measured_at
 never_differs x =
     record { same = λ a b. rw (← mirror_patterns x a b) (no_distance (f_erfcinv_bits x)) }

@@ -1,6 +1,6 @@
 // The distances of one group of lines: how many, the greatest and its place, and how many are beyond the bound.
 // The bound is in ten-thousandths of a unit.
-ghost use Rattle.std.specs.Prelude.{◌≡◌, max, if◌then◌else◌, nat_lt};
+ghost use Rattle.std.specs.Prelude.{◌≡◌, if◌then◌else◌, nat_lt};
 ghost use Rattle.replay_lines.specs.Lines.{one_more};
 ghost use Rattle.replay_numbers.specs.Numbers.{empty_group, grouped};
 
@@ -33,48 +33,34 @@ impl Group {
             beyond: 0,
         }
     }
-}
 
-// The group with one distance more.
-pub(crate) fn group_with(g: Group, x: u64, distance: u64) -> Group
-    ensures { result ≡ grouped g x distance }
-{
-    Group {
-        count: one_more(g.count),
-        nearest: one_more_if(distance <= 0x80000000, g.nearest),
-        greatest: greater(g.greatest, distance),
-        at: place_of(g.greatest, distance, g.at, x),
-        bound: g.bound,
-        beyond: one_more_if(g.bound < ten_thousandths(distance), g.beyond),
+    // The group with one distance more.
+    pub(crate) fn with(self, x: u64, distance: u64) -> Group
+        ensures { result ≡ grouped self x distance }
+    {
+        Group {
+            count: one_more(self.count),
+            nearest: one_more_if(distance <= 0x80000000, self.nearest),
+            greatest: self.greatest.max(distance),
+            at: self.x_of_greater(x, distance),
+            bound: self.bound,
+            beyond: one_more_if(self.bound < ten_thousandths(distance), self.beyond),
+        }
+    }
+
+    // The x of the greater distance, the first one's where they are equal.
+    #[tactic(auto, using(std::proofs::lemmas::Bool::Decides::nat_tests))]
+    fn x_of_greater(self, x: u64, distance: u64) -> u64
+        ensures { result ≡ (if nat_lt self.greatest distance then x else self.at) }
+    {
+        if self.greatest < distance { x } else { self.at }
     }
 }
 
 // One more where a test holds.
+#[tactic(auto, using(std::proofs::lemmas::Bool::Decides::nat_tests))]
 fn one_more_if(test: bool, n: u64) -> u64
     ensures { result ≡ (if test then one_more n else n) }
 {
-    if test {
-        return one_more(n);
-    }
-    n
-}
-
-// The greater of two distances.
-fn greater(a: u64, b: u64) -> u64
-    ensures { result ≡ max a b }
-{
-    if a < b {
-        return b;
-    }
-    a
-}
-
-// The x of the greater distance, the first one's where they are equal.
-fn place_of(greatest: u64, distance: u64, at: u64, x: u64) -> u64
-    ensures { result ≡ (if nat_lt greatest distance then x else at) }
-{
-    if greatest < distance {
-        return x;
-    }
-    at
+    if test { one_more(n) } else { n }
 }

@@ -4,138 +4,96 @@
 
 mod distance;
 mod group;
+mod kind;
 mod line;
 mod report;
 mod tally;
 
-ghost use Rattle.std.specs.Prelude.{◌≡◌, length};
-ghost use Rattle.replay_numbers.specs.Numbers.{no_lines};
-
-use group::Group;
-use line::{MALFORMED, NOTHING};
-use replay_lines::read_full;
-use report::{is_read_to_end, print, print_group, print_number, print_same};
+use kind::Kind;
+use replay_lines::{Output, read_full};
+use report::{print_group, print_same};
 use std::env::{Env, FillError};
-use tally::{Groups, count, tally_chunk};
+use tally::Groups;
 
-// What one read leads to: the groups, and whether more may come.
-#[derive(Clone, Copy)]
-struct Turn {
-    tally: Groups,
-    more: bool,
-}
+const PROGRAM: [u8; 14] = *b"replay_numbers";
+
+// Room for 90 lines.
+const ROOM: usize = 4050;
 
 fn main(rt: HostRuntime) {
+    let out = Output {
+        rt: &rt,
+        program: &PROGRAM,
+    };
     if has_words(&rt) {
-        print(&rt, b"usage: replay_numbers < NUMBERS\n");
-        print(
-            &rt,
+        out.print(b"usage: replay_numbers < NUMBERS\n");
+        out.print(
             b"A line is as tools/quantile-vectors, tools/mirror-arguments and tools/series write it: a letter, x, a double, the rest of the way.\n",
         );
         return;
     }
-    print(
-        &rt,
-        b"x below 1e-20 and the distance there in units of the last place, with no bound:\n",
-    );
-    verdict(&rt, finished(&rt, replay(&rt)));
+    out.print(b"x below 1e-20 and the distance there in units of the last place, with no bound:\n");
+    verdict(out, finished(out, replay(&rt, out)));
 }
 
 // Whether the program was given a word.
 fn has_words(rt: &HostRuntime) -> bool {
     let mut first = [0u8; 1];
-    match rt.arg(1, &mut first) {
-        Ok(_) => true,
-        Err(FillError::TooLong) => true,
-        Err(FillError::NotPresent) => false,
-    }
+    !matches!(rt.arg(1, &mut first), Err(FillError::NotPresent))
 }
 
-// Reads to the end of the input. A proved loop has to end, and nothing says that an input does:
-// the turns count down from a number that no run uses up.
-fn replay(rt: &HostRuntime) -> Groups {
-    let mut turn = Turn {
-        tally: start(),
-        more: true,
-    };
-    let mut turns = u64::MAX;
-    while turns > 0 && turn.more {
-        let tally = turn.tally;
-        turn = replay_some(rt, tally);
-        turns -= 1;
+// Reads to the end of the input, as many lines at a time as the buffer holds. Nothing says that an input ends: the turns come to an end that no run
+// reaches.
+fn replay(rt: &HostRuntime, out: Output) -> Groups {
+    let mut tally = Groups::none();
+    let mut buf = [0; ROOM];
+    for _ in 0..u64::MAX {
+        let n = read_full(rt, &mut buf);
+        tally = tally.tally_chunk(out, &buf[..n]);
+        if n < ROOM {
+            break;
+        }
     }
-    turn.tally
-}
-
-// No line yet. The bounds are in ten-thousandths of a unit of the last place.
-fn start() -> Groups
-    ensures { result.all ≡ no_lines }
-{
-    let same = Group::within(0);
-    let far = Group::within(0xffffffffffffffff);
-    let small = Group::within(11000);
-    let others = Group::within(5300);
-    Groups {
-        all: [same, same, far, small, others, others, others, same],
-    }
-}
-
-// Reads as many lines as the buffer holds, all but the last time.
-fn replay_some(rt: &HostRuntime, t: Groups) -> Turn {
-    let mut buf = lines_buffer();
-    let n = read_full(rt, &mut buf);
-    let tally = tally_chunk(rt, &buf[..n], t);
-    Turn {
-        tally,
-        more: n == 4050,
-    }
-}
-
-// Room for 90 lines.
-fn lines_buffer() -> [u8; 4050]
-    ensures { 4050 ≡ length result }
-{
-    [0; 4050]
+    tally
 }
 
 // What cannot be read counts as a malformed line.
-fn finished(rt: &HostRuntime, t: Groups) -> Groups {
-    if is_read_to_end(rt) {
-        return t;
+fn finished(out: Output, t: Groups) -> Groups {
+    if out.is_read_to_end() {
+        t
+    } else {
+        t.count(None)
     }
-    count(t, NOTHING)
 }
 
 // The groups, and the last line of the output.
-fn verdict(rt: &HostRuntime, t: Groups) {
-    let answers = t.all[0];
-    let mirror = t.all[1];
-    let far = t.all[2];
-    let small = t.all[3];
-    let others = t.all[4];
-    let chances = t.all[5];
-    let inverse = t.all[6];
-    let malformed = t.all[MALFORMED];
-    print_same(rt, b"the Rust's answers", answers);
-    print_same(rt, b"mirror", mirror);
-    print_group(rt, b"below 1e-20", far);
-    print_group(rt, b"from 1e-20", small);
-    print_group(rt, b"from 1.4e-11", others);
-    print_group(rt, b"chances", chances);
-    print_group(rt, b"inverse error function", inverse);
-    print(rt, b"replay_numbers: differ: ");
-    print_number(rt, answers.beyond);
-    print(rt, b" of the Rust's answers, ");
-    print_number(rt, mirror.beyond);
-    print(rt, b" of the mirror; beyond their bounds: ");
-    print_number(rt, chances.beyond);
-    print(rt, b" chances, ");
-    print_number(rt, others.beyond);
-    print(rt, b" from 1.4e-11, ");
-    print_number(rt, small.beyond);
-    print(rt, b" from 1e-20, ");
-    print_number(rt, inverse.beyond);
-    print(rt, b" of the inverse error function; ");
-    print_number(rt, malformed.count);
-    print(rt, b" malformed\n");
+fn verdict(out: Output, t: Groups) {
+    let answers = t.of(Kind::Answers);
+    let mirror = t.of(Kind::Mirror);
+    let small = t.of(Kind::Small);
+    let others = t.of(Kind::Others);
+    let chances = t.of(Kind::Chances);
+    let inverse = t.of(Kind::Inverse);
+    print_same(out, b"the Rust's answers", answers);
+    print_same(out, b"mirror", mirror);
+    print_group(out, b"below 1e-20", t.of(Kind::Far));
+    print_group(out, b"from 1e-20", small);
+    print_group(out, b"from 1.4e-11", others);
+    print_group(out, b"chances", chances);
+    print_group(out, b"inverse error function", inverse);
+    out.print(b"replay_numbers: differ: ");
+    out.print_number(answers.beyond);
+    out.print(b" of the Rust's answers, ");
+    out.print_number(mirror.beyond);
+    out.print(b" of the mirror; beyond their bounds: ");
+    out.print_number(chances.beyond);
+    out.print(b" chances, ");
+    out.print_number(others.beyond);
+    out.print(b" from 1.4e-11, ");
+    out.print_number(small.beyond);
+    out.print(b" from 1e-20, ");
+    out.print_number(inverse.beyond);
+    out.print(b" of the inverse error function; ");
+    out.print_number(t.malformed);
+    out.print(b" malformed\n");
 }

@@ -1,16 +1,19 @@
--- `replay_numbers::line::measure` tests the line's length and end. Assumes nothing.
-use Rattle.std.proofs.Common.{sym, ◌∙◌, eq-eqb, ne_eqb}
-use Rattle.replay_numbers.specs.Numbers.{nothing, measured_line}
+-- `measure` tests the line's length and end, and reads the letter. Assumes nothing.
+use Rattle.std.proofs.Common.{arith, sym, eq-eqb}
+use Rattle.std.proofs.lemmas.Bool.Decides.{nat_tests}
+use Rattle.replay_numbers.specs.Numbers.{measured_kind, measured_line}
 use Rattle.replay_numbers.proofs.line.measure.Goals as goal
 
 pub returns-then-line-ne45 : goal.returns-then-line-ne45
-unfolding measured_line nothing
-returns-then-line-ne45 c = rw (ne_eqb _ _ c.if-line-ne45.true)
+unfolding measured_line
+returns-then-line-ne45 c = grind (arith, nat_tests)
 
-pub returns-then-line-ne10 : goal.returns-then-line-ne10
-unfolding measured_line nothing
-returns-then-line-ne10 c = rw (eq-eqb _ _ c.if-line-ne45.false, ne_eqb _ _ c.if-line-ne10.true)
+pub returns-in_err-of : goal.returns-in_err-of
+unfolding measured_line measured_kind
+returns-in_err-of c =
+    rw (c.from_residual.ensures, eq-eqb _ _ c.if-line-ne45.false, eq-eqb _ _ c.if-line-ne10.false, sym c.in_err-of.ensures)
 
 pub returns : goal.returns
-unfolding measured_line
-returns c = c.measure_numbers.ensures ∙ sym (rw (eq-eqb _ _ c.if-line-ne45.false, eq-eqb _ _ c.if-line-ne10.false))
+unfolding measured_line measured_kind
+returns c =
+    rw (eq-eqb _ _ c.if-line-ne45.false, eq-eqb _ _ c.if-line-ne10.false, sym c.in_ok-of.ensures) c.measure_numbers.ensures
