@@ -1,11 +1,11 @@
 -- What the two passes keep: where they stand, and the length and the last form of what is made, or its bytes at the buffer's front; and
 -- what each step makes of that. Assumes nothing.
-use mathlib.Core.Path.{◌≡◌, refl, sym, ap, ◌∙◌}
+use mathlib.Core.Path.{◌≡◌, refl, ap, ◌∙◌}
 use Prim.Native.Nat.{ℕ, ◌+◌, ◌-◌, ◌≤◌, ◌<◌}
 use mathlib.Core.List.{List, [], ◌∷◌, ◌++◌}
 use native.Mathlib.Omega.{arith}
-use lib.ListN.{length, take, drop, length-drop}
-use lib.Seq.{append_snoc, length-take-le}
+use lib.ListN.{length}
+use lib.Seq.{append_snoc}
 use Rattle.text_digits.specs.Text.{Put}
 use Rattle.text_digits.proofs.Putting.{put_whole}
 use Rattle.journal_spec.specs.Record.{Record, record_bytes, records_bytes}
@@ -17,11 +17,11 @@ use Rattle.journal_spec.proofs.Whole.{WholeBytes}
 use Rattle.journal_merge_spec.specs.Records.{merged_of}
 use Rattle.journal_merge_spec.proofs.MergeLoop.{coming, Measured, measured_start, measured_next, measured_falls, measured_end}
 use Rattle.journal_merge_spec.proofs.MergeLoop.{Copied, copied_start, copied_next}
-use Rattle.journal_merge.specs.Records.{source_of}
-use Rattle.journal_merge.specs.Passes.{Reached, Somewhere, Took, Passed, measured_by, measured_of}
-use Rattle.journal_merge.specs.declared.parts.Part.{Part}
+use Rattle.journal_merge.specs.Passes.{Reached, Somewhere, Took, measured_by, measured_of}
 use Rattle.journal_merge.specs.declared.stepping.Places.{Places}
-use Rattle.journal_merge.specs.declared.measuring.Measured.TheVariants as M
+use Rattle.journal_merge.specs.declared.MergeError.TheVariants as E
+use Rattle.std.proofs.Common.{Ok, Err}
+use Rattle.refusals.specs.declared.Refusal.TheVariants.{OldForm}
 use Rattle.journal_merge.proofs.Steps.{start}
 
 -- the result, where a record is next
@@ -29,23 +29,14 @@ result_next : (a b : List ℕ) (after : Places) (made : List Record) (r : Record
     → merged_of (records_in a) (records_in b) ≡ made ++ r ∷ coming (records_in a) m.xs m.ys
 result_next a b after made r m = m.parts ∙ append_snoc made r _
 
--- the part's size is the record's
-took_size : (a b : List ℕ) (p : Places) (made : List Record) (part : Part) (after : Places) (t : Took a b p made part after)
-    → part.size ≡ length (record_bytes t.taken)
-took_size a b p made part after t =
-    sym (length-take-le part.size (drop part.start (source_of a b part)) (rw length-drop (omega (arith, t.inside)))) ∙ ap length t.bytes
-
 -- where a step leads
-abbrev took_there : (a b : List ℕ) (p : Places) (s : Somewhere a b p) (part : Part) (after : Places) → Took a b p s.made part after → Somewhere a b after
+abbrev took_there : (a b : List ℕ) (p : Places) (s : Somewhere a b p) (part : List ℕ) (after : Places) → Took a b p s.made part after → Somewhere a b after
 took_there a b p s part after t = record {
   first_whole = s.first_whole;
   second_whole = s.second_whole;
   made = s.made ++ t.taken ∷ [];
   reached = t.reached;
 }
-
-abbrev passed_there : (a b : List ℕ) (p : Places) (s : Somewhere a b p) (after : Places) → Passed a b p s.made after → Somewhere a b after
-passed_there a b p s after t = record { first_whole = s.first_whole; second_whole = s.second_whole; made = s.made; reached = t.reached }
 
 -- what is left of both journals, in bytes
 abbrev pub left_of : List ℕ → List ℕ → Places → ℕ
@@ -71,40 +62,33 @@ measuring_start a b w v = record {
 }
 
 module _ (a b : List ℕ) (p : Places) (n form : ℕ) (m : Measuring a b p n form) where
-  pub measuring_fits : (part : Part) (after : Places) → Took a b p m.there.made part after
-      → (n + part.size ≤ 131_072) × (left_of a b after < left_of a b p)
+  pub measuring_fits : (part : List ℕ) (after : Places) → Took a b p m.there.made part after
+      → (n + length part ≤ 131_072) × (left_of a b after < left_of a b p)
   measuring_fits part after t = (
     omega (arith, m.small, t.sum, t.reached.first.inside, t.reached.second.inside, m.there.first_whole.short, m.there.second_whole.short),
     left_less a b p after m.there.made _ m.there.reached t.reached (omega (arith, t.sum, t.positive)),
   )
 
   -- a record is next, whose form is f
-  module _ (part : Part) (after : Places) (t : Took a b p m.there.made part after) (f : ℕ) (e : f ≡ t.taken.form) where
-    pub measuring_falls : f < form → M.Falls n ≡ measured_of (merged_of (records_in a) (records_in b))
+  module _ (part : List ℕ) (after : Places) (t : Took a b p m.there.made part after) (f : ℕ) (e : f ≡ t.taken.form) where
+    pub measuring_falls : f < form → Err (E.DeclinedAt (record { refusal = OldForm; place = n })) ≡ measured_of (merged_of (records_in a) (records_in b))
     unfolding measured_of measured_by
     measuring_falls h =
         rw (result_next a b after m.there.made t.taken t.reached)
         (rw (measured_falls m.there.made n form t.taken _ m.measured (omega (arith, e)), measured_by) refl)
 
-    pub measuring_next : form ≤ f → Measuring a b after (n + part.size) f
+    pub measuring_next : form ≤ f → Measuring a b after (n + length part) f
     measuring_next h = record {
       there = took_there a b p m.there part after t;
-      measured = rw (e, took_size a b p m.there.made part after t) (measured_next m.there.made n form t.taken m.measured (omega (arith, e)));
+      measured = rw (e, ap length t.bytes) (measured_next m.there.made n form t.taken m.measured (omega (arith, e)));
       small = omega (arith, m.small, t.sum);
     }
 
-  pub measuring_passed : (after : Places) → Passed a b p m.there.made after → Measuring a b after n form
-  measuring_passed after t = record {
-    there = passed_there a b p m.there after t;
-    measured = m.measured;
-    small = omega (arith, m.small, t.further);
-  }
-
-  pub measuring_end : merged_of (records_in a) (records_in b) ≡ m.there.made → M.Length n ≡ measured_of (merged_of (records_in a) (records_in b))
+  pub measuring_end : merged_of (records_in a) (records_in b) ≡ m.there.made → Ok n ≡ measured_of (merged_of (records_in a) (records_in b))
   unfolding measured_of measured_by
   measuring_end h =
       let k = measured_end m.there.made n form m.measured in
-      rw h (rw (k.0, measured_by) (ap M.Length k.1))
+      rw h (rw (k.0, measured_by) (ap Ok k.1))
 
 -- ---- the second pass
 
@@ -130,7 +114,7 @@ lengths_append (x ∷ xs) ys = rw (lengths_append xs ys) (omega arith)
 
 module _ (a b buffer after : List ℕ) (p : Places) (n : ℕ) (m : Copying a b buffer after p n) where
   -- a record is next, and its part is put behind what is made
-  module _ (part : Part) (next : Places) (t : Took a b p m.there.made part next) where
+  module _ (part : List ℕ) (next : Places) (t : Took a b p m.there.made part next) where
     room_for_lem : n + length (record_bytes t.taken) ≤ length after
     room_for_lem =
         omega (
@@ -143,7 +127,7 @@ module _ (a b buffer after : List ℕ) (p : Places) (n : ℕ) (m : Copying a b b
           lengths_snoc m.there.made t.taken,
         )
 
-    pub copying_next : (after' : List ℕ) (n' : ℕ) → Put after n (take part.size (drop part.start (source_of a b part))) after' n'
+    pub copying_next : (after' : List ℕ) (n' : ℕ) → Put after n part after' n'
         → Copying a b buffer after' next n'
     copying_next after' n' q =
         let w = put_whole after n (record_bytes t.taken) after' n' (rw t.bytes at q) room_for_lem in
@@ -158,17 +142,5 @@ module _ (a b buffer after : List ℕ) (p : Places) (n : ℕ) (m : Copying a b b
     pub copying_less : left_of a b next < left_of a b p
     copying_less = left_less a b p next m.there.made _ m.there.reached t.reached (omega (arith, t.sum, t.positive))
 
-  pub copying_passed : (next : Places) → Passed a b p m.there.made next → Copying a b buffer after next n
-  copying_passed next t = record {
-    there = passed_there a b p m.there next t;
-    copied = m.copied;
-    size = m.size;
-    room = m.room;
-  }
-
   pub copying_end : merged_of (records_in a) (records_in b) ≡ m.there.made → after ≡ written buffer 0 (records_bytes (merged_of (records_in a) (records_in b)))
   copying_end h = rw h m.copied.bytes
-
--- a dropped record leaves less too
-pub passed_less : (a b : List ℕ) (p next : Places) (made : List Record) → Reached a b p made → Passed a b p made next → left_of a b next < left_of a b p
-passed_less a b p next made m t = left_less a b p next made made m t.reached t.further

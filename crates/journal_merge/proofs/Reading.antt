@@ -1,11 +1,11 @@
 -- What the counts of a record that stands at a place say, as the code reads them. Assumes nothing.
-use mathlib.Core.Path.{◌≡◌, refl}
-use Prim.Native.Nat.{ℕ, ◌+◌, ◌-◌, ◌≤◌, ◌<◌}
+use mathlib.Core.Path.{◌≡◌, ap}
+use Prim.Native.Nat.{ℕ, ◌+◌, ◌≤◌, ◌<◌}
 use mathlib.Core.List.{List, [], ◌∷◌}
-use mathlib.Core.Bool.{true, false}
 use native.Mathlib.Omega.{arith}
 use lib.ListN.{length, take, drop}
-use Rattle.text_digits.specs.Text.{Put}
+use Rattle.std.proofs.lemmas.List.{take-take}
+use Rattle.journal_spec.specs.Bytes.{value_of, number_at}
 use Rattle.journal_spec.specs.Record.{Record}
 use Rattle.journal_spec.specs.Scan.{max_length}
 use Rattle.journal_spec.proofs.Cursor.{Cursor, cursor_some}
@@ -15,31 +15,12 @@ use Rattle.journal_parts.specs.Front.{record_size}
 use Rattle.journal_parts.proofs.NumberStands.{number_stands}
 use Rattle.journal_parts.proofs.Parts.{Parts, cursor_parts}
 use Rattle.journal_parts.proofs.Front.{front_size}
-use Rattle.journal_merge.specs.Records.{Rest, AtRecord, source_of}
-use Rattle.journal_merge.specs.declared.parts.Part.{Part}
+use Rattle.journal_merge.specs.Records.{Rest, AtRecord}
 
--- the journal in which a part stands
-module _ (a b : List ℕ) (part : Part) where
-  pub source_first : part.first ≡ true → source_of a b part ≡ a
-  unfolding source_of
-  source_first h = rw h refl
-
-  pub source_second : part.first ≡ false → source_of a b part ≡ b
-  unfolding source_of
-  source_second h = rw h refl
-
-  -- its bytes, cut out between its start and its end
-  module _ (line : List ℕ) (n : ℕ) (after : List ℕ) (next : ℕ) where
-    between : part.start + part.size - part.start ≡ part.size
-    between = omega arith
-
-    pub put_first : part.first ≡ true → Put line n (take (part.start + part.size - part.start) (drop part.start a)) after next
-        → Put line n (take part.size (drop part.start (source_of a b part))) after next
-    put_first h = rw (between, source_first h) (λ x. x)
-
-    pub put_second : part.first ≡ false → Put line n (take (part.start + part.size - part.start) (drop part.start b)) after next
-        → Put line n (take part.size (drop part.start (source_of a b part))) after next
-    put_second h = rw (between, source_second h) (λ x. x)
+-- a number at the front of some bytes, by the first of them
+pub front_number : (b : List ℕ) (at n : ℕ) → 2 ≤ n → number_at 2 0 (take n (drop at b)) ≡ number_at 2 at b
+unfolding number_at
+front_number b at n h = ap value_of (take-take 2 n (drop at b) h)
 
 -- there is a record where there are bytes left
 pub at_record : (b : List ℕ) (at : ℕ) (left : List Record) → Cursor b at left → length b ≤ max_length → at < length b → AtRecord b at

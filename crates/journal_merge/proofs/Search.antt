@@ -22,8 +22,8 @@ use Rattle.journal_order.specs.Starts.{starts_from, starts_in}
 use Rattle.journal_order.specs.Keys.{key_at}
 use Rattle.journal_order.specs.Sorted.{having, last_in, last_having, place_meaning}
 use Rattle.journal_order.specs.declared.keys.Key.TheVariants as K
-use Rattle.journal_order.specs.declared.halving.Place.{Place}
-use Rattle.journal_order.specs.declared.halving.Place.TheVariants as P
+use Rattle.std.specs.Option.{is_some}
+use Rattle.std.specs.Prelude as P
 use Rattle.journal_order.proofs.Having.{last_where}
 use Rattle.journal_merge.specs.Records.{ByBytes}
 
@@ -32,6 +32,11 @@ use Rattle.journal_merge.specs.Records.{ByBytes}
 unfoldable is_there : Option ℕ → Bool
 is_there none = false
 is_there (some p) = true
+
+there_told : (x : P.Option ℕ) → is_some x ≡ is_there (place_meaning x)
+unfolding place_meaning is_there
+there_told (P.Some p) = refl
+there_told P.None = refl
 
 -- the same bytes, or none
 there_or : (o : Order) (p : ℕ) (x : Option ℕ) (t : Bool) → (o ≡ equal → t ≡ true) → ((o ≡ equal → ⊥) → t ≡ false)
@@ -75,15 +80,11 @@ module _ (b bytes : List ℕ) where
       ∙ ap is_there (sym (last_where o at rest))
 
   module _ (places : List ℕ) (w : ByBytes b places) where
-    found_is : (found : Place) → place_meaning found ≡ last_having key bytes places → is_there (place_meaning found) ≡ is_among (records_in b) bytes
+    found_is : (found : Option ℕ) → found ≡ last_having key bytes places → is_there found ≡ is_among (records_in b) bytes
     unfolding starts_in
     found_is found e =
         ap is_there (e ∙ w.latest.last bytes) ∙ sym (among_from 0 (records_in b) w.whole.cursor)
 
-    pub found_there : (found : Place) (p : ℕ) → place_meaning found ≡ last_having key bytes places → found ≡ P.At p → true ≡ is_among (records_in b) bytes
-    unfolding place_meaning is_there
-    found_there found p e f = ap (λ (x : Place). is_there (place_meaning x)) (sym f) ∙ found_is found e
-
-    pub found_absent : (found : Place) → place_meaning found ≡ last_having key bytes places → found ≡ P.Absent → false ≡ is_among (records_in b) bytes
-    unfolding place_meaning is_there
-    found_absent found e f = ap (λ (x : Place). is_there (place_meaning x)) (sym f) ∙ found_is found e
+    -- by what the code was told
+    pub found_told : (found : P.Option ℕ) → place_meaning found ≡ last_having key bytes places → is_some found ≡ is_among (records_in b) bytes
+    found_told found e = there_told found ∙ found_is (place_meaning found) e

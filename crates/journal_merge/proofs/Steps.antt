@@ -1,6 +1,6 @@
 -- What each step makes of a pass: by which journal's record is next, and by whether one of the second stands in the first. Assumes nothing.
-use mathlib.Core.Path.{◌≡◌, refl, sym, ◌∙◌}
-use Prim.Native.Nat.{ℕ, ◌+◌, ◌-◌, ◌≤◌, ◌<◌}
+use mathlib.Core.Path.{◌≡◌, refl, sym, ap, ◌∙◌}
+use Prim.Native.Nat.{ℕ, ◌+◌, ◌≤◌, ◌<◌}
 use mathlib.Core.List.{List, [], ◌∷◌, ◌++◌, append-nil}
 use mathlib.Core.Bool.{Bool, true, false}
 use native.Mathlib.Omega.{arith}
@@ -21,10 +21,12 @@ use Rattle.journal_merge_spec.specs.Records.{is_among, is_twin, merged_of}
 use Rattle.journal_merge_spec.proofs.ByDay.{HeadFrom, DaysFrom}
 use Rattle.journal_merge_spec.proofs.Following.{follow_days}
 use Rattle.journal_merge_spec.proofs.MergeLoop.{HeadAfter, coming, coming_none, turn_first, turn_dropped, turn_second}
-use Rattle.journal_merge.specs.Records.{Rest, AtRecord, source_of}
+use Rattle.journal_merge.specs.Records.{Rest, AtRecord}
 use Rattle.journal_merge.specs.Passes.{first_next, Reached, Somewhere, Took, Passed}
 use Rattle.journal_merge.specs.declared.stepping.Places.{Places}
-use Rattle.journal_merge.proofs.Reading.{at_record, form_read}
+use Rattle.journal_spec.specs.Bytes.{number_at}
+use Rattle.journal_parts.proofs.NumberStands.{number_stands}
+use Rattle.journal_merge.proofs.Reading.{at_record, front_number}
 
 -- a whole journal's days do not fall
 whole_days : (b : List ℕ) → WholeBytes b → DaysFrom 0 (records_in b)
@@ -119,121 +121,132 @@ coming_of : (first xs ys xs' ys' now rest : List Record) (result : List Record) 
     → coming first xs' ys' ≡ rest → result ≡ now ++ rest
 coming_of first xs ys xs' ys' now rest result e f g h = e ∙ rw (f, g, h) refl
 
--- the part in which a record stands
-module _ (c : List ℕ) (at size : ℕ) (r : Record) (rs : List Record) (d : Cursor c at (r ∷ rs)) (e : size ≡ record_size (drop at c)) where
-  size_is : size ≡ length (record_bytes r)
-  size_is = e ∙ front_size c at r rs d
+-- the bytes of the record at a place
+module _ (c : List ℕ) (at : ℕ) (part : List ℕ) (r : Record) (rs : List Record) (d : Cursor c at (r ∷ rs))
+    (e : part ≡ take (record_size (drop at c)) (drop at c)) where
+  part_is : part ≡ record_bytes r
+  part_is = e ∙ ap (λ (n : ℕ). take n (drop at c)) (front_size c at r rs d) ∙ cursor_part c at r rs d
 
-  part_is : take size (drop at c) ≡ record_bytes r
-  part_is = rw size_is (cursor_part c at r rs d)
+  part_next : Cursor c (at + length part) rs
+  part_next = rw part_is (cursor_next c at r rs d)
 
-  part_next : Cursor c (at + size) rs
-  part_next = rw size_is (cursor_next c at r rs d)
+  part_inside : (at + length part ≤ length c) × (0 < length part)
+  part_inside = let k = cursor_parts c at r rs d in (omega (arith, k.inside, ap length part_is), omega (arith, k.length', ap length part_is))
 
-  part_inside : (at + size ≤ length c) × (0 < size)
-  part_inside = let k = cursor_parts c at r rs d in (omega (arith, k.inside, size_is), omega (arith, k.length', size_is))
+  part_form : number_in 2 0 part ≡ r.form
+  part_form =
+      let k = cursor_parts c at r rs d in
+      let n : 2 ≤ length part = omega (arith, k.length', ap length part_is) in
+      let m : 2 ≤ record_size (drop at c) = omega (arith, k.length', front_size c at r rs d) in
+      number_stands 2 0 part (omega arith) (omega arith) ∙ ap (number_at 2 0) e ∙ front_number c at (record_size (drop at c)) m ∙ k.form
 
-  part_form : length c ≤ 65_536 → number_in 2 at c ≡ r.form
-  part_form s = form_read c at (record { first = r; others = rs; cursor = d; short = s }) ∙ (cursor_parts c at r rs d).form
+module _ (a b : List ℕ) (from : Places) where
+  pub passed_none : Passed a b from from
+  passed_none = record { further = omega arith; reached = λ made m. m }
 
-module _ (a b : List ℕ) (p : Places) (made : List Record) (w : WholeBytes a) (v : WholeBytes b) (m : Reached a b p made) where
-  -- none is left
-  pub stepped_done : first_next a b p.first p.second ≡ false → length b ≤ p.second → merged_of (records_in a) (records_in b) ≡ made
-  stepped_done h k =
-      let e = is_none a b p.first p.second m.xs m.ys m.first m.second h k in
-      coming_of (records_in a) m.xs m.ys [] [] made [] _ m.parts e.0 e.1 (coming_none (records_in a)) ∙ append-nil made
+  module _ (s : Somewhere a b from) (at : Places) (q : Passed a b from at) where
+    pub there : Somewhere a b at
+    there = record {
+      first_whole = s.first_whole;
+      second_whole = s.second_whole;
+      made = s.made;
+      reached = q.reached s.made s.reached;
+    }
 
-  module _ (size : ℕ) where
-    -- the first journal's record
-    pub stepped_first : first_next a b p.first p.second ≡ true → size ≡ record_size (drop p.first a)
-        → Took a b p made (record { first = true; start = p.first; size = size })
-        (record { first = p.first + size; second = p.second })
-    unfolding source_of
-    stepped_first h e =
-        let f = is_first a b p.first p.second m.xs m.ys m.first m.second h in
-        let c : Cursor a p.first (f.x ∷ f.rest) = rw f.is at m.first in
-        let k = part_inside a p.first size f.x f.rest c e in
-        record {
-          taken = f.x;
-          positive = k.1;
-          inside = k.0;
-          short = omega (arith, k.0, w.short);
-          bytes = part_is a p.first size f.x f.rest c e;
-          form = part_form a p.first size f.x f.rest c e w.short;
-          sum = omega arith;
-          reached = record {
-            xs = f.rest;
-            ys = m.ys;
-            first = part_next a p.first size f.x f.rest c e;
-            second = m.second;
-            parts =
-                coming_of (records_in a) m.xs m.ys (f.x ∷ f.rest) m.ys made _ _ m.parts f.is refl
-                (turn_first (records_in a) m.day f.x f.rest m.ys f.head m.days)
-                ∙ sym (append_snoc made f.x _);
-            day = m.day;
-            days = m.days;
-          };
-        }
+    -- none is left
+    pub stepped_done : first_next a b at.first at.second ≡ false → length b ≤ at.second → (made : List Record) → Reached a b from made
+        → merged_of (records_in a) (records_in b) ≡ made
+    stepped_done h k made m' =
+        let m = q.reached made m' in
+        let e = is_none a b at.first at.second m.xs m.ys m.first m.second h k in
+        coming_of (records_in a) m.xs m.ys [] [] made [] _ m.parts e.0 e.1 (coming_none (records_in a)) ∙ append-nil made
 
-    -- the second's
-    module _ (h : first_next a b p.first p.second ≡ false) (k : p.second < length b) (e : size ≡ record_size (drop p.second b)) where
-      next : IsSecond m.xs m.ys
-      next = is_second a b p.first p.second m.xs m.ys m.first m.second h k
-
-      cursor : Cursor b p.second (next.y ∷ next.rest)
-      cursor = rw next.is at m.second
-
-      days : DaysFrom m.day (next.y ∷ next.rest)
-      days = rw next.is at m.days
-
-      -- its bytes
-      abbrev part : List ℕ
-      part = take (p.second + size - p.second) (drop p.second b)
-
-      part_bytes : part ≡ record_bytes next.y
-      part_bytes =
-          let n : p.second + size - p.second ≡ size = omega arith in
-          rw n (part_is b p.second size next.y next.rest cursor e)
-
-      after : (now : List Record) → merged_of (records_in a) (records_in b) ≡ now ++ coming (records_in a) m.xs next.rest
-          → Reached a b (record { first = p.first; second = p.second + size }) now
-      after now parts = record {
-        xs = m.xs;
-        ys = next.rest;
-        first = m.first;
-        second = part_next b p.second size next.y next.rest cursor e;
-        parts = parts;
-        day = next.y.day;
-        days = days.1;
-      }
-
-      twin : (t : Bool) → is_among (records_in a) part ≡ t → is_twin (records_in a) next.y ≡ t
-      twin t q = rw (← part_bytes) q
-
-      pub stepped_dropped : is_among (records_in a) part ≡ true → Passed a b p made (record { first = p.first; second = p.second + size })
-      stepped_dropped q = record {
-        further = omega (arith, (part_inside b p.second size next.y next.rest cursor e).1);
-        reached =
-            after made
-            (coming_of (records_in a) m.xs m.ys m.xs (next.y ∷ next.rest) made _ _ m.parts refl next.is
-            (turn_dropped (records_in a) m.xs next.y next.rest (twin true q)));
-      }
-
-      pub stepped_second : is_among (records_in a) part ≡ false
-          → Took a b p made (record { first = false; start = p.second; size = size }) (record { first = p.first; second = p.second + size })
-      unfolding source_of
-      stepped_second q =
-          let i = part_inside b p.second size next.y next.rest cursor e in
+    module _ (part : List ℕ) where
+      -- the first journal's record
+      pub stepped_first : first_next a b at.first at.second ≡ true → part ≡ take (record_size (drop at.first a)) (drop at.first a)
+          → (made : List Record) → Reached a b from made → Took a b from made part (record { first = at.first + length part; second = at.second })
+      stepped_first h e made m' =
+          let m = q.reached made m' in
+          let f = is_first a b at.first at.second m.xs m.ys m.first m.second h in
+          let c : Cursor a at.first (f.x ∷ f.rest) = rw f.is at m.first in
           record {
+            taken = f.x;
+            bytes = part_is a at.first part f.x f.rest c e;
+            positive = (part_inside a at.first part f.x f.rest c e).1;
+            form = part_form a at.first part f.x f.rest c e;
+            sum = omega (arith, q.further);
+            reached = record {
+              xs = f.rest;
+              ys = m.ys;
+              first = part_next a at.first part f.x f.rest c e;
+              second = m.second;
+              parts =
+                  coming_of (records_in a) m.xs m.ys (f.x ∷ f.rest) m.ys made _ _ m.parts f.is refl
+                  (turn_first (records_in a) m.day f.x f.rest m.ys f.head m.days)
+                  ∙ sym (append_snoc made f.x _);
+              day = m.day;
+              days = m.days;
+            };
+          }
+
+      -- the second's
+      module _ (h : first_next a b at.first at.second ≡ false) (k : at.second < length b)
+          (e : part ≡ take (record_size (drop at.second b)) (drop at.second b)) where
+        module _ (made : List Record) (m' : Reached a b from made) where
+          abbrev m : Reached a b at made
+          m = q.reached made m'
+
+          next : IsSecond m.xs m.ys
+          next = is_second a b at.first at.second m.xs m.ys m.first m.second h k
+
+          cursor : Cursor b at.second (next.y ∷ next.rest)
+          cursor = rw next.is at m.second
+
+          days : DaysFrom m.day (next.y ∷ next.rest)
+          days = rw next.is at m.days
+
+          bytes_are : part ≡ record_bytes next.y
+          bytes_are = part_is b at.second part next.y next.rest cursor e
+
+          after : (now : List Record) → merged_of (records_in a) (records_in b) ≡ now ++ coming (records_in a) m.xs next.rest
+              → Reached a b (record { first = at.first; second = at.second + length part }) now
+          after now parts = record {
+            xs = m.xs;
+            ys = next.rest;
+            first = m.first;
+            second = part_next b at.second part next.y next.rest cursor e;
+            parts = parts;
+            day = next.y.day;
+            days = days.1;
+          }
+
+          twin : (t : Bool) → is_among (records_in a) part ≡ t → is_twin (records_in a) next.y ≡ t
+          twin t x = rw (← bytes_are) x
+
+          dropped : is_among (records_in a) part ≡ true → Reached a b (record { first = at.first; second = at.second + length part }) made
+          dropped x =
+              after made
+              (coming_of (records_in a) m.xs m.ys m.xs (next.y ∷ next.rest) made _ _ m.parts refl next.is
+              (turn_dropped (records_in a) m.xs next.y next.rest (twin true x)))
+
+          pub stepped_second : is_among (records_in a) part ≡ false
+              → Took a b from made part (record { first = at.first; second = at.second + length part })
+          stepped_second x = record {
             taken = next.y;
-            positive = i.1;
-            inside = i.0;
-            short = omega (arith, i.0, v.short);
-            bytes = part_is b p.second size next.y next.rest cursor e;
-            form = part_form b p.second size next.y next.rest cursor e v.short;
-            sum = omega arith;
+            bytes = bytes_are;
+            positive = (part_inside b at.second part next.y next.rest cursor e).1;
+            form = part_form b at.second part next.y next.rest cursor e;
+            sum = omega (arith, q.further);
             reached = after (made ++ next.y ∷ [])
                 (coming_of (records_in a) m.xs m.ys m.xs (next.y ∷ next.rest) made _ _ m.parts refl next.is
-                (turn_second (records_in a) m.xs next.y next.rest (twin false q) next.head)
+                (turn_second (records_in a) m.xs next.y next.rest (twin false x) next.head)
                 ∙ sym (append_snoc made next.y _));
           }
+
+        pub second_inside : (at.second + length part ≤ length b) × (0 < length part)
+        second_inside =
+            let n = next s.made s.reached in
+            part_inside b at.second part n.y n.rest (cursor s.made s.reached) e
+
+        pub stepped_dropped : is_among (records_in a) part ≡ true → Passed a b from (record { first = at.first; second = at.second + length part })
+        stepped_dropped x = record { further = omega (arith, q.further); reached = λ made m. dropped made m x }

@@ -1,9 +1,9 @@
 -- A pass over both journals: where it stands, what a step comes to, and what the passes answer.
 -- Assumes nothing.
-use Rattle.std.specs.Prelude.{◌≡◌, ℕ, ◌+◌, ◌≤◌, ◌<◌, List, [], ◌∷◌, ◌++◌, Bool, true, false, cond, length, take, drop, leb}
+use Rattle.std.specs.Prelude.{◌≡◌, ℕ, ◌+◌, ◌≤◌, ◌<◌, List, [], ◌∷◌, ◌++◌, Bool, true, false, cond, length, leb, Result, Ok, Err}
 use Rattle.std.proofs.Math.Option.{Option, none, some}
+use Rattle.refusals.specs.declared.Refusal.TheVariants.{OldForm}
 use Rattle.journal_spec.specs.Record.{Record, record_bytes}
-use Rattle.journal_spec.specs.Scan.{max_length}
 use Rattle.journal_spec.specs.Model.{lengths_of}
 use Rattle.journal_spec.specs.Cursor.{records_in}
 use Rattle.journal_spec.proofs.Cursor.{Cursor}
@@ -13,13 +13,9 @@ use Rattle.journal_parts.specs.Spans.{day_at}
 use Rattle.journal_merge_spec.specs.Records.{undropped, by_day, merged_of, fall_from}
 use Rattle.journal_merge_spec.specs.Merge.{MergeOutcome, fall_of, room_of, first_refusal, settle_merge}
 use Rattle.journal_merge_spec.proofs.ByDay.{DaysFrom}
-use Rattle.journal_merge.specs.Records.{source_of}
-use Rattle.journal_merge.specs.declared.parts.Part.{Part}
 use Rattle.journal_merge.specs.declared.stepping.Places.{Places}
-use Rattle.journal_merge.specs.declared.stepping.Step.{Step}
-use Rattle.journal_merge.specs.declared.stepping.Step.TheVariants as S
-use Rattle.journal_merge.specs.declared.measuring.Measured.{Measured}
-use Rattle.journal_merge.specs.declared.measuring.Measured.TheVariants as M
+use Rattle.journal_merge.specs.declared.MergeError.{MergeError}
+use Rattle.journal_merge.specs.declared.MergeError.TheVariants as E
 
 -- the first journal's record at the place i is next, where the second's next is at j
 unfoldable pub first_next : List ℕ → List ℕ → ℕ → ℕ → Bool
@@ -46,36 +42,28 @@ pub record Somewhere (a b : List ℕ) (p : Places) : Type 0 where
 
 -- ---- a step
 
--- a record is next in the result, and stands in a part
-pub record Took (a b : List ℕ) (p : Places) (made : List Record) (part : Part) (after : Places) : Type 0 where
+-- a record is next in the result, and these are its bytes; records that are dropped may stand before it
+pub record Took (a b : List ℕ) (p : Places) (made : List Record) (part : List ℕ) (after : Places) : Type 0 where
   pub taken : Record
-  pub positive : 0 < part.size
-  pub inside : part.start + part.size ≤ length (source_of a b part)
-  pub short : part.start + part.size ≤ max_length
-  pub bytes : take part.size (drop part.start (source_of a b part)) ≡ record_bytes taken
-  pub form : number_in 2 part.start (source_of a b part) ≡ taken.form
-  pub sum : after.first + after.second ≡ p.first + p.second + part.size
+  pub bytes : part ≡ record_bytes taken
+  pub positive : 0 < length part
+  pub form : number_in 2 0 part ≡ taken.form
+  pub sum : p.first + p.second + length part ≤ after.first + after.second
   pub reached : Reached a b after (made ++ taken ∷ [])
 
--- one is dropped
-pub record Passed (a b : List ℕ) (p : Places) (made : List Record) (after : Places) : Type 0 where
-  pub further : p.first + p.second < after.first + after.second
-  pub reached : Reached a b after made
-
--- what a step says, where these records are made
-abbrev pub Stepped : List ℕ → List ℕ → Places → List Record → Step → Type 0
-Stepped a b p made (S.Take part after) = Took a b p made part after
-Stepped a b p made (S.Drop after) = Passed a b p made after
-Stepped a b p made S.Done = merged_of (records_in a) (records_in b) ≡ made
+-- records are dropped
+pub record Passed (a b : List ℕ) (p : Places) (after : Places) : Type 0 where
+  pub further : p.first + p.second ≤ after.first + after.second
+  pub reached : (made : List Record) → Reached a b p made → Reached a b after made
 
 -- ---- what the passes answer
 
 -- the first, by where forms fall
-unfoldable pub measured_by : Option ℕ → ℕ → Measured
-measured_by none n = M.Length n
-measured_by (some p) n = M.Falls p
+unfoldable pub measured_by : Option ℕ → ℕ → Result ℕ MergeError
+measured_by none n = Ok n
+measured_by (some p) n = Err (E.DeclinedAt (record { refusal = OldForm; place = p }))
 
-unfoldable pub measured_of : List Record → Measured
+unfoldable pub measured_of : List Record → Result ℕ MergeError
 measured_of rs = measured_by (fall_from 0 0 rs) (lengths_of rs)
 
 -- the merge of two whole journals: the last rows alone

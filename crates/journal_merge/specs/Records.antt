@@ -1,6 +1,6 @@
 -- Places in the bytes of a whole journal at which records stand.
 -- Assumes nothing.
-use Rattle.std.specs.Prelude.{ℕ, ◌≤◌, List, ◌∷◌, cond, length}
+use Rattle.std.specs.Prelude.{ℕ, ◌≤◌, List, ◌∷◌, length}
 use Rattle.journal_spec.specs.Record.{Record}
 use Rattle.journal_spec.specs.Scan.{max_length}
 use Rattle.journal_spec.proofs.Cursor.{Cursor}
@@ -9,7 +9,6 @@ use Rattle.journal_order.specs.Starts.{starts_in}
 use Rattle.journal_order.specs.Keys.{key_at}
 use Rattle.journal_order.specs.Sorted.{LatestOf}
 use Rattle.journal_order.specs.declared.keys.Key.TheVariants as K
-use Rattle.journal_merge.specs.declared.parts.Part.{Part}
 
 -- records stand from the place `at` on, to the end of the bytes
 pub record Rest (b : List ℕ) (at : ℕ) : Type 0 where
@@ -28,7 +27,3 @@ pub record AtRecord (b : List ℕ) (at : ℕ) : Type 0 where
 pub record ByBytes (b places : List ℕ) : Type 0 where
   pub whole : WholeBytes b
   pub latest : LatestOf (key_at K.Record b) (starts_in b) places
-
--- the journal in which a part stands
-unfoldable pub source_of : List ℕ → List ℕ → Part → List ℕ
-source_of a b part = cond part.first a b

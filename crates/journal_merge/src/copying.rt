@@ -9,8 +9,8 @@ ghost use Rattle.journal_spec.proofs.Whole.{WholeBytes};
 ghost use Rattle.journal_merge_spec.specs.Records.{merged_of};
 ghost use Rattle.journal_merge.specs.Records.{ByBytes};
 
-use crate::parts::put_part;
-use crate::stepping::{Places, Step, next_step};
+use crate::stepping::{Places, Taken, next_record};
+use text_digits::put;
 
 pub(crate) fn copy(a: &[u8], b: &[u8], sorted: &[u16], out: &mut [u8])
     requires { WholeBytes a.now × WholeBytes b.now × (lengths_of (merged_of (records_in a.now) (records_in b.now)) ≤ length out.old)
@@ -23,17 +23,8 @@ pub(crate) fn copy(a: &[u8], b: &[u8], sorted: &[u16], out: &mut [u8])
         second: 0,
     };
     let mut n: usize = 0;
-    loop {
-        let s = next_step(a, b, sorted, p);
-        match s {
-            Step::Take { part, after } => {
-                n = put_part(a, b, part, out, n);
-                p = after;
-            }
-            Step::Drop(after) => {
-                p = after;
-            }
-            Step::Done => return,
-        }
+    'records: while let Some(Taken { record, after }) = next_record(a, b, sorted, p) {
+        n = put(out, n, record);
+        p = after;
     }
 }

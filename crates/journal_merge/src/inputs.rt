@@ -1,66 +1,46 @@
 // What both scans say: the first journal's fault comes first, then the second's, then a torn end, the first's first.
 // The next row is looked at only where both journals are whole.
 ghost use Rattle.std.specs.Prelude.{◌≡◌};
-ghost use Rattle.journal_merge.specs.Answers.{inputs_of, second_of};
+ghost use Rattle.journal_merge.specs.Answers.{is_torn, torn_end, inputs_of};
 
-use crate::Whose;
-use journal::{Fault, Status};
+use crate::{MergeError, Whose};
+use journal::Status;
+use refusals::Refusal;
 
-#[derive(Clone, Copy)]
-pub(crate) enum Inputs {
-    Whole,
-    Damaged { whose: Whose, fault: Fault },
-    Torn(Whose),
-}
-
-// By the first scan's answer.
-pub(crate) fn inputs_of(x: Status, y: Status) -> Inputs
+// By both scans' answers.
+#[tactic(auto, unfolding(crate::specs::Answers::is_torn, crate::specs::Answers::inputs_of))]
+pub(crate) fn check_inputs(x: Status, y: Status) -> Result<(), MergeError>
     ensures { result ≡ inputs_of x y }
 {
-    match x {
-        Status::Whole {
-            records: _,
-            committed: _,
-        } => second_of(y, true),
-        Status::Torn {
-            records: _,
-            committed: _,
-        } => second_of(y, false),
-        Status::Damaged(fault) => Inputs::Damaged {
-            whose: Whose::First,
-            fault,
-        },
+    let first_torn = is_torn(x, Whose::First)?;
+    let second_torn = is_torn(y, Whose::Second)?;
+    if first_torn {
+        return Err(torn(Whose::First));
+    }
+    if second_torn {
+        return Err(torn(Whose::Second));
+    }
+    Ok(())
+}
+
+// Whether a journal ends torn, or its fault.
+#[tactic(auto, unfolding(crate::specs::Answers::is_torn))]
+fn is_torn(status: Status, whose: Whose) -> Result<bool, MergeError>
+    ensures { result ≡ is_torn status whose }
+{
+    match status {
+        Status::Whole { .. } => Ok(false),
+        Status::Torn { .. } => Ok(true),
+        Status::Damaged(fault) => Err(MergeError::Damaged { whose, fault }),
     }
 }
 
-// By the second's, and whether the first journal is whole.
-fn second_of(y: Status, whole: bool) -> Inputs
-    ensures { result ≡ second_of y whole }
+// That an end is torn, and whose.
+fn torn(whose: Whose) -> MergeError
+    ensures { result ≡ torn_end whose }
 {
-    match y {
-        Status::Whole {
-            records: _,
-            committed: _,
-        } => {
-            if whole {
-                Inputs::Whole
-            } else {
-                Inputs::Torn(Whose::First)
-            }
-        }
-        Status::Torn {
-            records: _,
-            committed: _,
-        } => {
-            if whole {
-                Inputs::Torn(Whose::Second)
-            } else {
-                Inputs::Torn(Whose::First)
-            }
-        }
-        Status::Damaged(fault) => Inputs::Damaged {
-            whose: Whose::Second,
-            fault,
-        },
+    MergeError::DeclinedOf {
+        whose,
+        refusal: Refusal::Torn,
     }
 }

@@ -13,10 +13,11 @@ ghost use Rattle.journal_merge.specs.Records.{ByBytes};
 ghost use Rattle.journal_merge.specs.Passes.{whole_outcome};
 
 use crate::copying::copy;
-use crate::inputs::{Inputs, inputs_of};
-use crate::measuring::{Measured, measure};
-use journal::{Fault, MAX_LENGTH, OLD_FORM_REFUSAL, ROOM_REFUSAL, scan};
-use journal_order::{Key, MOST, latest_of};
+use crate::inputs::check_inputs;
+use crate::measuring::measure;
+use journal::{Fault, MAX_LENGTH, scan};
+use journal_order::{Key, Keyed, MOST};
+use refusals::Refusal;
 
 mod copying;
 mod inputs;
@@ -25,76 +26,62 @@ mod parts;
 mod searching;
 mod stepping;
 
-// Document 02's number for an input that ends torn.
-const TORN_REFUSAL: u32 = 16;
-
 // Whose: the first journal's or the second's.
-#[derive(Clone, Copy)]
+#[derive(Clone, Copy, Debug, PartialEq, Eq)]
 pub enum Whose {
     First,
     Second,
 }
 
-// The result's length; a journal's fault, as scan's; or declined, with the refusal's number: 16 and whose end is torn, 13 and its place in the
-// result, or 9.
+// Why nothing is merged: a journal's fault, as scan's; or declined: for a torn end, and whose it is; for an old form, and its place in the result;
+// or for want of room.
 #[derive(Clone, Copy)]
-pub enum Merged {
-    Length(usize),
+pub enum MergeError {
     Damaged { whose: Whose, fault: Fault },
-    DeclinedOf { whose: Whose, number: u32 },
+    DeclinedOf { whose: Whose, refusal: Refusal },
     DeclinedAt(Fault),
-    Declined(u32),
+    Declined(Refusal),
 }
 
-// The journals of two lengths in two slices, merged into a third buffer.
-pub fn merge(v: &[u8], len: usize, w: &[u8], wlen: usize, out: &mut [u8]) -> Merged
+// The journals of two lengths in two slices, merged into a third buffer. Answers the result's length.
+pub fn merge(
+    v: &[u8],
+    len: usize,
+    w: &[u8],
+    wlen: usize,
+    out: &mut [u8],
+) -> Result<usize, MergeError>
     ensures { outcome_of result out.new ≡ merge_of v.now len w.now wlen out.old }
 {
-    let x = scan(v, len);
-    let y = scan(w, wlen);
-    let s = inputs_of(x, y);
-    match s {
-        Inputs::Whole => merge_whole(&v[..len], &w[..wlen], out),
-        Inputs::Damaged { whose, fault } => Merged::Damaged { whose, fault },
-        Inputs::Torn(whose) => Merged::DeclinedOf {
-            whose,
-            number: TORN_REFUSAL,
-        },
-    }
+    check_inputs(scan(v, len), scan(w, wlen))?;
+    merge_whole(&v[..len], &w[..wlen], out)
 }
 
 // The merge of two whole journals.
-fn merge_whole(a: &[u8], b: &[u8], out: &mut [u8]) -> Merged
+fn merge_whole(a: &[u8], b: &[u8], out: &mut [u8]) -> Result<usize, MergeError>
     requires { WholeBytes a.now × WholeBytes b.now }
     ensures { outcome_of result out.new
         ≡ whole_outcome (merged_of (records_in a.now) (records_in b.now)) out.old }
 {
+    let records = Keyed {
+        bytes: a,
+        key: Key::Record,
+    };
     let mut places: [u16; MOST] = [0; MOST];
-    let count = latest_of(a, Key::Record, &mut places);
+    let count = records.latest_of(&mut places);
     merge_sorted(a, b, &places[..count], out)
 }
 
 // The same, with the places of the first journal's records by their bytes.
-fn merge_sorted(a: &[u8], b: &[u8], sorted: &[u16], out: &mut [u8]) -> Merged
+fn merge_sorted(a: &[u8], b: &[u8], sorted: &[u16], out: &mut [u8]) -> Result<usize, MergeError>
     requires { WholeBytes a.now × WholeBytes b.now × ByBytes a.now sorted.now }
     ensures { outcome_of result out.new
         ≡ whole_outcome (merged_of (records_in a.now) (records_in b.now)) out.old }
 {
-    let m = measure(a, b, sorted);
-    match m {
-        Measured::Length(n) => {
-            if out.len() < n {
-                return Merged::Declined(ROOM_REFUSAL);
-            }
-            if MAX_LENGTH < n {
-                return Merged::Declined(ROOM_REFUSAL);
-            }
-            copy(a, b, sorted, out);
-            Merged::Length(n)
-        }
-        Measured::Falls(place) => Merged::DeclinedAt(Fault {
-            number: OLD_FORM_REFUSAL,
-            place,
-        }),
+    let n = measure(a, b, sorted)?;
+    if out.len().min(MAX_LENGTH) < n {
+        return Err(MergeError::Declined(Refusal::Room));
     }
+    copy(a, b, sorted, out);
+    Ok(n)
 }

@@ -7,16 +7,13 @@ ghost use Rattle.journal_merge_spec.specs.Records.{merged_of};
 ghost use Rattle.journal_merge.specs.Records.{ByBytes};
 ghost use Rattle.journal_merge.specs.Passes.{measured_of};
 
-use crate::parts::form_of;
-use crate::stepping::{Places, Step, next_step};
+use crate::MergeError;
+use crate::stepping::{Places, Taken, next_record};
+use journal::Fault;
+use journal_parts::number_in;
+use refusals::Refusal;
 
-#[derive(Clone, Copy)]
-pub(crate) enum Measured {
-    Length(usize),
-    Falls(usize),
-}
-
-pub(crate) fn measure(a: &[u8], b: &[u8], sorted: &[u16]) -> Measured
+pub(crate) fn measure(a: &[u8], b: &[u8], sorted: &[u16]) -> Result<usize, MergeError>
     requires { WholeBytes a.now × WholeBytes b.now × ByBytes a.now sorted.now }
     ensures { result ≡ measured_of (merged_of (records_in a.now) (records_in b.now)) }
 {
@@ -26,23 +23,17 @@ pub(crate) fn measure(a: &[u8], b: &[u8], sorted: &[u16]) -> Measured
     };
     let mut n: usize = 0;
     let mut form: u64 = 0;
-    loop {
-        let s = next_step(a, b, sorted, p);
-        match s {
-            Step::Take { part, after } => {
-                let size = part.size;
-                let next = form_of(a, b, part);
-                if next < form {
-                    return Measured::Falls(n);
-                }
-                form = next;
-                n += size;
-                p = after;
-            }
-            Step::Drop(after) => {
-                p = after;
-            }
-            Step::Done => return Measured::Length(n),
+    'records: while let Some(Taken { record, after }) = next_record(a, b, sorted, p) {
+        let next = number_in(record, 0, 2);
+        if next < form {
+            return Err(MergeError::DeclinedAt(Fault {
+                refusal: Refusal::OldForm,
+                place: n,
+            }));
         }
+        form = next;
+        n += record.len();
+        p = after;
     }
+    Ok(n)
 }

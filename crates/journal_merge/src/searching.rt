@@ -4,16 +4,16 @@ ghost use Rattle.journal_spec.specs.Cursor.{records_in};
 ghost use Rattle.journal_merge_spec.specs.Records.{is_among};
 ghost use Rattle.journal_merge.specs.Records.{ByBytes};
 
-use journal_order::{Key, Place, look_up};
+use journal_order::{Key, Keyed};
 
 // Whether one of the records has these bytes.
 pub(crate) fn is_among(a: &[u8], places: &[u16], bytes: &[u8]) -> bool
     requires { ByBytes a.now places.now }
     ensures { result ≡ is_among (records_in a.now) bytes.now }
 {
-    let found = look_up(a, Key::Record, places, bytes);
-    match found {
-        Place::At(_) => true,
-        Place::Absent => false,
-    }
+    let records = Keyed {
+        bytes: a,
+        key: Key::Record,
+    };
+    records.look_up(places, bytes).is_some()
 }

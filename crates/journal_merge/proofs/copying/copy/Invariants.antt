@@ -1,10 +1,9 @@
--- `copy` takes one step a turn: its loop keeps where it stands and what stands in the buffer. The measure is what is left of both journals.
--- Assumes nothing.
+-- `copy` takes one record a turn: its loop keeps where it stands and what is copied. The measure is what is left of both journals. Assumes nothing.
 use Rattle.journal_merge.proofs.Pass.{left_of, Copying}
 use Rattle.journal_merge.proofs.copying.copy.Given as goal
 
-abbrev pub invariant-loop-part : goal.invariant-loop-part
-invariant-loop-part l = Copying l.a l.b l.initial.out l.out l.p l.n
+abbrev pub invariant-records : goal.invariant-records
+invariant-records l = Copying l.a l.b l.initial.out l.out l.p l.n
 
-abbrev pub decreases-loop-part : goal.decreases-loop-part
-decreases-loop-part l = left_of l.a l.b l.p
+abbrev pub decreases-records : goal.decreases-records
+decreases-records l = left_of l.a l.b l.p
