@@ -1,12 +1,12 @@
 -- Times copied out of the bytes one by one, and mean and spread of what was copied: of as many as a record may have all, of more none, and then
 -- there is no mean and spread. Assumes nothing.
 use mathlib.Core.Path.{◌≡◌, refl, sym, ap, ap₂, ◌∙◌}
-use Prim.Native.Nat.{ℕ, zero, suc, ◌+◌, ◌*◌, ◌%◌, ◌^◌, ◌≤◌, ◌<◌}
+use Prim.Native.Nat.{ℕ, zero, suc, ◌+◌, ◌*◌, ◌≤◌, ◌<◌}
 use mathlib.Core.List.{List, [], ◌∷◌, ◌++◌}
 use mathlib.Core.Bool.{true, false, cond}
 use native.Mathlib.Omega.{arith}
 use native.Mathlib.Numerals.{add-one}
-use lib.ListN.{length, take, get_or, set, length-set}
+use lib.ListN.{length, take, set}
 use lib.Seq.{take-suc-set}
 use lib.Dec.{leb}
 use borrow.Author.Tests.{le-leb, lt-leb}
@@ -14,9 +14,6 @@ use Rattle.facts.proofs.Orders.{by_order}
 use Rattle.limit.specs.Times.{min_count, max_count, in_range, times_in_range}
 use Rattle.limit.specs.Limit.{moments_of_times}
 use Rattle.journal_spec.specs.Bytes.{number_at, numbers_in}
-use Rattle.journal_parts.specs.Numbers.{number_in}
-use Rattle.journal_parts.proofs.NumberStands.{number_stands}
-use Rattle.journal.proofs.Heads.{number_below}
 use Rattle.journal.proofs.Equal.{length_numbers}
 
 -- ---- the copy
@@ -29,37 +26,12 @@ numbers_snoc (suc n) at b =
     let e : at + 4 + n * 4 ≡ at + suc n * 4 = omega arith in
     ap (λ (xs : List ℕ). number_at 4 at b ∷ xs) (numbers_snoc n (at + 4) b ∙ ap (λ (p : ℕ). numbers_in 4 n (at + 4) b ++ number_at 4 p b ∷ []) e)
 
--- i of n times are copied; the next stands at the place
-pub record Copied (b : List ℕ) (first n size : ℕ) (ticks : List ℕ) (at i : ℕ) : Type 0 where
-  pub few : i ≤ n
-  pub whole : length ticks ≡ size
-  pub place : at ≡ first + i * 4
-  pub kept : take i ticks ≡ numbers_in 4 i first b
-
-module _ (b : List ℕ) (first n : ℕ) (ticks : List ℕ) where
-  pub copied_start : Copied b first n (length ticks) ticks first 0
-  unfolding numbers_in
-  copied_start = record { few = omega arith; whole = refl; place = omega arith; kept = refl }
-
-  module _ (size at i : ℕ) (g : Copied b first n size ticks at i) where
-    pub copied_more : ((k : ℕ) → get_or b k 0 < 256) → first + n * 4 ≤ length b → n ≤ size → i < n → (t x : ℕ) → t ≡ number_in 4 at b
-        → x ≡ t % 2 ^ 32 → Copied b first n size (set ticks i x) (at + 4) (i + 1)
-    copied_more bytes inside room h t x is low =
-        let there : at + 4 ≤ length b = omega (arith, g.place) in
-        let number : t ≡ number_at 4 at b = is ∙ number_stands 4 at b (omega arith) there in
-        let same : x ≡ number_at 4 at b = omega (arith, number, low, number_below 4 at b bytes) in
-        let those : take (i + 1) (set ticks i x) ≡ take i ticks ++ x ∷ [] = rw add-one (take-suc-set ticks i x (omega (arith, g.whole))) in
-        record {
-          few = omega arith;
-          whole = length-set ticks i x ∙ g.whole;
-          place = omega (arith, g.place);
-          kept = those
-              ∙ ap₂ (λ (xs : List ℕ) (y : ℕ). xs ++ y ∷ []) g.kept (same ∙ ap (λ (p : ℕ). number_at 4 p b) g.place)
-              ∙ sym (rw add-one (numbers_snoc i first b));
-        }
-
-    pub copied_all : n ≤ i → take n ticks ≡ numbers_in 4 n first b
-    copied_all h = let e : n ≡ i = omega (arith, g.few) in rw e g.kept
+-- a turn of the loop that copies
+pub copied_more : (b : List ℕ) (first : ℕ) (ticks : List ℕ) (i x : ℕ) → i < length ticks → x ≡ number_at 4 (first + i * 4) b
+    → take i ticks ≡ numbers_in 4 i first b → take (i + 1) (set ticks i x) ≡ numbers_in 4 (i + 1) first b
+copied_more b first ticks i x h e k =
+    let those : take (i + 1) (set ticks i x) ≡ take i ticks ++ x ∷ [] = rw add-one (take-suc-set ticks i x h) in
+    those ∙ ap₂ (λ (xs : List ℕ) (y : ℕ). xs ++ y ∷ []) k e ∙ sym (rw add-one (numbers_snoc i first b))
 
 -- ---- mean and spread
 

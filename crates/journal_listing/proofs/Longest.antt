@@ -1,11 +1,11 @@
 -- How long a line is: that of a record in document 01's ranges takes at most `max_line` bytes, and so does that of an end state whose numbers have
 -- at most 20 digits, as those of a u64 do. A buffer of `max_line` bytes holds every line of a listing. Assumes nothing.
-use mathlib.Core.Path.{◌≡◌, refl}
-use Prim.Native.Nat.{ℕ, suc, ◌+◌, ◌*◌, ◌^◌, ◌≤◌, ◌<◌}
+use mathlib.Core.Path.{◌≡◌}
+use Prim.Native.Nat.{ℕ, suc, ◌*◌, ◌^◌, ◌≤◌, ◌<◌}
 use mathlib.Core.List.{List, [], ◌∷◌, ◌++◌}
 use native.Mathlib.Omega.{arith}
 use lib.ListN.{length, length-append}
-use Rattle.text_digits.specs.Hex.{decimal_digits, hex_digits, digits}
+use Rattle.text_digits.specs.Hex.{decimal_digits, hex_digits}
 use Rattle.text_digits.proofs.Writing.{length_digits}
 use Rattle.text_digits.proofs.Counting.{decimal_most}
 use Rattle.limit.specs.Answer.{MomentsResult}

@@ -1,16 +1,13 @@
 -- What a walk over the pairs of chances and limits keeps, whatever text is put for a pair: whoever puts the pairs that are left has put them all.
 -- The listing's walk and a report's are this one. Assumes nothing.
-use mathlib.Core.Path.{◌≡◌, refl, ap, ◌∙◌}
+use mathlib.Core.Path.{◌≡◌, refl, ap}
 use Prim.Native.Nat.{ℕ, zero, suc, ◌+◌, ◌*◌, ◌-◌, ◌≤◌, ◌<◌}
 use mathlib.Core.List.{List, [], ◌∷◌, ◌++◌}
 use native.Mathlib.Omega.{arith}
-use lib.ListN.{length}
 use Rattle.text_digits.specs.Text.{Put}
 use Rattle.text_digits.proofs.Putting.{put_nothing, put_put}
 use Rattle.journal_spec.specs.Bytes.{number_at, numbers_in}
 use Rattle.journal_spec.specs.Log.{space}
-use Rattle.journal_parts.specs.Numbers.{number_in}
-use Rattle.journal_parts.proofs.NumberStands.{number_stands}
 use Rattle.journal_listing.specs.Listing.{quoted_limit, quoted_limits}
 use Rattle.journal_listing.specs.Spaced.{each_spaced}
 
@@ -19,44 +16,37 @@ unfoldable pub each_pair : (ℕ → ℕ → List ℕ) → List ℕ → ℕ → �
 each_pair text b zero c l = []
 each_pair text b (suc n) c l = text (number_at 4 c b) (number_at 8 l b) ++ each_pair text b n (c + 4) (l + 8)
 
--- of n pairs from c₀ and l₀ on, `left` are still to be put into d at p, from c and l on
-pub record Pairs (text : ℕ → ℕ → List ℕ) (b : List ℕ) (c₀ l₀ n : ℕ) (d₀ : List ℕ) (at : ℕ) (d : List ℕ) (p c l left : ℕ) : Type 0 where
-  pub chances : c + left * 4 ≤ length b
-  pub limits : l + left * 8 ≤ length b
-  pub size : length d ≡ length d₀
-  pub goes : (d' : List ℕ) (r : ℕ) → Put d p (each_pair text b left c l) d' r → Put d₀ at (each_pair text b n c₀ l₀) d' r
+-- of n pairs from c and l on, i are put, and the others are still to be put into d at p
+pub record Pairs (text : ℕ → ℕ → List ℕ) (b : List ℕ) (c l n : ℕ) (d₀ : List ℕ) (at : ℕ) (d : List ℕ) (p i : ℕ) : Type 0 where
+  pub goes : (d' : List ℕ) (r : ℕ) → Put d p (each_pair text b (n - i) (c + i * 4) (l + i * 8)) d' r → Put d₀ at (each_pair text b n c l) d' r
 
-module _ (text : ℕ → ℕ → List ℕ) (b : List ℕ) (c₀ l₀ n : ℕ) (d₀ : List ℕ) (at : ℕ) where
-  pub pairs_start : c₀ + n * 4 ≤ length b → l₀ + n * 8 ≤ length b → Pairs text b c₀ l₀ n d₀ at d₀ at c₀ l₀ n
-  pairs_start h k = record { chances = h; limits = k; size = refl; goes = λ d' r w. w }
+module _ (text : ℕ → ℕ → List ℕ) (b : List ℕ) (c l n : ℕ) (d₀ : List ℕ) (at : ℕ) where
+  pub pairs_start : Pairs text b c l n d₀ at d₀ at 0
+  pairs_start =
+      let en : n - 0 ≡ n = omega arith in
+      let ec : c + 0 * 4 ≡ c = omega arith in
+      let el : l + 0 * 8 ≡ l = omega arith in
+      record { goes = λ d' r w. rw (en, ec, el) at w }
 
-  module _ (d : List ℕ) (p c l left : ℕ) (g : Pairs text b c₀ l₀ n d₀ at d p c l left) where
+  module _ (d : List ℕ) (p i : ℕ) (g : Pairs text b c l n d₀ at d p i) where
     -- the next pair, and those behind it
-    pairs_next : 0 < left → each_pair text b left c l ≡ text (number_at 4 c b) (number_at 8 l b) ++ each_pair text b (left - 1) (c + 4) (l + 8)
-    pairs_next pos = go left pos
-      where
-        go : (k : ℕ) → 0 < k → each_pair text b k c l ≡ text (number_at 4 c b) (number_at 8 l b) ++ each_pair text b (k - 1) (c + 4) (l + 8)
-        go zero pos = absurd (omega arith)
-        go (suc k) pos = let z : suc k - 1 ≡ k = omega arith in rw z (unfold each_pair in refl)
+    pairs_next : i < n → each_pair text b (n - i) (c + i * 4) (l + i * 8)
+        ≡ text (number_at 4 (c + i * 4) b) (number_at 8 (l + i * 8) b) ++ each_pair text b (n - (i + 1)) (c + (i + 1) * 4) (l + (i + 1) * 8)
+    unfolding each_pair
+    pairs_next h =
+        let en : n - i ≡ suc (n - (i + 1)) = omega arith in
+        let ec : c + (i + 1) * 4 ≡ c + i * 4 + 4 = omega arith in
+        let el : l + (i + 1) * 8 ≡ l + i * 8 + 8 = omega arith in
+        rw (en, ec, el) refl
 
-    pub pairs_turn : (x y : ℕ) (d₁ : List ℕ) (p₁ : ℕ) → 0 < left → x ≡ number_in 4 c b → y ≡ number_in 8 l b → length d₁ ≡ length d
-        → Put d p (text x y) d₁ p₁ → Pairs text b c₀ l₀ n d₀ at d₁ p₁ (c + 4) (l + 8) (left - 1)
-    pairs_turn x y d₁ p₁ pos ex ey size w =
-        let fc = g.chances in
-        let fl = g.limits in
-        let vx : x ≡ number_at 4 c b = ex ∙ number_stands 4 c b (omega arith) (omega arith) in
-        let vy : y ≡ number_at 8 l b = ey ∙ number_stands 8 l b (omega arith) (omega arith) in
-        let first : Put d p (text (number_at 4 c b) (number_at 8 l b)) d₁ p₁ = rw (← vx, ← vy) w in
-        record {
-          chances = omega arith;
-          limits = omega arith;
-          size = size ∙ g.size;
-          goes = λ d' r rest. g.goes d' r (rw (pairs_next pos)
-              (put_put d p (text (number_at 4 c b) (number_at 8 l b)) d₁ p₁ (each_pair text b (left - 1) (c + 4) (l + 8)) d' r first rest));
-        }
+    pub pairs_turn : (x y : ℕ) (d₁ : List ℕ) (p₁ : ℕ) → i < n → x ≡ number_at 4 (c + i * 4) b → y ≡ number_at 8 (l + i * 8) b
+        → Put d p (text x y) d₁ p₁ → Pairs text b c l n d₀ at d₁ p₁ (i + 1)
+    pairs_turn x y d₁ p₁ h ex ey w =
+        let first : Put d p (text (number_at 4 (c + i * 4) b) (number_at 8 (l + i * 8) b)) d₁ p₁ = rw (← ex, ← ey) w in
+        record { goes = λ d' r rest. g.goes d' r (rw (pairs_next h) (put_put d p _ d₁ p₁ _ d' r first rest)) }
 
-    pub pairs_end : left ≡ 0 → Put d₀ at (each_pair text b n c₀ l₀) d p
-    pairs_end z = g.goes d p (rw z (unfold each_pair in put_nothing d p))
+    pub pairs_end : n ≤ i → Put d₀ at (each_pair text b n c l) d p
+    pairs_end z = let none : n - i ≡ 0 = omega arith in g.goes d p (rw none (unfold each_pair in put_nothing d p))
 
 -- ---- the listing's
 

@@ -5,21 +5,20 @@ use mathlib.Core.Path.{◌≡◌, refl, sym, ap, ◌∙◌}
 use Prim.Native.Nat.{ℕ, ◌+◌}
 use mathlib.Core.List.{List, [], ◌∷◌, ◌++◌, map}
 use mathlib.Core.Bool.{Bool, true, false, cond}
-use lib.ListN.{length, drop, length-append}
-use lib.Seq.{drop_at, take-length}
+use lib.ListN.{length, length-append}
+use lib.Seq.{take-length}
 use lib.Dec.{eqb}
 use Rattle.journal_spec.specs.Bytes.{joined, AreBytes}
-use Rattle.journal_spec.specs.Reader.{found, then}
-use Rattle.journal_spec.specs.Record.{Record, Last, last_of, record_reader, record_bytes, records_bytes}
+use Rattle.journal_spec.specs.Reader.{found}
+use Rattle.journal_spec.specs.Record.{Record, Last, record_bytes, records_bytes}
 use Rattle.journal_spec.specs.Profile.{Rule}
 use Rattle.journal_spec.specs.Scan.{Placed, records_of, Contents, standing, faulty, contents_of, ScanResult, whole, torn, status_of, scan_of}
 use Rattle.journal_spec.specs.Ranges.{RecordRanges, AllRanges}
-use Rattle.journal_spec.proofs.Ranged.{reads_back}
 use Rattle.journal_spec.proofs.Places.{records_of_placed, length_placed}
 use Rattle.journal_spec.proofs.Explained.{holding}
 use Rattle.journal_spec.proofs.Profiles.{rule_then_plain}
 use Rattle.journal_listing.specs.Listing.{record_line, record_lines, state_line, listing_of}
-use Rattle.journal_parts.specs.Plain.{unjudged, plain_record_at}
+use Rattle.journal_parts.specs.Plain.{plain_record_at}
 use Rattle.journal_listing.specs.Lines.{Position, listed_of, before, start_of, record_step, step_by, step}
 use Rattle.journal_parts.proofs.Parts.{record_there}
 

@@ -8,29 +8,31 @@ use native.Mathlib.Omega.{arith}
 use Rattle.journal.specs.Answers.{meaning}
 use Rattle.journal_listing.specs.Listing.{record_line, state_line}
 use Rattle.journal_parts.specs.Plain.{plain_record_at}
-use Rattle.journal_parts.specs.Spans.{spans_at, record_in}
+use Rattle.journal_parts.specs.Spans.{spans_at, all_of, record_in}
 use Rattle.journal_listing.specs.Lines.{Position, position_of, end_of, no_line, record_step, step_by, step, Writes}
-use Rattle.journal_parts.specs.declared.spans.Spans.{Spans}
+use Rattle.std.specs.Prelude.{Some, None}
+use Rattle.journal_parts.specs.declared.spans.Sections.{Sections}
 use Rattle.journal_listing.specs.declared.Cursor.{Cursor}
+use Rattle.journal_listing.specs.declared.Line.{Line}
 use Rattle.journal_listing.proofs.Putting.{put_nothing}
 use Rattle.journal_parts.proofs.Reached.{record_stands, record_short}
 
 -- no line
-pub writes_none : (p : Position) (out : List ℕ) (c : Cursor) → position_of c ≡ end_of p → Writes (no_line p) out (record { size = 0; cursor = c }) out
+pub writes_none : (p : Position) (out : List ℕ) (l : Line) → l.size ≡ 0 → position_of l.cursor ≡ end_of p → Writes (no_line p) out l out
 unfolding no_line
-writes_none p out c e = record { bytes = put_nothing out 0; position = e }
+writes_none p out l z e = record { bytes = rw z (put_nothing out 0); position = e }
 
-module _ (p : Position) (left at : ℕ) (b : List ℕ) (s : Spans) (e : s ≡ spans_at at b) where
+module _ (p : Position) (left at : ℕ) (b : List ℕ) where
   -- no record stands there
-  pub step_short : s.limits.stands ≡ false → record_step p left (plain_record_at at b) ≡ no_line p
+  pub step_short : all_of (spans_at at b) ≡ None → record_step p left (plain_record_at at b) ≡ no_line p
   unfolding record_step
-  step_short h = rw (record_short at b (rw e at h)) refl
+  step_short h = rw (record_short at b h) refl
 
   -- the record that stands there
-  pub step_stands : s.limits.stands ≡ true → record_step p left (plain_record_at at b)
+  pub step_stands : (s : Sections) → all_of (spans_at at b) ≡ Some s → record_step p left (plain_record_at at b)
       ≡ record { text = record_line (record_in at s b); position = record { at = s.limits.next; left = left; ended = false; state = p.state } }
   unfolding record_step
-  step_stands h = rw (record_stands at b (rw e at h), e) refl
+  step_stands s h = rw (record_stands at b s h) refl
 
 -- the listing goes on
 pub step_on : (p : Position) (b : List ℕ) → p.ended ≡ false → step p b ≡ step_by p.left p b

@@ -43,10 +43,9 @@ pub fn start(v: &[u8], rule: Rule) -> Cursor
     ensures { position_of result ≡ start_of (as_rule rule) v.now }
 {
     let status = journal::scan_by(v, v.len(), rule);
-    let left = listed(status);
     Cursor {
         at: 0,
-        left,
+        left: listed(status),
         ended: false,
         status,
     }
@@ -57,14 +56,8 @@ fn listed(status: Status) -> usize
     ensures { result ≡ listed_of (meaning status) }
 {
     match status {
-        Status::Whole {
-            records,
-            committed: _,
-        } => records,
-        Status::Torn {
-            records,
-            committed: _,
-        } => records,
+        Status::Whole { records, .. } => records,
+        Status::Torn { records, .. } => records,
         Status::Damaged(_) => 0,
     }
 }
@@ -74,17 +67,13 @@ pub fn next_line(v: &[u8], cursor: Cursor, out: &mut [u8]) -> Line
     ensures { Writes (step (position_of cursor) v.now) out.old result out.new }
 {
     if cursor.ended {
-        return Line {
-            size: 0,
-            cursor: at_end(cursor),
-        };
+        return cursor.no_line();
     }
     if cursor.left == 0 {
-        let status = cursor.status;
-        let size = put_state(status, out);
+        let size = put_state(cursor.status, out);
         return Line {
             size,
-            cursor: at_end(cursor),
+            cursor: cursor.at_end(),
         };
     }
     record_line(v, cursor, out)
@@ -96,45 +85,50 @@ fn record_line(v: &[u8], cursor: Cursor, out: &mut [u8]) -> Line
     ensures { Writes (record_step (position_of cursor) (cursor.left - 1) (plain_record_at cursor.at v.now))
         out.old result out.new }
 {
-    let at = cursor.at;
-    let spans = spans_at(v, at);
-    let last = spans.limits;
-    if !last.stands {
-        return Line {
-            size: 0,
-            cursor: at_end(cursor),
-        };
-    }
-    let size = put_record(v, at, spans, out);
+    let Some(s) = spans_at(v, cursor.at).all() else {
+        return cursor.no_line();
+    };
+    let size = put_record(v, cursor.at, s, out);
     Line {
         size,
-        cursor: past_record(cursor, last.next),
+        cursor: cursor.past_record(s.limits.next),
     }
 }
 
-// The cursor behind a record.
-fn past_record(cursor: Cursor, next: usize) -> Cursor
-    requires { 0 < cursor.left }
-    ensures { result ≡ record { at = next; left = cursor.left - 1; ended = false; status = cursor.status } }
-{
-    let status = cursor.status;
-    Cursor {
-        at: next,
-        left: cursor.left - 1,
-        ended: false,
-        status,
+impl Cursor {
+    // The cursor behind a record.
+    fn past_record(self, next: usize) -> Cursor
+        requires { 0 < self.left }
+        ensures { result ≡ record { at = next; left = self.left - 1; ended = false; status = self.status } }
+    {
+        Cursor {
+            at: next,
+            left: self.left - 1,
+            ended: false,
+            ..self
+        }
     }
-}
 
-// The cursor behind the last line.
-fn at_end(cursor: Cursor) -> Cursor
-    ensures { position_of result ≡ end_of (position_of cursor) }
-{
-    let status = cursor.status;
-    Cursor {
-        at: cursor.at,
-        left: 0,
-        ended: true,
-        status,
+    // The cursor behind the last line.
+    #[tactic(auto, unfolding(crate::specs::Lines::position_of, crate::specs::Lines::end_of))]
+    fn at_end(self) -> Cursor
+        ensures { position_of result ≡ end_of (position_of self) }
+    {
+        Cursor {
+            left: 0,
+            ended: true,
+            ..self
+        }
+    }
+
+    // No line, and the cursor behind the last one.
+    fn no_line(self) -> Line
+        ensures size { result.size ≡ 0 }
+        ensures cursor { position_of result.cursor ≡ end_of (position_of self) }
+    {
+        Line {
+            size: 0,
+            cursor: self.at_end(),
+        }
     }
 }

@@ -11,12 +11,13 @@ ghost use Rattle.journal_listing.specs.Spaced.{each_spaced};
 ghost use Rattle.journal_parts.specs.Spans.{Inside, numbers_of};
 
 use crate::moments::{mean_bits, spread_bits};
-use journal_parts::{Span, number_in};
-use limit::Worked;
+use journal_parts::{Span, number_at};
+use limit::Moments;
+use refusals::Refusal;
 use text_digits::{put, put_decimal};
 
 // Mean and spread, a space before each.
-pub(crate) fn put_moments(out: &mut [u8], at: usize, worked: Worked) -> usize
+pub(crate) fn put_moments(out: &mut [u8], at: usize, worked: Result<Moments, Refusal>) -> usize
     ensures { Put out.old at
         ((space ∷ hex_digits 16 (mean_bits (moments_meaning worked))) ++ (space ∷ hex_digits 16 (spread_bits (moments_meaning worked))))
         out.new result }
@@ -53,15 +54,8 @@ pub(crate) fn put_limits(b: &[u8], chances: Span, limits: Span, out: &mut [u8], 
     ensures { Put out.old at
         (each_spaced (quoted_limits (numbers_of 4 chances b.now) (numbers_of 8 limits b.now))) out.new result }
 {
-    let pairs = fewer(chances.count, limits.count);
+    let pairs = chances.count.min(limits.count);
     put_pairs(b, chances.first, limits.first, pairs, out, at)
-}
-
-// The smaller of two numbers.
-fn fewer(n: usize, m: usize) -> usize
-    ensures { result ≡ min n m }
-{
-    if n < m { n } else { m }
 }
 
 // The pairs of n chances and n limits, each from a place on.
@@ -71,16 +65,10 @@ fn put_pairs(b: &[u8], chances: usize, limits: usize, n: usize, out: &mut [u8], 
         (each_spaced (quoted_limits (numbers_in 4 n chances b.now) (numbers_in 8 n limits b.now))) out.new result }
 {
     let mut place = at;
-    let mut chance = chances;
-    let mut limit = limits;
-    let mut left = n;
-    while 0 < left {
-        let c = number_in(b, chance, 4);
-        let l = number_in(b, limit, 8);
-        place = put_limit(out, place, c, l);
-        chance += 4;
-        limit += 8;
-        left -= 1;
+    for i in 0..n {
+        let chance = number_at(b, chances + i * 4, 4);
+        let limit = number_at(b, limits + i * 8, 8);
+        place = put_limit(out, place, chance, limit);
     }
     place
 }

@@ -1,6 +1,6 @@
 // The two kinds of lines: a record's, from the places of its sections, and that of the end state, a word and its numbers.
 // Both are put at the front of a lent buffer and answer how many bytes they take.
-ghost use Rattle.std.specs.Prelude.{◌≡◌, true, [], ◌∷◌, ◌++◌, ◌+◌, ◌≤◌, length};
+ghost use Rattle.std.specs.Prelude.{◌≡◌, Some, [], ◌∷◌, ◌++◌, ◌+◌, ◌≤◌, length};
 ghost use Rattle.text_digits.specs.Hex.{decimal_digits};
 ghost use Rattle.text_digits.specs.Text.{Put};
 ghost use Rattle.journal.specs.Answers.{meaning};
@@ -8,18 +8,18 @@ ghost use Rattle.journal_spec.specs.Bytes.{number_at};
 ghost use Rattle.journal_spec.specs.Read.{letter_of, mark_of};
 ghost use Rattle.journal_spec.specs.Log.{space};
 ghost use Rattle.journal_listing.specs.Listing.{line_of, record_line, state_line};
-ghost use Rattle.journal_parts.specs.Spans.{Inside, numbers_of, record_in, spans_at};
+ghost use Rattle.journal_parts.specs.Spans.{Inside, all_of, numbers_of, record_in, spans_at};
 
 use crate::moments::moments_at;
 use crate::text::{put_limits, put_moments};
 use journal::Status;
 use journal::marks::{letter_of, mark_of};
-use journal_parts::{Span, Spans, number_in};
+use journal_parts::{Sections, Span, number_in};
 use text_digits::{put, put_decimal};
 
 // The line of the record at a place, whose sections stand.
-pub(crate) fn put_record(b: &[u8], at: usize, s: Spans, out: &mut [u8]) -> usize
-    requires { (s ≡ spans_at at b.now) × (s.limits.stands ≡ true) }
+pub(crate) fn put_record(b: &[u8], at: usize, s: Sections, out: &mut [u8]) -> usize
+    requires { all_of (spans_at at b.now) ≡ Some s }
     ensures { Put out.old 0 (record_line (record_in at s b.now)) out.new result }
 {
     let p = put_front(b, at, s.name, out);
@@ -36,9 +36,7 @@ fn put_front(b: &[u8], at: usize, name: Span, out: &mut [u8]) -> usize
     ensures { Put out.old 0
         (numbers_of 1 name b.now ++ (space ∷ decimal_digits (number_at 2 (at + 2) b.now))) out.new result }
 {
-    let first = name.first;
-    let end = first + name.count;
-    let p = put(out, 0, &b[first..end]);
+    let p = put(out, 0, &b[name.first..name.first + name.count]);
     let q = put(out, p, b" ");
     let day = number_in(b, at + 2, 2);
     put_decimal(out, q, day)
@@ -52,9 +50,9 @@ fn put_mark(b: &[u8], times: Span, out: &mut [u8], at: usize) -> usize
 {
     let first = times.first;
     let end = first + times.count * 4;
-    let letter = [letter_of(mark_of(&b[first..end])); 1];
+    let letter = letter_of(mark_of(&b[first..end]));
     let p = put(out, at, b" ");
-    put(out, p, &letter)
+    put(out, p, &[letter])
 }
 
 // The line of the end state.
@@ -74,7 +72,12 @@ pub(crate) fn put_state(status: Status, out: &mut [u8]) -> usize
             records as u64,
             committed as u64,
         ),
-        Status::Damaged(f) => put_words(out, b"damaged", f.number as u64, f.place as u64),
+        Status::Damaged(f) => put_words(
+            out,
+            b"damaged",
+            u64::from(f.refusal.number()),
+            f.place as u64,
+        ),
     }
 }
 

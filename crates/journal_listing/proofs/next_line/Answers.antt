@@ -9,13 +9,13 @@ pub returns-then-cursor : goal.returns-then-cursor
 returns-then-cursor c =
     let a = c.args in
     rw (step_ended a.cursor a.v.now c.if-cursor.true)
-    (writes_none (position_of a.cursor) a.out.now c.at_end.result c.at_end.ensures)
+    (writes_none (position_of a.cursor) a.out.now c.no_line.result c.no_line.ensures.size c.no_line.ensures.cursor)
 
 pub returns-then-cursor-eq0 : goal.returns-then-cursor-eq0
 returns-then-cursor-eq0 c =
     let a = c.args in
     rw (step_state a.cursor a.v.now c.if-cursor.false c.if-cursor-eq0.true)
-    (record { bytes = c.put_state-size.ensures; position = c.at_end-then-cursor-eq0.ensures })
+    (record { bytes = c.put_state-size.ensures; position = c.at_end.ensures })
 
 pub returns : goal.returns
 returns c =

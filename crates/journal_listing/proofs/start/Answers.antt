@@ -5,4 +5,4 @@ use Rattle.journal_listing.proofs.start.Goals as goal
 
 pub returns : goal.returns
 unfolding position_of start_of before
-returns c = rw (c.listed-left.ensures, c.scan_by-status.ensures)
+returns c = rw (c.listed.ensures, c.scan_by-status.ensures)

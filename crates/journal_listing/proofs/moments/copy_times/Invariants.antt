@@ -1,12 +1,8 @@
--- `copy_times` copies one time a turn. The measure is how many times are left.
--- Assumes nothing.
-use Prim.Native.Nat.{◌-◌}
-use lib.ListN.{length}
-use Rattle.journal_listing.proofs.Copying.{Copied}
+-- `copy_times` copies one time a turn. Assumes nothing.
+use mathlib.Core.Path.{◌≡◌}
+use lib.ListN.{take}
+use Rattle.journal_spec.specs.Bytes.{numbers_in}
 use Rattle.journal_listing.proofs.moments.copy_times.Given as goal
 
 abbrev pub invariant-loop-i : goal.invariant-loop-i
-invariant-loop-i l = Copied l.b l.first l.n (length l.initial.ticks) l.ticks l.at l.i
-
-abbrev pub decreases-loop-i : goal.decreases-loop-i
-decreases-loop-i l = l.n - l.i
+invariant-loop-i l = take l.i l.ticks ≡ numbers_in 4 l.i l.first l.b

@@ -4,10 +4,10 @@ use Rattle.limit.specs.Answer.{moments_meaning}
 use Rattle.journal_listing.specs.Listing.{mean_bits}
 use Rattle.journal_listing.proofs.moments.mean_bits.Goals as goal
 
-pub returns-in-Out : goal.returns-in-Out
+pub returns-in-Ok : goal.returns-in-Ok
 unfolding moments_meaning mean_bits
-returns-in-Out c = rw c.in-Out.is c.bits_of.ensures
+returns-in-Ok c = rw c.in-Ok.is c.bits_of.ensures
 
-pub returns-in-Refused : goal.returns-in-Refused
+pub returns-in-Err : goal.returns-in-Err
 unfolding moments_meaning mean_bits
-returns-in-Refused c = rw c.in-Refused.is
+returns-in-Err c = rw c.in-Err.is

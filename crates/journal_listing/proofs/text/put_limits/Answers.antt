@@ -12,4 +12,4 @@ unfolding numbers_of
 returns c =
     let a = c.args in
     let pairs = pairs_fewer a.b.now a.chances.count a.limits.count a.chances.first a.limits.first in
-    put_as _ _ _ _ _ _ (rw c.fewer-pairs.ensures (ap each_spaced (sym pairs))) c.put_pairs.ensures
+    put_as _ _ _ _ _ _ (rw c.min-pairs.ensures (ap each_spaced (sym pairs))) c.put_pairs.ensures

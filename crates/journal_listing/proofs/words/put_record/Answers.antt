@@ -8,20 +8,20 @@ use Rattle.journal_listing.proofs.words.put_record.Goals as goal
 
 pub put_front-p-requires : goal.put_front-p-requires
 put_front-p-requires c =
-    let k = standing c.args.at c.args.s c.args.b.now c.requires.0 c.requires.1 in
+    let k = standing c.args.at c.args.s c.args.b.now c.requires in
     (k.head, k.name)
 
 pub put_mark-q-requires : goal.put_mark-q-requires
-put_mark-q-requires c = (standing c.args.at c.args.s c.args.b.now c.requires.0 c.requires.1).times
+put_mark-q-requires c = (standing c.args.at c.args.s c.args.b.now c.requires).times
 
 pub moments_at-worked-requires : goal.moments_at-worked-requires
 moments_at-worked-requires c =
-    let k = standing c.args.at c.args.s c.args.b.now c.requires.0 c.requires.1 in
+    let k = standing c.args.at c.args.s c.args.b.now c.requires in
     (k.head, k.times)
 
 pub put_limits-t-requires : goal.put_limits-t-requires
 put_limits-t-requires c =
-    let k = standing c.args.at c.args.s c.args.b.now c.requires.0 c.requires.1 in
+    let k = standing c.args.at c.args.s c.args.b.now c.requires in
     (k.chances, k.limits)
 
 pub returns : goal.returns
