@@ -4,6 +4,7 @@ pub mod Outcome
 pub mod Checked
 pub mod Made
 pub mod Begun
+pub mod Offered
 -- for private contracts: what stands in bytes, and the entries of records at places
 pub mod Standing
 pub mod Places

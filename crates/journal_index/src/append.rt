@@ -1,7 +1,6 @@
 // Append that may be handed the index (request 2026-08): the journal's rows first, then 14 and 15, then the record is written, and where it is
 // finished the index is amended in its place. Every check is over before the first byte of either buffer is written.
 ghost use Rattle.std.specs.Prelude.{◌≡◌, false, [], ◌∷◌, ℕ, ◌+◌, ◌*◌, ◌≤◌, leb, length, take, MatchResult};
-ghost use Rattle.std.proofs.Math.Option.{some};
 ghost use Rattle.limit.specs.Times.{max_count};
 ghost use Rattle.journal_spec.specs.Refusals.{first_of};
 ghost use Rattle.journal_spec.specs.Record.{max_name, max_chances};
@@ -15,11 +14,14 @@ ghost use Rattle.journal.specs.Records.{as_last};
 ghost use Rattle.journal.specs.Handed.{request_by, as_budget};
 ghost use Rattle.journal.specs.Answers.{append_meaning, outcome_with};
 ghost use Rattle.journal.specs.Told.{Judged};
+ghost use Rattle.journal_index.specs.Offered.{request_with};
 ghost use Rattle.journal_index.specs.Outcome.{handed, indexed_outcome};
 ghost use Rattle.journal_index.specs.Standing.{placed_in, index_in, Stands, refusal_in};
 
 use crate::own::is_own;
-use journal::{AppendError, Asked, Budget, FIXED_SIZE, Head, append_with, contents_of, extend_by};
+use journal::{
+    AppendError, Asked, Budget, Contents, FIXED_SIZE, append_with, contents_of, extend_by,
+};
 use journal_entries::{amend, has_room};
 use refusals::Refusal;
 
@@ -40,27 +42,49 @@ pub fn append_beside(
         (request_by asked name.now chances.now (Request.times times.now) (handed indexed index.old)) }
     ensures index_unchanged { indexed ≡ false → index.new ≡ index.old }
 {
-    if indexed {
-        return append_indexed(v, len, name, chances, times, index, asked);
+    if !indexed {
+        return append_with(v, len, name, chances, times, asked);
     }
-    append_with(v, len, name, chances, times, asked)
+    let offer = Offer {
+        name,
+        chances,
+        times,
+        asked,
+    };
+    append_indexed(v, len, &offer, index)
+}
+
+// A record's name, chances and times, and what the call asks besides.
+#[derive(Clone, Copy)]
+struct Offer<'a> {
+    name: &'a [u8],
+    chances: &'a [u32],
+    times: &'a [u32],
+    asked: Asked,
+}
+
+impl Offer<'_> {
+    // The bytes of the record that is offered: it has as many limits as chances.
+    fn size_of(&self) -> usize
+        requires { (length self.now.name.now ≤ max_name) × (length self.now.chances.now ≤ max_chances) × (length self.now.times.now ≤ max_count) }
+        ensures { result ≡ 12 + length self.now.name.now + 12 * length self.now.chances.now + 4 * length self.now.times.now }
+    {
+        FIXED_SIZE + self.name.len() + 12 * self.chances.len() + 4 * self.times.len()
+    }
 }
 
 // Append of times with an index in a buffer of its own.
 fn append_indexed(
     v: &mut [u8],
     len: usize,
-    name: &[u8],
-    chances: &[u32],
-    times: &[u32],
+    offer: &Offer,
     index: &mut [u8],
-    asked: Asked,
 ) -> Result<usize, AppendError>
-    ensures { indexed_outcome len result v.new index.new ≡ append_of (record { slice = v.old; len = len })
-        (request_by asked name.now chances.now (Request.times times.now) (some index.old)) }
+    ensures { indexed_outcome len result v.new index.new
+        ≡ append_of (record { slice = v.old; len = len }) (request_with offer.now index.old) }
 {
-    match contents_of(v, len, 0, asked.rule) {
-        Ok(c) => extend_indexed(v, c.committed, c.last, name, chances, times, index, asked),
+    match contents_of(v, len, 0, offer.asked.rule) {
+        Ok(contents) => extend_indexed(v, contents, offer, index),
         Err(fault) => Err(AppendError::Damaged(fault)),
     }
 }
@@ -69,19 +93,26 @@ fn append_indexed(
 // rows are judged and no byte is written.
 fn extend_indexed(
     v: &mut [u8],
-    committed: usize,
-    last: Head,
-    name: &[u8],
-    chances: &[u32],
-    times: &[u32],
+    contents: Contents,
+    offer: &Offer,
     index: &mut [u8],
-    asked: Asked,
 ) -> Result<usize, AppendError>
-    requires { Stands v.old committed (as_last last) }
+    requires { Stands v.old contents.committed (as_last contents.last) }
     ensures { (len : ℕ) → indexed_outcome len result v.new index.new
-        ≡ append_to (standing (placed_in (take committed v.old)) committed) (record { slice = v.old; len = len })
-        (request_by asked name.now chances.now (Request.times times.now) (some index.old)) }
+        ≡ append_to (standing (placed_in (take contents.committed v.old)) contents.committed) (record { slice = v.old; len = len })
+        (request_with offer.now index.old) }
 {
+    let Offer {
+        name,
+        chances,
+        times,
+        asked,
+    } = *offer;
+    let Contents {
+        committed,
+        last,
+        ..
+    } = contents;
     let nothing = Asked {
         budget: Budget::UpTo(0),
         ..asked
@@ -93,28 +124,35 @@ fn extend_indexed(
     if let Err(refusal) = index_refusal(&v[..committed], name, index) {
         return Err(AppendError::Declined(refusal));
     }
-    extend_and_amend(v, committed, last, name, chances, times, index, asked)
+    extend_and_amend(v, contents, offer, index)
 }
 
 // An offer that nothing declines: its first bytes are written, as many as the budget lets through, and the index is amended if these are all.
 fn extend_and_amend(
     v: &mut [u8],
-    committed: usize,
-    last: Head,
-    name: &[u8],
-    chances: &[u32],
-    times: &[u32],
+    contents: Contents,
+    offer: &Offer,
     index: &mut [u8],
-    asked: Asked,
 ) -> Result<usize, AppendError>
-    requires stands { Stands v.old committed (as_last last) }
-    requires index_value { first_of (append_refusals (length v.old) (placed_in (take committed v.old)) committed
-        (request_by asked name.now chances.now (Request.times times.now) (some index.old))) ≡ 0 }
+    requires stands { Stands v.old contents.committed (as_last contents.last) }
+    requires index_value { first_of (append_refusals (length v.old) (placed_in (take contents.committed v.old)) contents.committed
+        (request_with offer.now index.old)) ≡ 0 }
     ensures { (len : ℕ) → indexed_outcome len result v.new index.new
-        ≡ append_to (standing (placed_in (take committed v.old)) committed) (record { slice = v.old; len = len })
-        (request_by asked name.now chances.now (Request.times times.now) (some index.old)) }
+        ≡ append_to (standing (placed_in (take contents.committed v.old)) contents.committed) (record { slice = v.old; len = len })
+        (request_with offer.now index.old) }
 {
-    let finished = is_finished(asked.budget, size_of(name, chances, times));
+    let Offer {
+        name,
+        chances,
+        times,
+        asked,
+    } = *offer;
+    let Contents {
+        committed,
+        last,
+        ..
+    } = contents;
+    let finished = is_finished(asked.budget, offer.size_of());
     let r = extend_by(v, committed, last, name, chances, times, asked);
     if finished {
         amend(index, name, committed);
@@ -148,14 +186,6 @@ fn index_refusal(b: &[u8], name: &[u8], index: &[u8]) -> Result<(), Refusal>
         return Err(Refusal::IndexRoom);
     }
     Ok(())
-}
-
-// The bytes of the record that is offered: it has as many limits as chances.
-fn size_of(name: &[u8], chances: &[u32], times: &[u32]) -> usize
-    requires { (length name.now ≤ max_name) × (length chances.now ≤ max_chances) × (length times.now ≤ max_count) }
-    ensures { result ≡ 12 + length name.now + 12 * length chances.now + 4 * length times.now }
-{
-    FIXED_SIZE + name.len() + 12 * chances.len() + 4 * times.len()
 }
 
 // Whether the budget lets all of a record of that size through.

@@ -3,12 +3,12 @@
 use Rattle.journal_index.proofs.Beside.{with_index, without_index}
 use Rattle.journal_index.proofs.append.append_beside.Goals as goal
 
-pub returns-then-indexed : goal.returns-then-indexed
-returns-then-indexed c =
-    let h = with_index _ _ c.append_indexed.result _ _ _ _ _ _ _ _ _ c.if-indexed.true _ c.append_indexed.ensures in
-    record { index_after = h.0; index_unchanged = h.1 }
-
 pub returns : goal.returns
 returns c =
-    let h = without_index _ _ c.append_with.result _ _ _ _ _ _ _ _ _ c.if-indexed.false c.append_with.ensures in
+    let h = with_index _ _ c.append_indexed.result _ _ _ _ _ _ _ _ _ c.if-not-indexed.false _ c.append_indexed.ensures in
+    record { index_after = h.0; index_unchanged = h.1 }
+
+pub returns-then-not-indexed : goal.returns-then-not-indexed
+returns-then-not-indexed c =
+    let h = without_index _ _ c.append_with.result _ _ _ _ _ _ _ _ _ c.if-not-indexed.true c.append_with.ensures in
     record { index_after = h.0; index_unchanged = h.1 }

@@ -2,10 +2,9 @@
 -- Assumes nothing.
 use mathlib.Core.Path.{refl}
 use Prim.Native.Nat.{ℕ}
-use mathlib.Core.Option.{some}
 use lib.ListN.{take}
-use Rattle.journal_spec.specs.Request as Request
-use Rattle.journal.specs.Handed.{request_by, as_budget}
+use Rattle.journal.specs.Handed.{as_budget}
+use Rattle.journal_index.specs.Offered.{request_with}
 use Rattle.journal_index.specs.Standing.{placed_in}
 use Rattle.journal_index.proofs.Appending.{without, JudgedBy, judged}
 use Rattle.journal_index.proofs.Standing.{ends_placed, judged_first, judged_then, judged_none, judged_whole, judged_writes}
@@ -15,9 +14,8 @@ use Rattle.journal_index.proofs.append.extend_indexed.Goals.{After-extend_by-jud
 -- what the call with a budget of nothing says
 told : (c : After-extend_by-judged) (len : ℕ)
     → let a = c.args in
-    JudgedBy (record { slice = a.v.now; len = len }) (placed_in (take a.committed a.v.now)) a.committed
-    (request_by a.asked a.name.now a.chances.now (Request.times a.times.now) (some a.index.now))
-    a.index.now refl c.extend_by-judged.result c.extend_by-judged.new.v
+    JudgedBy (record { slice = a.v.now; len = len }) (placed_in (take a.contents.committed a.v.now)) a.contents.committed
+    (request_with a.offer.now a.index.now) a.index.now refl c.extend_by-judged.result c.extend_by-judged.new.v
 unfolding without as_budget
 told c len = judged _ _ _ _ _ refl _ _ (c.extend_by-judged.ensures len _ (ends_placed _ _ _ c.requires))
 
