@@ -6,3 +6,4 @@ pub mod Folders
 pub mod Gathering
 pub mod Examples
 pub mod Showing
+pub mod Rows

@@ -1,6 +1,6 @@
 // The words of a command line: which command is asked for, and which options stand before its other words.
-// Options stand in any order, each once; `--` ends them. A chain of words is made from its last row to its first.
-ghost use Rattle.std.specs.Prelude.{◌≡◌, if◌then◌else◌};
+// Options stand in any order, each once; `--` ends them.
+ghost use Rattle.std.specs.Prelude.{◌≡◌, if◌then◌else◌, Some, None};
 ghost use Rattle.text_digits.specs.Same.{same_bytes};
 ghost use Rattle.command_io.specs.Options.{command_of, told_of, asked_of, flag_of, end_of, dash_of};
 
@@ -59,75 +59,74 @@ pub struct Options {
     pub first: usize,
 }
 
-// The command that a word asks for.
+// The command that a word asks for. A row for each word; a match on the words themselves would open one goal for each of their bytes.
 pub fn command_of(word: &[u8]) -> Option<Command>
     ensures { result ≡ command_of word.now }
 {
-    let rest8 = told_of(word);
-    let rest7 = row_or(word, b"trial", Some(Command::Trial), rest8);
-    let rest6 = row_or(word, b"index", Some(Command::Index), rest7);
-    let rest5 = row_or(word, b"merge", Some(Command::Merge), rest6);
-    let rest4 = row_or(word, b"record", Some(Command::Record), rest5);
-    let rest3 = row_or(word, b"slots", Some(Command::Slots), rest4);
-    let rest2 = row_or(word, b"survey", Some(Command::Survey), rest3);
-    let rest1 = row_or(word, b"list", Some(Command::List), rest2);
-    row_or(word, b"append", Some(Command::Append), rest1)
+    row(word, b"append", Command::Append)
+        .or(row(word, b"list", Command::List))
+        .or(row(word, b"survey", Command::Survey))
+        .or(row(word, b"slots", Command::Slots))
+        .or(row(word, b"record", Command::Record))
+        .or(row(word, b"merge", Command::Merge))
+        .or(row(word, b"index", Command::Index))
+        .or(row(word, b"trial", Command::Trial))
+        .or(told_of(word))
 }
 
 // The same of those that need no volume.
 fn told_of(word: &[u8]) -> Option<Command>
     ensures { result ≡ told_of word.now }
 {
-    let rest7 = asked_of(word);
-    let rest6 = row_or(word, b"page", Some(Command::Drawn), rest7);
-    let rest5 = row_or(word, b"plot", Some(Command::Drawn), rest6);
-    let rest4 = row_or(word, b"demo", Some(Command::Demo), rest5);
-    let rest3 = row_or(word, b"refusal", Some(Command::Refusal), rest4);
-    let rest2 = row_or(word, b"date", Some(Command::Date), rest3);
-    let rest1 = row_or(word, b"day", Some(Command::Day), rest2);
-    row_or(word, b"band", Some(Command::Band), rest1)
+    row(word, b"band", Command::Band)
+        .or(row(word, b"day", Command::Day))
+        .or(row(word, b"date", Command::Date))
+        .or(row(word, b"refusal", Command::Refusal))
+        .or(row(word, b"demo", Command::Demo))
+        .or(row(word, b"plot", Command::Drawn))
+        .or(row(word, b"page", Command::Drawn))
+        .or(asked_of(word))
 }
 
 // The same of what is asked of the program itself.
 fn asked_of(word: &[u8]) -> Option<Command>
     ensures { result ≡ asked_of word.now }
 {
-    let rest3 = None;
-    let rest2 = row_or(word, b"selftest", Some(Command::Selftest), rest3);
-    let rest1 = row_or(word, b"--help", Some(Command::Help), rest2);
-    row_or(word, b"-h", Some(Command::Help), rest1)
-}
-
-// A value where two words are the same, else another.
-fn row_or<T: Copy + Drop>(word: &[u8], row: &[u8], yes: T, no: T) -> T
-    ensures { result ≡ (if same_bytes word.now row.now then yes else no) }
-{
-    if same(word, row) { yes } else { no }
+    row(word, b"-h", Command::Help)
+        .or(row(word, b"--help", Command::Help))
+        .or(row(word, b"selftest", Command::Selftest))
 }
 
 // The option that a word is.
 pub fn flag_of(word: &[u8]) -> Flag
     ensures { result ≡ flag_of word.now }
 {
-    let rest8 = end_of(word);
-    let rest7 = row_or(word, b"--check", Flag::Check, rest8);
-    let rest6 = row_or(word, b"--make", Flag::Make, rest7);
-    let rest5 = row_or(word, b"--ticks", Flag::Ticks, rest6);
-    let rest4 = row_or(word, b"--tsv", Flag::Tabs, rest5);
-    let rest3 = row_or(word, b"--wait", Flag::Wait, rest4);
-    let rest2 = row_or(word, b"--index", Flag::Index, rest3);
-    let rest1 = row_or(word, b"--log", Flag::Log, rest2);
-    row_or(word, b"--profile", Flag::Profile, rest1)
+    row(word, b"--profile", Flag::Profile)
+        .or(row(word, b"--log", Flag::Log))
+        .or(row(word, b"--index", Flag::Index))
+        .or(row(word, b"--wait", Flag::Wait))
+        .or(row(word, b"--tsv", Flag::Tabs))
+        .or(row(word, b"--ticks", Flag::Ticks))
+        .or(row(word, b"--make", Flag::Make))
+        .or(row(word, b"--check", Flag::Check))
+        .unwrap_or(end_of(word))
 }
 
 // The same of the words behind which no option stands.
 fn end_of(word: &[u8]) -> Flag
     ensures { result ≡ end_of word.now }
 {
-    let rest3 = dash_of(word);
-    let rest2 = row_or(word, b"--", Flag::End, rest3);
-    let rest1 = row_or(word, b"--help", Flag::Help, rest2);
-    row_or(word, b"-h", Flag::Help, rest1)
+    row(word, b"-h", Flag::Help)
+        .or(row(word, b"--help", Flag::Help))
+        .or(row(word, b"--", Flag::End))
+        .unwrap_or(dash_of(word))
+}
+
+// A value where two words are the same.
+fn row<T: Copy + Drop>(word: &[u8], text: &[u8], value: T) -> Option<T>
+    ensures { result ≡ (if same_bytes word.now text.now then Some value else None) }
+{
+    same(word, text).then_some(value)
 }
 
 // A word that starts with a dash, or any other.

@@ -1,9 +1,17 @@
--- `asked_of` makes its rows from the last to the first.
+-- `asked_of` asks its rows one after another.
 -- Assumes nothing.
 use Rattle.command_io.specs.Options.{asked_of}
+use Rattle.command_io.proofs.Rows.{or_row}
 use Rattle.command_io.proofs.options.asked_of.Goals as goal
 
 pub returns : goal.returns
 unfolding asked_of
 returns c =
-    rw (c.row_or.ensures, c.row_or-rest1.ensures, c.row_or-rest2.ensures)
+    rw (
+      c.or-2.ensures,
+      c.or.ensures,
+      c.row.ensures,
+      c.row-2.ensures,
+      c.row-3.ensures,
+    )
+    (simp or_row)
