@@ -1,7 +1,7 @@
 -- What the loop that compares times with the first of them keeps.
 -- Assumes nothing.
 use mathlib.Core.Path.{◌≡◌, refl, sym, ap, ◌∙◌}
-use Prim.Native.Nat.{ℕ, zero, suc, ◌+◌, ◌*◌, ◌-◌, ◌≤◌, ◌<◌}
+use Prim.Native.Nat.{ℕ, zero, suc, ◌+◌, ◌*◌, ◌≤◌, ◌<◌}
 use mathlib.Core.List.{List}
 use mathlib.Core.Bool.{true, false}
 use native.Mathlib.Omega.{arith}
@@ -34,16 +34,10 @@ module _ (b : List ℕ) (n first : ℕ) where
           rw (← x, eq-eqb first first refl) refl
 
   module _ (p left : ℕ) (g : Comparing b n first p left) where
-    pub comparing_turn : (x : ℕ) → 0 < left → x ≡ number_at 4 p b → x ≡ first → Comparing b n first (p + 4) (left - 1)
+    pub comparing_turn : (x next more : ℕ) → next ≡ p + 4 → left ≡ suc more → x ≡ number_at 4 p b → x ≡ first → Comparing b n first next more
     unfolding all_equal numbers_in
-    comparing_turn x pos e same =
-        record { inside = omega (arith, g.inside); same = g.same ∙ go left pos }
-      where
-        go : (k : ℕ) → 0 < k → all_equal first (numbers_in 4 k p b) ≡ all_equal first (numbers_in 4 (k - 1) (p + 4) b)
-        go zero some = absurd (omega arith)
-        go (suc k) some =
-            let z : suc k - 1 ≡ k = omega arith in
-            rw (z, eq-eqb first (number_at 4 p b) (sym same ∙ e)) refl
+    comparing_turn x next more on less e same =
+        record { inside = omega (arith, g.inside); same = g.same ∙ rw (on, less, eq-eqb first (number_at 4 p b) (sym same ∙ e)) refl }
 
     pub comparing_differs : (x : ℕ) → 0 < left → x ≡ number_at 4 p b → (x ≡ first → ⊥) → are_equal (numbers_in 4 n 0 b) ≡ false
     unfolding all_equal numbers_in

@@ -4,6 +4,7 @@ use mathlib.Core.Path.{◌≡◌, refl, sym, ap, ◌∙◌}
 use Prim.Native.Nat.{ℕ, zero, suc, ◌+◌, ◌-◌, ◌/◌, ◌%◌, ◌≤◌, ◌<◌, min}
 use mathlib.Core.List.{List, [], ◌∷◌, ◌++◌, append_assoc, append-nil}
 use native.Mathlib.Omega.{arith}
+use Rattle.std.specs.Int.{to_le_bytes, w64}
 use lib.ListN.{length, take, drop, get_or}
 use lib.Seq.{paste, paste-zero, length-paste, take_at, take-length}
 use Rattle.facts.proofs.Orders.{by_order}
@@ -18,6 +19,17 @@ use Rattle.journal_spec.proofs.Records.{length_record}
 use Rattle.journal.specs.Handed.{record_from, bytes_from}
 
 -- ---- a number
+
+pub eight_bytes : (x : ℕ) → to_le_bytes w64 x ≡ bytes_of 8 x
+unfolding bytes_of
+eight_bytes x =
+    let third : x / 256 / 256 ≡ x / 65_536 = omega arith in
+    let fourth : x / 65_536 / 256 ≡ x / 16_777_216 = omega arith in
+    let fifth : x / 16_777_216 / 256 ≡ x / 4_294_967_296 = omega arith in
+    let sixth : x / 4_294_967_296 / 256 ≡ x / 1_099_511_627_776 = omega arith in
+    let seventh : x / 1_099_511_627_776 / 256 ≡ x / 281_474_976_710_656 = omega arith in
+    let eighth : x / 281_474_976_710_656 / 256 ≡ x / 72_057_594_037_927_936 = omega arith in
+    rw (third, fourth, fifth, sixth, seventh, eighth) refl
 
 pub take_bytes : (w n x : ℕ) → w ≤ n → take w (bytes_of n x) ≡ bytes_of w x
 unfolding bytes_of
@@ -74,18 +86,6 @@ module _ (d : List ℕ) (at w : ℕ) (xs : List ℕ) where
         let all : i ≡ length xs = omega (arith, l.few) in
         let text : take i xs ≡ xs = rw all (take-length xs) in
         put_as _ _ _ _ _ _ (ap (λ (ys : List ℕ). bytes_of 2 (length xs) ++ number_bytes w ys) text) (put_put _ _ _ _ _ _ _ _ count l.put)
-
--- bytes are their own numbers of one byte
-bytes_alone : (xs : List ℕ) → AreBytes xs → number_bytes 1 xs ≡ xs
-unfolding number_bytes bytes_of
-bytes_alone [] h = refl
-bytes_alone (x ∷ xs) h =
-    let low : x % 256 ≡ x = omega (arith, h.0) in
-    rw (low, bytes_alone xs h.1) refl
-
-pub bytes_section : (xs : List ℕ) → AreBytes xs → bytes_of 2 (length xs) ++ xs ≡ section_bytes 1 xs
-unfolding section_bytes
-bytes_section xs h = ap (λ (bs : List ℕ). bytes_of 2 (length xs) ++ bs) (sym (bytes_alone xs h))
 
 -- ---- the record
 

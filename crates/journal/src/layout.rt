@@ -1,6 +1,6 @@
 // A record's bytes laid out in an array, as document 01's leaf has them: form, day, and four sections, each after its count.
 // As with text_digits' `put`, what has no room is left out, so that any array is fine; one of `MAX_RECORD` bytes has room for every record.
-ghost use Rattle.std.specs.Prelude.{◌≡◌, ◌++◌, ◌≤◌};
+ghost use Rattle.std.specs.Prelude.{◌≡◌, ℕ, ◌++◌, ◌≤◌, map};
 ghost use Rattle.text_digits.specs.Text.{Put};
 ghost use Rattle.limit.specs.Formula.{sample_form};
 ghost use Rattle.journal_spec.specs.Bytes.{bytes_of};
@@ -26,10 +26,10 @@ pub(crate) fn lay_record(
         out.new result }
 {
     let of_head = lay_head(out, day);
-    let of_name = lay_bytes(out, of_head, name);
-    let of_chances = lay_numbers(out, of_name, chances);
-    let of_times = lay_numbers(out, of_chances, times);
-    lay_bits(out, of_times, limits)
+    let of_name = lay_section(out, of_head, 1, name);
+    let of_chances = lay_section(out, of_name, 4, chances);
+    let of_times = lay_section(out, of_chances, 4, times);
+    lay_section(out, of_times, 8, limits)
 }
 
 // Form and day.
@@ -40,40 +40,49 @@ fn lay_head(out: &mut [u8], day: u16) -> usize
     lay_number(out, of_form, 2, day as u64)
 }
 
-// The name's section: the count of its bytes, and these.
-fn lay_bytes(out: &mut [u8], at: usize, bytes: &[u8]) -> usize
-    ensures { Put out.old at (section_bytes 1 bytes.now) out.new result }
-{
-    let p = lay_number(out, at, 2, bytes.len() as u64);
-    put(out, p, bytes)
+// What a section holds: bytes of a name, chances or times, or the bits of limits.
+trait Number: Copy {
+    ghost value: { Self → ℕ };
+
+    // The number itself.
+    fn number(self) -> u64
+        ensures { result ≡ value self };
 }
 
-// A section of chances or of times.
-fn lay_numbers(out: &mut [u8], at: usize, numbers: &[u32]) -> usize
-    ensures { Put out.old at (section_bytes 4 numbers.now) out.new result }
-{
-    let n = numbers.len();
-    let mut p = lay_number(out, at, 2, n as u64);
-    let mut i: usize = 0;
-    while i < n {
-        p = lay_number(out, p, 4, numbers[i] as u64);
-        i += 1;
+impl Number for u8 {
+    ghost value = { λ x. x };
+
+    fn number(self) -> u64 {
+        self as u64
     }
-    p
 }
 
-// The section of the limits' bits.
-fn lay_bits(out: &mut [u8], at: usize, limits: &[u64]) -> usize
-    ensures { Put out.old at (section_bytes 8 limits.now) out.new result }
-{
-    let n = limits.len();
-    let mut p = lay_number(out, at, 2, n as u64);
-    let mut i: usize = 0;
-    while i < n {
-        p = lay_number(out, p, 8, limits[i]);
-        i += 1;
+impl Number for u32 {
+    ghost value = { λ x. x };
+
+    fn number(self) -> u64 {
+        self as u64
     }
-    p
+}
+
+impl Number for u64 {
+    ghost value = { λ x. x };
+
+    fn number(self) -> u64 {
+        self
+    }
+}
+
+// A section: the count of its numbers, and these in w bytes each.
+fn lay_section<T: Number>(out: &mut [u8], at: usize, w: usize, numbers: &[T]) -> usize
+    requires { w ≤ 8 }
+    ensures { Put out.old at (section_bytes w (map T.value numbers.now)) out.new result }
+{
+    let mut next = lay_number(out, at, 2, numbers.len() as u64);
+    for x in numbers {
+        next = lay_number(out, next, w, x.number());
+    }
+    next
 }
 
 // A number in w bytes, the lowest first.
@@ -81,29 +90,5 @@ fn lay_number(out: &mut [u8], at: usize, w: usize, x: u64) -> usize
     requires { w ≤ 8 }
     ensures { Put out.old at (bytes_of w x) out.new result }
 {
-    let bytes = eight_bytes(x);
-    put(out, at, &bytes[..w])
-}
-
-// A number's eight bytes, the lowest first.
-fn eight_bytes(x: u64) -> [u8; 8]
-    ensures { result ≡ bytes_of 8 x }
-{
-    let second = x / 256;
-    let third = second / 256;
-    let fourth = third / 256;
-    let fifth = fourth / 256;
-    let sixth = fifth / 256;
-    let seventh = sixth / 256;
-    let eighth = seventh / 256;
-    [
-        (x % 256) as u8,
-        (second % 256) as u8,
-        (third % 256) as u8,
-        (fourth % 256) as u8,
-        (fifth % 256) as u8,
-        (sixth % 256) as u8,
-        (seventh % 256) as u8,
-        (eighth % 256) as u8,
-    ]
+    put(out, at, &x.to_le_bytes()[..w])
 }

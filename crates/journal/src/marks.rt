@@ -11,7 +11,7 @@ use journal_parts::{number_at, number_in};
 const FEW_TIMES: u64 = 8;
 
 // Document 01's marks F, S and N.
-#[derive(Clone, Copy)]
+#[derive(Clone, Copy, Debug, PartialEq, Eq)]
 pub enum Mark {
     Flat,
     Few,
@@ -45,10 +45,7 @@ pub(crate) fn mark_from(flat: bool, times: u64) -> Mark
     if times < FEW_TIMES {
         return Mark::Few;
     }
-    if flat {
-        return Mark::Flat;
-    }
-    Mark::Normal
+    if flat { Mark::Flat } else { Mark::Normal }
 }
 
 // Whether the first n numbers of 4 bytes are all equal.
@@ -57,15 +54,10 @@ fn all_equal(b: &[u8], n: usize) -> bool
     ensures { result ≡ are_equal (numbers_in 4 n 0 b.now) }
 {
     let first = number_in(b, 0, 4);
-    let mut p: usize = 0;
-    let mut left = n;
-    while 0 < left {
-        let x = number_at(b, p, 4);
-        if x != first {
+    for i in 0..n {
+        if number_at(b, i * 4, 4) != first {
             return false;
         }
-        p += 4;
-        left -= 1;
     }
     true
 }

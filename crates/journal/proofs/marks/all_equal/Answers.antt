@@ -1,34 +1,28 @@
--- `all_equal` meets its contract. The invariant is `Comparing`; the measure is the number of times left.
+-- `all_equal` meets its contract, by the invariant `Comparing`.
 -- Assumes nothing.
+use mathlib.Core.Path.{◌≡◌, sym}
+use Prim.Native.Nat.{◌+◌, ◌*◌, ◌-◌}
 use native.Mathlib.Omega.{arith}
-use mathlib.Core.Path.{sym}
 use Rattle.journal.proofs.Equal.{comparing_start, comparing_turn, comparing_differs, comparing_end}
 use Rattle.journal.proofs.marks.all_equal.Goals as goal
 
-pub loop-left-init : goal.loop-left-init
-loop-left-init c = comparing_start _ _ _ (omega arith) c.number_in-first.ensures
+pub loop-i-init : goal.loop-i-init
+loop-i-init c =
+    let all : c.args.n - 0 ≡ c.args.n = omega arith in
+    rw all (comparing_start _ _ _ (omega arith) c.number_in-first.ensures)
 
-pub number_at-x-requires : goal.number_at-x-requires
-number_at-x-requires c = (omega (arith, c.loop-left.invariant.inside), omega arith)
+pub number_at-requires : goal.number_at-requires
+number_at-requires c = (omega (arith, c.loop-i.invariant.inside), omega arith)
 
-pub returns-then-x-first : goal.returns-then-x-first
-returns-then-x-first c =
-    let l = c.loop-left in
-    sym (comparing_differs _ _ _ _ _ l.invariant _ (omega arith) c.number_at-x.ensures.0 c.if-x-first.true)
+pub returns-then-number_at-first : goal.returns-then-number_at-first
+returns-then-number_at-first c =
+    let l = c.loop-i in
+    sym (comparing_differs _ _ _ _ _ l.invariant _ (omega arith) c.number_at.ensures.0 c.if-number_at-first.true)
 
-pub loop-left-preserved : goal.loop-left-preserved
-loop-left-preserved c =
-    let l = c.loop-left in
-    comparing_turn _ _ _ _ _ l.invariant _ (omega arith) c.number_at-x.ensures.0 c.if-x-first.false
+pub loop-i-preserved : goal.loop-i-preserved
+loop-i-preserved c =
+    let l = c.loop-i in
+    comparing_turn _ _ _ _ _ l.invariant _ _ (c.args.n - (l.i + 1)) (omega arith) (omega arith) c.number_at.ensures.0 c.if-number_at-first.false
 
 pub returns : goal.returns
-returns c = sym (comparing_end _ _ _ _ _ c.loop-left.invariant (omega arith))
-
-pub overflow_add-p : goal.overflow_add-p
-overflow_add-p c = omega arith
-
-pub overflow_sub-left : goal.overflow_sub-left
-overflow_sub-left c = omega arith
-
-pub loop-left-smaller : goal.loop-left-smaller
-loop-left-smaller c = omega arith
+returns c = sym (comparing_end _ _ _ _ _ c.loop-i.invariant (omega arith))

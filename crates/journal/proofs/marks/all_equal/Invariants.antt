@@ -1,10 +1,8 @@
--- `all_equal` meets its contract. The invariant is `Comparing`; the measure is the number of times left.
+-- `all_equal` meets its contract, by the invariant `Comparing`.
 -- Assumes nothing.
+use Prim.Native.Nat.{◌*◌, ◌-◌}
 use Rattle.journal.proofs.Equal.{Comparing}
 use Rattle.journal.proofs.marks.all_equal.Given as goal
 
-abbrev pub invariant-loop-left : goal.invariant-loop-left
-invariant-loop-left l = Comparing l.b l.n l.first l.p l.left
-
-abbrev pub decreases-loop-left : goal.decreases-loop-left
-decreases-loop-left l = l.left
+abbrev pub invariant-loop-i : goal.invariant-loop-i
+invariant-loop-i l = Comparing l.b l.n l.first (l.i * 4) (l.n - l.i)

@@ -13,6 +13,6 @@ pub returns-then-flat : goal.returns-then-flat
 unfolding as_mark mark_from
 returns-then-flat c = rw (le-ltb c.args.times few_times c.if-times-lt-FEW_TIMES.false, c.if-flat.true)
 
-pub returns : goal.returns
+pub returns-else-flat : goal.returns-else-flat
 unfolding as_mark mark_from
-returns c = rw (le-ltb c.args.times few_times c.if-times-lt-FEW_TIMES.false, c.if-flat.false)
+returns-else-flat c = rw (le-ltb c.args.times few_times c.if-times-lt-FEW_TIMES.false, c.if-flat.false)
