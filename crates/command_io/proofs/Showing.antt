@@ -1,16 +1,10 @@
--- A text shown a byte at a time: what is put so far and what the rest gives make the whole; and what is beyond a list's end.
+-- A text shown a byte at a time: what is put so far and what the rest gives make the whole.
 -- Assumes nothing.
-use Rattle.std.proofs.Common.{◌≡◌, ℕ, zero, suc, ◌+◌, ◌<◌, ◌≤◌, List, [], ◌∷◌, ◌++◌, length, get_or, drop, sym, refl, ap, ◌∙◌, append_assoc, append-nil, add-one, arith, drop-cons}
+use Rattle.std.proofs.Common.{◌≡◌, ℕ, ◌+◌, ◌<◌, List, [], ◌++◌, length, get_or, drop, sym, refl, ap, ◌∙◌, append_assoc, append-nil, add-one, drop-cons}
 use lib.Seq.{drop-length}
 use Rattle.text_digits.specs.Text.{Put}
 use Rattle.text_digits.proofs.Putting.{put_nothing, put_put, put_as}
 use Rattle.command_io.specs.Shown.{shown_byte, shown_of}
-
--- beyond its end a list answers 0
-pub get_d_absent : (xs : List ℕ) (i : ℕ) → length xs ≤ i → get_or xs i 0 ≡ 0
-get_d_absent [] i h = refl
-get_d_absent (x ∷ xs) zero h = absurd (omega arith)
-get_d_absent (x ∷ xs) (suc i) h = get_d_absent xs i (omega arith)
 
 -- of a line, what is shown of a text up to a place
 pub record Showing (line : List ℕ) (place : ℕ) (text after : List ℕ) (at i : ℕ) : Type 0 where
