@@ -4,6 +4,7 @@ use mathlib.Core.Path.{◌≡◌}
 use mathlib.Core.List.{List}
 use native.Mathlib.Omega.{arith}
 use lib.ListN.{length, take, drop}
+use Rattle.std.specs.Prelude.{Option}
 use Rattle.replay_lines.specs.Lines.{line_end}
 use Rattle.replay_lines.specs.declared.tally.Tally.{Tally}
 use Rattle.replay_lines.proofs.Replay.{Replayed, replay_turn}
@@ -15,7 +16,7 @@ use Rattle.replay_cases.specs.declared.line.Case.{Case}
 use Rattle.replay_cases.specs.declared.compare.Compared.{Compared}
 
 -- a turn's parts make the state after its line
-pub line_replayed : (s : List ℕ) (start : State) (at end : ℕ) (t u : Tally) (b d : List ℕ) (a : Case) (c : Compared)
+pub line_replayed : (s : List ℕ) (start : State) (at end : ℕ) (t u : Tally) (b d : List ℕ) (a : Option Case) (c : Compared)
     → at < length s → end ≡ line_end at 56 (length s) → Replayed 56 stepped s start at (record { tally = t; bytes = b })
     → a ≡ case_of (take (end - at) (drop at s)) → c ≡ compared_with (take (end - at) (drop at s)) a b → d ≡ stored_by a b → u ≡ counted t c
     → Replayed 56 stepped s start end (record { tally = u; bytes = d })

@@ -1,6 +1,6 @@
 -- A stored line against the journal in a buffer: the words of the C interface's answer are those that it expects.
 -- Assumes nothing.
-use Rattle.std.specs.Prelude.{ℕ, ◌+◌, Bool, cond, List, leb, length, get_or, take}
+use Rattle.std.specs.Prelude.{ℕ, ◌+◌, Bool, cond, List, leb, length, get_or, take, Option, None, Some}
 use Rattle.journal_spec.specs.Scan.{scan_of}
 use Rattle.journal_spec.specs.Read.{part_place, read_mark}
 use Rattle.capi.specs.Journal.{scan_words, part_words, mark_word}
@@ -35,9 +35,9 @@ unfoldable pub stored_if_room : ℕ → ℕ → Compared
 stored_if_room place size = cond (leb (place + 8) size) C.Stored C.Malformed
 
 -- a line, by what it asks, against the journal in the buffer's first bytes
-unfoldable pub compared_with : List ℕ → Case → List ℕ → Compared
-compared_with s (A.Bytes place n) v = stored_if_room place (length v)
-compared_with s (A.Scan size len) v = verdict_of (scan_agrees s (take size v) len)
-compared_with s (A.Part size len i) v = verdict_of (part_agrees s (take size v) len i)
-compared_with s (A.Mark size len i) v = verdict_of (mark_agrees s (take size v) len i)
-compared_with s A.Malformed v = C.Malformed
+unfoldable pub compared_with : List ℕ → Option Case → List ℕ → Compared
+compared_with s (Some (A.Bytes place n)) v = stored_if_room place (length v)
+compared_with s (Some (A.Scan size len)) v = verdict_of (scan_agrees s (take size v) len)
+compared_with s (Some (A.Part size len i)) v = verdict_of (part_agrees s (take size v) len i)
+compared_with s (Some (A.Mark size len i)) v = verdict_of (mark_agrees s (take size v) len i)
+compared_with s None v = C.Malformed

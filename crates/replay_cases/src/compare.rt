@@ -23,52 +23,52 @@ pub(crate) enum Compared {
 }
 
 // The line against the journal in the buffer.
-pub(crate) fn compare(line: &[u8], a: Case, v: &[u8]) -> Compared
+#[tactic(auto, unfolding(crate::specs::Compare::compared_with))]
+pub(crate) fn compare(line: &[u8], a: Option<Case>, v: &[u8]) -> Compared
     ensures { result ≡ compared_with line.now a v.now }
 {
     match a {
-        Case::Bytes { place, n: _ } => stored_if_room(place, v.len()),
-        Case::Scan { size, len } => verdict(scan_agrees(line, front(v, size), len)),
-        Case::Part { size, len, i } => verdict(part_agrees(line, front(v, size), len, i)),
-        Case::Mark { size, len, i } => verdict(mark_agrees(line, front(v, size), len, i)),
-        Case::Malformed => Compared::Malformed,
+        Some(Case::Bytes { place, .. }) => stored_if_room(place, v.len()),
+        Some(Case::Scan { size, len }) => verdict(scan_agrees(line, front(v, size), len)),
+        Some(Case::Part { size, len, i }) => verdict(part_agrees(line, front(v, size), len, i)),
+        Some(Case::Mark { size, len, i }) => verdict(mark_agrees(line, front(v, size), len, i)),
+        None => Compared::Malformed,
     }
 }
 
 // Stored where eight bytes have room in a buffer of a size from a place on, and malformed elsewhere.
+#[tactic(auto, using(std::proofs::lemmas::Bool::Decides::nat_tests), unfolding(crate::specs::Compare::stored_if_room))]
 fn stored_if_room(place: usize, size: usize) -> Compared
     ensures { result ≡ stored_if_room place size }
 {
-    if size < 8 {
-        return Compared::Malformed;
+    if 8 <= size && place <= size - 8 {
+        Compared::Stored
+    } else {
+        Compared::Malformed
     }
-    if size - 8 < place {
-        return Compared::Malformed;
-    }
-    Compared::Stored
 }
 
 // Whether the answer is as expected.
+#[tactic(auto, unfolding(crate::specs::Compare::verdict_of))]
 fn verdict(same: bool) -> Compared
     ensures { result ≡ verdict_of same }
 {
     if same {
-        return Compared::Same;
+        Compared::Same
+    } else {
+        Compared::Differs
     }
-    Compared::Differs
 }
 
 // The first bytes of a buffer, or all where it has no more.
-fn front<'a>(v: &'a [u8], size: usize) -> &'a [u8]
+fn front(v: &[u8], size: usize) -> &[u8]
     ensures { result.now ≡ take size v.now }
 {
-    if v.len() < size {
-        return v;
-    }
-    &v[..size]
+    v.get(..size).unwrap_or(v)
 }
 
 // Scan's three words against the line's.
+#[tactic(auto, unfolding(crate::specs::Compare::scan_agrees))]
 fn scan_agrees(line: &[u8], v: &[u8], len: usize) -> bool
     ensures { result ≡ scan_agrees line.now v.now len }
 {
@@ -83,12 +83,13 @@ fn put_scan(line: &[u8], v: &[u8], len: usize, out: &mut [u64; 3])
 {
     if by_profile(line) {
         journal_profile_scan(v, len, out);
-        return;
+    } else {
+        journal_scan(v, len, out);
     }
-    journal_scan(v, len, out);
 }
 
 // The part's two words against the line's last two.
+#[tactic(auto, unfolding(crate::specs::Compare::part_agrees))]
 fn part_agrees(line: &[u8], v: &[u8], len: usize, i: usize) -> bool
     ensures { result ≡ part_agrees line.now v.now len i }
 {
@@ -103,17 +104,19 @@ fn put_part(line: &[u8], v: &[u8], len: usize, i: usize, out: &mut [u64; 2])
 {
     if by_profile(line) {
         journal_profile_part(v, len, i, out);
-        return;
+    } else {
+        journal_part(v, len, i, out);
     }
-    journal_part(v, len, i, out);
 }
 
 // The mark's word against the line's middle one.
 fn mark_agrees(line: &[u8], v: &[u8], len: usize, i: usize) -> bool
     ensures { result ≡ mark_agrees line.now v.now len i }
 {
-    if by_profile(line) {
-        return agree(line, 0, journal_profile_mark(v, len, i), 0);
-    }
-    agree(line, 0, journal_mark(v, len, i), 0)
+    let mark = if by_profile(line) {
+        journal_profile_mark(v, len, i)
+    } else {
+        journal_mark(v, len, i)
+    };
+    agree(line, 0, mark, 0)
 }

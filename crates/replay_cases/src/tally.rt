@@ -3,14 +3,13 @@
 ghost use Rattle.std.specs.Prelude.{◌≡◌};
 ghost use Rattle.replay_cases.specs.Replay.{counted, replayed};
 
-use crate::PROGRAM;
 use crate::compare::{Compared, compare};
 use crate::line::case_of;
 use crate::store::store;
-use replay_lines::{Tally, compared_more, line_end, malformed_more, print, print_malformed};
+use replay_lines::{Output, Tally, line_end};
 
 // The lines of a chunk, one after another; the last may be cut short, and is malformed then.
-pub(crate) fn tally_chunk(rt: &HostRuntime, chunk: &[u8], v: &mut [u8], t: Tally) -> Tally
+pub(crate) fn tally_chunk(out: Output, chunk: &[u8], v: &mut [u8], t: Tally) -> Tally
     ensures value { result ≡ (replayed chunk.now v.old t).tally }
     ensures v_after { v.new ≡ (replayed chunk.now v.old t).bytes }
 {
@@ -23,35 +22,33 @@ pub(crate) fn tally_chunk(rt: &HostRuntime, chunk: &[u8], v: &mut [u8], t: Tally
         let compared = compare(line, a, v);
         store(a, v);
         tally = count(tally, compared);
-        show(rt, tally, line, compared);
+        show(out, tally, line, compared);
         at = end;
     }
     tally
 }
 
 // A tally with one line more.
+#[tactic(auto, unfolding(crate::specs::Replay::counted))]
 fn count(t: Tally, c: Compared) -> Tally
     ensures { result ≡ counted t c }
 {
     match c {
         Compared::Stored => t,
-        Compared::Same => compared_more(t, true),
-        Compared::Differs => compared_more(t, false),
-        Compared::Malformed => malformed_more(t),
+        Compared::Same => t.compared_more(true),
+        Compared::Differs => t.compared_more(false),
+        Compared::Malformed => t.malformed_more(),
     }
 }
 
 // Writes the line out unless it is as expected.
-fn show(rt: &HostRuntime, t: Tally, line: &[u8], c: Compared) {
+fn show(out: Output, t: Tally, line: &[u8], c: Compared) {
     match c {
-        Compared::Stored => {}
-        Compared::Same => {}
+        Compared::Stored | Compared::Same => {}
         Compared::Differs => {
-            print(rt, &PROGRAM, b"differs: ");
-            print(rt, &PROGRAM, line);
+            out.print(b"differs: ");
+            out.print(line);
         }
-        Compared::Malformed => {
-            print_malformed(rt, &PROGRAM, t);
-        }
+        Compared::Malformed => out.print_malformed(t),
     }
 }

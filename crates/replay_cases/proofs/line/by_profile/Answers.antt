@@ -1,21 +1,17 @@
--- `by_profile` is its definition by its tests; of no bytes the first counts as 0. Assumes nothing.
-use mathlib.Core.Path.{◌≡◌, refl}
-use Prim.Native.Nat.{ℕ}
-use mathlib.Core.List.{List, [], ◌∷◌}
-use native.Mathlib.Omega.{arith}
-use lib.ListN.{length}
+-- `by_profile` is its definition by the first letter; of no bytes the first counts as 0. Assumes nothing.
+use Rattle.std.proofs.Common.{◌≡◌, ℕ, ◌<◌, List, [], ◌∷◌, length, refl, arith}
 use Rattle.journal_spec.specs.Profile.{profile}
 use Rattle.replay_cases.specs.Line.{rule_by}
 use Rattle.replay_cases.proofs.line.by_profile.Goals as goal
 
-empty : (s : List ℕ) → length s ≡ 0 → profile ≡ rule_by s
+empty : (s : List ℕ) → length s < 1 → profile ≡ rule_by s
 unfolding rule_by
 empty [] h = refl
 empty (x ∷ xs) h = absurd (omega arith)
 
-pub returns-then-line-eq0 : goal.returns-then-line-eq0
-returns-then-line-eq0 c = empty _ c.if-line-eq0.true
+pub returns-in-empty : goal.returns-in-empty
+returns-in-empty c = empty _ c.in-empty.len_below
 
-pub returns : goal.returns
+pub returns-in-len1-up : goal.returns-in-len1-up
 unfolding rule_by
-returns c = refl
+returns-in-len1-up c = refl

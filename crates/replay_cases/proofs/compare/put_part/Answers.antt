@@ -1,8 +1,0 @@
--- `put_part` asks by the line's rule. Assumes nothing.
-use Rattle.replay_cases.proofs.compare.put_part.Goals as goal
-
-pub returns-then-by_profile : goal.returns-then-by_profile
-returns-then-by_profile c = rw (← c.by_profile.ensures, c.if-by_profile.true) c.journal_profile_part.ensures
-
-pub returns : goal.returns
-returns c = rw (← c.by_profile.ensures, c.if-by_profile.false) c.journal_part.ensures
