@@ -1,11 +1,11 @@
 -- The journal's own index, by its entries: its count, and where the record of the entry at a position starts.
 -- Assumes nothing.
-use Rattle.std.proofs.Common.{◌≡◌, ℕ, zero, suc, ◌+◌, ◌<◌, ◌≤◌, leb, List, [], ◌∷◌, length, get_or, take, drop, sym, refl, ap, ◌∙◌, arith, drop-cons, le-leb}
+use Rattle.std.proofs.Common.{◌≡◌, ℕ, zero, suc, ◌+◌, ◌<◌, ◌≤◌, Bool, true, false, cond, leb, List, [], ◌∷◌, length, get_or, take, drop, sym, refl, ap, ◌∙◌, arith, drop-cons, le-leb}
 use Rattle.journal_spec.specs.Bytes.{number_at}
 use Rattle.journal_spec.specs.Index.{IndexEntry, entries_size}
 use Rattle.journal_parts.specs.Numbers.{number_in}
 use Rattle.journal_parts.proofs.NumberStands.{number_stands}
-use Rattle.journal_entries.specs.Entries.{behind_entry, start_at, start_in}
+use Rattle.journal_entries.specs.Entries.{behind_entry, start_at, start_in, size_at}
 use Rattle.journal_entries.proofs.Indexed.{Entries, entry_read, IndexHere}
 use Rattle.journal_entries.proofs.Parsed.{index_read}
 use Rattle.journal_spec.proofs.Standing.{no_entry}
@@ -39,3 +39,12 @@ module _ (b : List ℕ) (es : List IndexEntry) (x : IndexHere b es) where
       ap (λ (l : List IndexEntry). start_in b (2 + entries_size (take i l))) (index_read b es x)
       ∙ start_here b (2 + entries_size (take i es)) (get_or es i no_entry) (drop (suc i) es)
       (rw (drop-cons es i no_entry h) at (entries_behind b 2 es i x.entries (omega arith)))
+
+-- the start by the entry that is read
+pub start_told : (b : List ℕ) (at : ℕ) → size_at b at ≡ 0 → 0 ≡ start_in b at
+unfolding size_at start_in
+start_told b at h = go (leb (behind_entry b at) (length b)) h
+  where
+    go : (t : Bool) → cond t (number_at 2 at b + 6) 0 ≡ 0 → 0 ≡ cond t (start_at b at) 0
+    go true k = absurd (omega arith)
+    go false k = refl

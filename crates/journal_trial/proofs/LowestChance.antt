@@ -1,5 +1,5 @@
 -- The lowest chance by its bytes: the turns of the loop, and that it is the one of the definition. Assumes nothing.
-use Rattle.std.proofs.Common.{◌≡◌, ℕ, zero, suc, ◌+◌, ◌-◌, ◌*◌, ◌/◌, ◌<◌, ◌≤◌, Bool, true, false, cond, List, [], ◌∷◌, length, get_or, sym, refl, ap, ◌∙◌, arith}
+use Rattle.std.proofs.Common.{◌≡◌, ℕ, zero, suc, ◌+◌, ◌-◌, ◌*◌, ◌/◌, ◌<◌, ◌≤◌, Bool, true, false, cond, List, [], ◌∷◌, length, get_or, sym, refl, ap, ◌∙◌, arith, Option, None, Some}
 use Rattle.journal_spec.specs.Bytes.{number_at, numbers_in}
 use Rattle.journal_parts.specs.Numbers.{number_in}
 use Rattle.journal_parts.proofs.NumberStands.{number_stands}
@@ -15,18 +15,18 @@ module _ (links : ℕ) (b overs : List ℕ) where
   one_more j h = omega arith
 
   turn_is : (j : ℕ) → 4 * j + 4 ≤ length b → (t : Bool) → overruns links (number_at 4 (4 * j) b) (get_or overs j 0) ≡ t
-      → lowest_from links b overs (length b / 4 - j) j ≡ cond t (number_at 4 (4 * j) b) (lowest_from links b overs (length b / 4 - (j + 1)) (j + 1))
+      → lowest_from links b overs (length b / 4 - j) j ≡ cond t (Some (number_at 4 (4 * j) b)) (lowest_from links b overs (length b / 4 - (j + 1)) (j + 1))
   unfolding lowest_from
   turn_is j h t e = rw (one_more j h) (rw e refl)
 
   -- what a turn is told
   pub lowest_turn : (j c : ℕ) (t : Bool) → 4 * j + 4 ≤ length b → c ≡ number_at 4 (4 * j) b → t ≡ overruns links c (get_or overs j 0)
-      → lowest_from links b overs (length b / 4 - j) j ≡ cond t c (lowest_from links b overs (length b / 4 - (j + 1)) (j + 1))
+      → lowest_from links b overs (length b / 4 - j) j ≡ cond t (Some c) (lowest_from links b overs (length b / 4 - (j + 1)) (j + 1))
   lowest_turn j c t h e f =
       turn_is j h t (ap (λ (d : ℕ). overruns links d (get_or overs j 0)) (sym e) ∙ sym f)
-      ∙ ap (λ (d : ℕ). cond t d (lowest_from links b overs (length b / 4 - (j + 1)) (j + 1))) (sym e)
+      ∙ ap (λ (d : ℕ). cond t (Some d) (lowest_from links b overs (length b / 4 - (j + 1)) (j + 1))) (sym e)
 
-  pub lowest_ends : (j : ℕ) → length b < 4 * j + 4 → lowest_from links b overs (length b / 4 - j) j ≡ 0
+  pub lowest_ends : (j : ℕ) → length b / 4 ≤ j → lowest_from links b overs (length b / 4 - j) j ≡ None
   unfolding lowest_from
   lowest_ends j h = let z : length b / 4 - j ≡ 0 = omega arith in rw z refl
 

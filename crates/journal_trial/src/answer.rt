@@ -1,77 +1,78 @@
 // The trial of the record at a place of a journal: its parts are found by its counts, and its limits tried on the links of its name.
-// What both calls answer, with the order of refusals: a line of the log that is refused comes before everything else.
+// What the calls answer, with the order of refusals: a line of the log that is refused comes before everything else.
 ghost use Rattle.std.specs.Prelude.{◌≡◌};
 ghost use Rattle.journal_spec.specs.Record.{Record};
 ghost use Rattle.journal_trial_spec.specs.Links.{log_of};
 ghost use Rattle.journal_trial.specs.Lowest.{ChancesIn};
-ghost use Rattle.journal_trial.specs.Answers.{Tryable, finished, record_tried};
+ghost use Rattle.journal_trial.specs.Answers.{Tryable, of_index, meaning, refusal_of, refused_first, line_refused, record_tried};
 
 use crate::counting::{Counts, count_links};
 use crate::lowest::lowest;
 use journal::Fault;
+use journal_index::IndexError;
 use journal_parts::{part_of, spans_at};
+use refusals::Refusal;
 
-// Document 02's number for a line of the log that is refused.
-pub(crate) const LINE_REFUSAL: u32 = 11;
-
-// The links, how many chances there are, and the lowest that was overrun, 0 for none; or a refusal with its number: 14 or 10; the journal's fault;
-// or 11 with the place of the log's line.
+// Why nothing is tried: the index is another's, or has no such position; the journal's fault; or a line of the log, with its place.
 #[derive(Clone, Copy)]
-pub enum Answer {
-    Tried {
-        links: u64,
-        chances: usize,
-        lowest: u64,
-    },
-    Declined(u32),
+pub enum TrialError {
+    Declined(Refusal),
     Damaged(Fault),
     DeclinedAt(Fault),
 }
 
-// The answer, and the overs at each chance, 0 where there is none.
+impl From<IndexError> for TrialError {
+    ghost from_gives = { λ error made. made ≡ of_index error };
+
+    fn from(error: IndexError) -> TrialError {
+        match error {
+            IndexError::Declined(refusal) => TrialError::Declined(refusal),
+            IndexError::Damaged(fault) => TrialError::Damaged(fault),
+        }
+    }
+}
+
+// The links, how many chances there are, the lowest that was overrun, and the overs at each chance, 0 where there is none.
 #[derive(Clone, Copy)]
 pub struct Trial {
-    pub answer: Answer,
+    pub links: u64,
+    pub chances: usize,
+    pub lowest: Option<u64>,
     pub overs: [u64; 8],
 }
 
 // The trial of the record at a place.
-pub(crate) fn try_record(log: &[u8], v: &[u8], at: usize) -> Trial
+pub(crate) fn try_record(log: &[u8], v: &[u8], at: usize) -> Result<Trial, TrialError>
     requires { Tryable v.now at }
-    ensures { result ≡ record_tried v.now at (log_of log.now) }
+    ensures { meaning result ≡ record_tried v.now at (log_of log.now) }
 {
     let s = spans_at(v, at);
-    let name = part_of(v, s.name);
-    let limits = part_of(v, s.limits);
     let chances = part_of(v, s.chances);
-    let count = s.chances.count;
-    let c = count_links(log, name, limits);
-    finish(c, count, chances)
+    let Counts { links, overs } = count_links(log, part_of(v, s.name), part_of(v, s.limits))?;
+    Ok(Trial {
+        links,
+        chances: s.chances.map_or(0, |c| c.count),
+        lowest: lowest(links, chances, &overs),
+        overs,
+    })
 }
 
-// What the counts come to, with the bytes of the chances.
-fn finish(c: Counts, count: usize, chances: &[u8]) -> Trial
-    requires { ChancesIn chances.now }
-    ensures { result ≡ finished c count chances.now }
+// A refusal, unless a line of the log is refused.
+pub(crate) fn refused(log: &[u8], error: TrialError) -> TrialError
+    ensures { refusal_of result ≡ refused_first (log_of log.now) (refusal_of error) }
 {
-    let overs = c.overs;
-    if c.unread {
-        return Trial {
-            answer: Answer::DeclinedAt(Fault {
-                number: LINE_REFUSAL,
-                place: c.place,
-            }),
-            overs,
-        };
+    match count_links(log, b"", b"") {
+        Ok(_) => error,
+        Err(line) => line,
     }
-    let links = c.links;
-    let low = lowest(links, chances, overs);
-    Trial {
-        answer: Answer::Tried {
-            links,
-            chances: count,
-            lowest: low,
-        },
-        overs,
-    }
+}
+
+// That a line of the log is refused, at its place.
+pub(crate) fn line_refused(place: usize) -> TrialError
+    ensures { refusal_of result ≡ line_refused place }
+{
+    TrialError::DeclinedAt(Fault {
+        refusal: Refusal::Line,
+        place,
+    })
 }

@@ -13,8 +13,8 @@ mod strangers;
 mod together;
 
 pub use adding::{NUMBERS, add_piece};
-pub use answer::{Answer, Trial};
+pub use answer::{Trial, TrialError};
 pub use calls::try_entry;
 pub use counting::{Counts, count_links};
 pub use lowest::exceeds;
-pub use strangers::{Unknown, try_unknown};
+pub use strangers::try_unknown;

@@ -5,7 +5,7 @@ ghost use Rattle.journal_entries.specs.Entries.{start_in};
 ghost use Rattle.journal_trial.specs.Counting.{over_at};
 ghost use Rattle.journal_trial.specs.Together.{over_bits, limit_bytes, LimitsOf, LimitsPut};
 
-use journal_entries::start_at;
+use crate::positions::start_at;
 use journal_parts::{number_in, part_of, spans_at};
 
 // The limits of a position, and the pattern that stands for none.
@@ -19,11 +19,8 @@ pub(crate) fn read_limits(v: &[u8], index: &[u8], places: &[usize], limits: &mut
     ensures { LimitsOf limits.new (λ k. limit_bytes v.now (start_in index.now (slice_index places.now k)))
         (length places.now) }
 {
-    let mut k: usize = 0;
-    while k < places.len() {
-        let at = start_at(index, places[k]);
-        put_limits(limits, k, limits_of(v, at));
-        k += 1;
+    for (k, place) in places.iter().enumerate() {
+        put_limits(limits, k, limits_of(v, start_at(index, *place)));
     }
 }
 
@@ -32,12 +29,8 @@ fn put_limits(limits: &mut [u64], k: usize, bytes: &[u8])
     requires { 8 * k + 8 ≤ length limits.old }
     ensures { LimitsPut limits.old k bytes.now limits.new 8 }
 {
-    let first = MAX_LIMITS * k;
-    let mut j: usize = 0;
-    while j < MAX_LIMITS {
-        let place = first + j;
-        limits[place] = limit_at(bytes, j);
-        j += 1;
+    for j in 0..MAX_LIMITS {
+        limits[MAX_LIMITS * k + j] = limit_at(bytes, j);
     }
 }
 
@@ -46,17 +39,15 @@ fn limit_at(bytes: &[u8], j: usize) -> u64
     requires { j < 8 }
     ensures { (ticks : ℕ) → over_bits result ticks ≡ over_at bytes.now j ticks }
 {
-    let place = 8 * j;
-    if bytes.len() < place + 8 {
+    if bytes.len() < 8 * j + 8 {
         return NONE;
     }
-    number_in(bytes, place, 8)
+    number_in(bytes, 8 * j, 8)
 }
 
 // The bytes of the limits of the record at a place.
 fn limits_of<'a>(v: &'a [u8], at: usize) -> &'a [u8]
     ensures { result.now ≡ limit_bytes v.now at }
 {
-    let s = spans_at(v, at);
-    part_of(v, s.limits)
+    part_of(v, spans_at(v, at).limits)
 }

@@ -13,27 +13,21 @@ const MILLION: u64 = 1_000_000;
 pub fn exceeds(links: u64, chance: u64, overs: u64) -> bool
     ensures { result ≡ (nat_le chance million && overruns links chance overs) }
 {
-    if MILLION < chance {
-        return false;
-    }
-    is_overrun(links, chance, overs)
+    chance <= MILLION && is_overrun(links, chance, overs)
 }
 
-// The first chance that was overrun, of those whose bytes these are, or 0.
-pub(crate) fn lowest(links: u64, chances: &[u8], overs: [u64; 8]) -> u64
+// The first chance that was overrun, of those whose bytes these are.
+pub(crate) fn lowest(links: u64, chances: &[u8], overs: &[u64; 8]) -> Option<u64>
     requires { ChancesIn chances.now }
-    ensures { result ≡ lowest_in links chances.now overs }
+    ensures { result ≡ lowest_in links chances.now overs.now }
 {
-    let mut j: usize = 0;
-    while 4 * j + 4 <= chances.len() {
-        let place = 4 * j;
-        let chance = number_in(chances, place, 4);
+    for j in 0..chances.len() / 4 {
+        let chance = number_in(chances, 4 * j, 4);
         if is_overrun(links, chance, overs[j]) {
-            return chance;
+            return Some(chance);
         }
-        j += 1;
     }
-    0
+    None
 }
 
 // Whether a chance was overrun.

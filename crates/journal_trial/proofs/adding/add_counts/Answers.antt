@@ -1,31 +1,13 @@
--- `add_counts` adds one number a turn. The measure is how many are left. Assumes nothing.
-use Rattle.std.proofs.Common.{◌-◌, refl, arith}
-use Rattle.journal_trial.proofs.Tabled.{added_none, added_step, added_end}
+-- `add_counts` adds one number a turn. Assumes nothing.
+use Rattle.std.proofs.Common.{refl, ◌∙◌, arith}
+use Rattle.journal_trial.proofs.Tabled.{place_added, added_none, added_end}
 use Rattle.journal_trial.proofs.adding.add_counts.Goals as goal
 
 pub loop-i-init : goal.loop-i-init
-loop-i-init c = (omega arith, omega arith, refl, added_none _ _)
+loop-i-init c = added_none _ _
 
 pub loop-i-preserved : goal.loop-i-preserved
-loop-i-preserved c =
-    let l = c.loop-i in
-    let a = c.args in
-    (omega arith, omega arith, omega arith, added_step _ _ _ a.counts.now l.i l.invariant.3 c.add_at.ensures)
+loop-i-preserved c = place_added _ _ _ _ (omega arith) refl _ _ refl c.loop-i.invariant
 
 pub returns : goal.returns
-returns c =
-    let l = c.loop-i in
-    let a = c.args in
-    added_end _ _ a.counts.now l.i a.numbers l.invariant.3 (omega arith)
-
-pub offset_bounds-counts-i : goal.offset_bounds-counts-i
-offset_bounds-counts-i c = omega arith
-
-pub bounds-counts-i : goal.bounds-counts-i
-bounds-counts-i c = omega arith
-
-pub overflow_add-i : goal.overflow_add-i
-overflow_add-i c = omega arith
-
-pub loop-i-smaller : goal.loop-i-smaller
-loop-i-smaller c = omega arith
+returns c = c.loop-i.invariant ∙ added_end _ _ c.loop-i.i _ (omega arith)

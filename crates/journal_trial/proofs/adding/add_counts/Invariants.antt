@@ -4,7 +4,4 @@ use Rattle.journal_trial.specs.Adding.{added_first}
 use Rattle.journal_trial.proofs.adding.add_counts.Given as goal
 
 abbrev pub invariant-loop-i : goal.invariant-loop-i
-invariant-loop-i l = (l.i ≤ l.numbers) × (l.numbers ≤ length l.counts) × (length l.table ≡ length l.initial.table) × (l.table ≡ added_first l.initial.table l.i (λ k. get_or l.counts k 0))
-
-abbrev pub decreases-loop-i : goal.decreases-loop-i
-decreases-loop-i l = l.numbers - l.i
+invariant-loop-i l = (l.table ≡ added_first l.initial.table l.i (λ k. get_or l.counts k 0))

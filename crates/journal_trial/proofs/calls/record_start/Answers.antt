@@ -5,4 +5,4 @@ use Rattle.journal_trial.proofs.calls.record_start.Goals as goal
 
 pub returns : goal.returns
 unfolding start_of
-returns c = rw (← c.entry_place-at.ensures) c.start_at.ensures
+returns c = rw (← c.entry_place.ensures) c.start_at.ensures

@@ -1,20 +1,12 @@
 -- `try_entry` goes by what the index's test says.
 -- Assumes nothing.
-use Rattle.std.proofs.Common.{◌∙◌, arith}
-use Rattle.journal_trial.proofs.Deciding.{entry_damaged, entry_declined, checked_own, checked_other, checked_damaged}
+use Rattle.std.proofs.Common.{ap, ◌∙◌, Err, arith}
+use Rattle.journal_trial.proofs.Deciding.{checked_own, refused_index, entry_refused}
 use Rattle.journal_trial.proofs.calls.try_entry.Goals as goal
 
 pub own_trial-requires : goal.own_trial-requires
-own_trial-requires c =
-    checked_own _ _ _ _ c.check_index-s.ensures
-    (λ i. omega (arith, c.type_inv.v i)) c.in-Own.is
+own_trial-requires c = checked_own _ _ _ (λ i. omega (arith, c.type_inv.v i)) _ c.in-Ok.ensures
 
-pub returns-in-Declined : goal.returns-in-Declined
-returns-in-Declined c =
-    let f = checked_other _ _ _ _ c.check_index-s.ensures _ c.in-Declined.is in
-    c.refuse.ensures ∙ entry_declined _ _ _ _ _ f.records f.committed f.stands _ f.is f.other
-
-pub returns-in-Damaged : goal.returns-in-Damaged
-returns-in-Damaged c =
-    c.refuse-in-Damaged.ensures
-    ∙ entry_damaged _ _ _ _ _ _ _ (checked_damaged _ _ _ _ c.check_index-s.ensures _ c.in-Damaged.is)
+pub returns-in-Err : goal.returns-in-Err
+returns-in-Err c =
+    ap Err c.refused.ensures ∙ rw c.from.ensures (entry_refused _ _ _ _ _ _ (refused_index _ _ _ _ _ c.in-Err.ensures))

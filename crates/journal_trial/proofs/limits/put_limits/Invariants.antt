@@ -4,7 +4,4 @@ use Rattle.journal_trial.specs.Together.{LimitsPut}
 use Rattle.journal_trial.proofs.limits.put_limits.Given as goal
 
 abbrev pub invariant-loop-j : goal.invariant-loop-j
-invariant-loop-j l = (l.first ≡ 8 * l.k) × (8 * l.k + 8 ≤ length l.initial.limits) × (l.j ≤ 8) × LimitsPut l.initial.limits l.k l.bytes l.limits l.j
-
-abbrev pub decreases-loop-j : goal.decreases-loop-j
-decreases-loop-j l = 8 - l.j
+invariant-loop-j l = LimitsPut l.initial.limits l.k l.bytes l.limits l.j

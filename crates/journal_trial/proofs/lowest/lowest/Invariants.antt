@@ -5,7 +5,4 @@ use Rattle.journal_trial.specs.Lowest.{lowest_from, lowest_in}
 use Rattle.journal_trial.proofs.lowest.lowest.Given as goal
 
 abbrev pub invariant-loop-j : goal.invariant-loop-j
-invariant-loop-j l = (l.j ≤ 8) × (lowest_in l.links l.chances l.overs ≡ lowest_from l.links l.chances l.overs (length l.chances / 4 - l.j) l.j)
-
-abbrev pub decreases-loop-j : goal.decreases-loop-j
-decreases-loop-j l = 8 - l.j
+invariant-loop-j l = (lowest_in l.links l.chances l.overs ≡ lowest_from l.links l.chances l.overs (length l.chances / 4 - l.j) l.j)
