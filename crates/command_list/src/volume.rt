@@ -1,26 +1,35 @@
 // The volume that a command reads: the file at a place among the arguments, or standard input where there is none.
 // Nothing is printed into it.
-ghost use Rattle.io.specs.Counts.{IsPrefixLen};
+ghost use Rattle.std.specs.Prelude.{◌≤◌, length, IfOk};
 
-use command_io::{Input, Options};
+use command_io::{
+    Kind, Options, Status, arg_count, await_input, fail_system, input_apart, read_input,
+    read_named, readable,
+};
 use journal::Rule;
 
 // The rule that the options ask for.
 pub fn rule_of(o: Options) -> Rule {
     if o.profile {
-        return Rule::Profile;
+        Rule::Profile
+    } else {
+        Rule::Plain
     }
-    Rule::Plain
 }
 
 // Reads a volume, as much as there is room for; where that fails, what is wrong is said.
-pub fn read_volume(rt: &HostRuntime, at: usize, kinds: &[u8], out: &mut [u8]) -> Input
-    ensures { IsPrefixLen result.size out.new }
+pub fn read_volume<'a>(
+    rt: &HostRuntime,
+    at: usize,
+    kinds: &[Kind],
+    out: &'a mut [u8],
+) -> Result<&'a [u8], Status>
+    ensures { IfOk result (λ v. length v.now ≤ length out.old) }
 {
-    if at < command_io::arg_count(rt) {
+    if at < arg_count(rt) {
         return read_file(rt, at, kinds, out);
     }
-    command_io::await_input(
+    await_input(
         rt,
         b"a volume on standard input, since no FILE is named; Ctrl-C ends this",
     );
@@ -28,26 +37,37 @@ pub fn read_volume(rt: &HostRuntime, at: usize, kinds: &[u8], out: &mut [u8]) ->
 }
 
 // The same of standard input.
-fn read_standard(rt: &HostRuntime, kinds: &[u8], out: &mut [u8]) -> Input
-    ensures { IsPrefixLen result.size out.new }
+fn read_standard<'a>(
+    rt: &HostRuntime,
+    kinds: &[Kind],
+    out: &'a mut [u8],
+) -> Result<&'a [u8], Status>
+    ensures { IfOk result (λ v. length v.now ≤ length out.old) }
 {
-    if !command_io::input_apart(rt, kinds) {
-        return command_io::refused();
+    if !input_apart(rt, kinds) {
+        return Err(Status::Failed);
     }
     let mut input = rt.stdin();
-    let read = command_io::read_input(&mut input, out);
-    if let Some(e) = read.failed {
-        command_io::fail_system(rt, b"awaqlla: standard input", e);
+    match read_input(&mut input, out) {
+        Ok(read) => Ok(read),
+        Err(e) => {
+            fail_system(rt, b"awaqlla: standard input", e);
+            Err(Status::Failed)
+        }
     }
-    read
 }
 
 // The same of a file.
-fn read_file(rt: &HostRuntime, at: usize, kinds: &[u8], out: &mut [u8]) -> Input
-    ensures { IsPrefixLen result.size out.new }
+fn read_file<'a>(
+    rt: &HostRuntime,
+    at: usize,
+    kinds: &[Kind],
+    out: &'a mut [u8],
+) -> Result<&'a [u8], Status>
+    ensures { IfOk result (λ v. length v.now ≤ length out.old) }
 {
-    if !command_io::readable(rt, kinds, at) {
-        return command_io::refused();
+    if !readable(rt, kinds, at) {
+        return Err(Status::Failed);
     }
-    command_io::read_named(rt, at, out)
+    read_named(rt, at, out)
 }

@@ -5,4 +5,4 @@ use Rattle.command_list.proofs.EndState.{state_text}
 use Rattle.command_list.proofs.state.state_line.Goals as goal
 
 pub returns : goal.returns
-returns c = put_as _ _ _ _ _ _ (state_text _ _) c.next_line-line.ensures.bytes
+returns c = put_as _ _ _ _ _ _ (state_text _ _) c.next_line.ensures.bytes

@@ -1,6 +1,6 @@
--- `print_listing` ends: each line leaves fewer records. Nothing has to hold from line to line.
+-- `gather_lines` ends: each line leaves fewer records. Nothing has to hold from line to line.
 -- Assumes nothing.
-use Rattle.command_list.proofs.listing.print_listing.Given as goal
+use Rattle.command_list.proofs.listing.gather_lines.Given as goal
 
 abbrev pub invariant-loop-cursor : goal.invariant-loop-cursor
 invariant-loop-cursor l = Unit {0}
