@@ -1,6 +1,6 @@
 -- Texts that have room, the parts of a column, and what the loop that puts spaces keeps. Assumes nothing.
 use mathlib.Core.Path.{◌≡◌, refl, ap, ◌∙◌}
-use Prim.Native.Nat.{ℕ, zero, suc, ◌+◌, ◌-◌, ◌≤◌, ◌<◌, min}
+use Prim.Native.Nat.{ℕ, suc, ◌+◌, ◌-◌, ◌≤◌, ◌<◌, min}
 use mathlib.Core.List.{List, [], ◌∷◌, ◌++◌}
 use native.Mathlib.Omega.{arith}
 use mathlib.Core.Bool.{Bool, true, false}
@@ -44,29 +44,19 @@ pub column_parts : (tabs : Bool) (width : ℕ) (text : List ℕ) → ((gap tabs 
 unfolding column
 column_parts tabs width text = refl
 
--- of n spaces, `left` are still to be put into d at p
-pub record Spaces (n : ℕ) (d₀ : List ℕ) (at : ℕ) (d : List ℕ) (p left : ℕ) : Type 0 where
-  pub size : length d ≡ length d₀
-  pub goes : (d' : List ℕ) (r : ℕ) → Put d p (replicate left space) d' r → Put d₀ at (replicate n space) d' r
+-- of n spaces i are put, and the others are still to be put into d at p
+pub record Spaces (n : ℕ) (d₀ : List ℕ) (at : ℕ) (d : List ℕ) (p i : ℕ) : Type 0 where
+  pub goes : (d' : List ℕ) (r : ℕ) → Put d p (replicate (n - i) space) d' r → Put d₀ at (replicate n space) d' r
 
 module _ (n : ℕ) (d₀ : List ℕ) (at : ℕ) where
-  pub spaces_start : Spaces n d₀ at d₀ at n
-  spaces_start = record { size = refl; goes = λ d' r w. w }
+  pub spaces_start : Spaces n d₀ at d₀ at 0
+  spaces_start = let all : n - 0 ≡ n = omega arith in record { goes = λ d' r w. rw all at w }
 
-  module _ (d : List ℕ) (p left : ℕ) (g : Spaces n d₀ at d p left) where
-    spaces_next : 0 < left → replicate left space ≡ (space ∷ []) ++ replicate (left - 1) space
-    spaces_next pos = go left pos
-      where
-        go : (k : ℕ) → 0 < k → replicate k space ≡ (space ∷ []) ++ replicate (k - 1) space
-        go zero pos = absurd (omega arith)
-        go (suc k) pos = let z : suc k - 1 ≡ k = omega arith in rw z refl
+  module _ (d : List ℕ) (p i : ℕ) (g : Spaces n d₀ at d p i) where
+    pub spaces_turn : (d₁ : List ℕ) (p₁ : ℕ) → i < n → Put d p (space ∷ []) d₁ p₁ → Spaces n d₀ at d₁ p₁ (i + 1)
+    spaces_turn d₁ p₁ h w =
+        let next : n - i ≡ suc (n - (i + 1)) = omega arith in
+        record { goes = λ d' r rest. g.goes d' r (rw next (put_put d p (space ∷ []) d₁ p₁ (replicate (n - (i + 1)) space) d' r w rest)) }
 
-    pub spaces_turn : (d₁ : List ℕ) (p₁ : ℕ) → 0 < left → length d₁ ≡ length d → Put d p (space ∷ []) d₁ p₁
-        → Spaces n d₀ at d₁ p₁ (left - 1)
-    spaces_turn d₁ p₁ pos size w = record {
-      size = size ∙ g.size;
-      goes = λ d' r rest. g.goes d' r (rw (spaces_next pos) (put_put d p (space ∷ []) d₁ p₁ (replicate (left - 1) space) d' r w rest));
-    }
-
-    pub spaces_end : left ≡ 0 → Put d₀ at (replicate n space) d p
-    spaces_end z = g.goes d p (rw z (put_nothing d p))
+    pub spaces_end : n ≤ i → Put d₀ at (replicate n space) d p
+    spaces_end h = let none : n - i ≡ 0 = omega arith in g.goes d p (rw none (put_nothing d p))

@@ -17,7 +17,8 @@ use Rattle.journal.specs.Answers.{meaning}
 use Rattle.journal.specs.declared.Status.{Status}
 use Rattle.journal_entries.specs.Entries.{entries_in}
 use Rattle.journal_index.specs.Made.{made_meaning, made_outcome}
-use Rattle.journal_index.specs.declared.make.IndexMade.{IndexMade}
+use Rattle.std.specs.Prelude.{Result}
+use Rattle.journal_index.specs.declared.IndexError.{IndexError}
 use Rattle.journal_report.specs.Report.{OwnIndex, width_of}
 use Rattle.journal_report.specs.Begin.{names_made, Begins}
 
@@ -45,7 +46,7 @@ module _ (room index : List ℕ) (n : ℕ) where
           record { records = ps; committed = committed; stands = k; own = unfold make_from in by_room (judge_index_room (index_of ps) room) (index_of ps) h }
 
 -- what a report begins with, by what the one pass answered and left
-pub begins : (v before after : List ℕ) (status : Status) (answer : IndexMade) (names width : ℕ) → meaning status ≡ scan_of plain v (length v)
+pub begins : (v before after : List ℕ) (status : Status) (answer : Result ℕ IndexError) (names width : ℕ) → meaning status ≡ scan_of plain v (length v)
     → made_outcome answer after ≡ make_index_of (record { slice = v; len = length v }) before → names ≡ names_made (made_meaning answer) after
     → width ≡ width_of (entries_in after) → Begins v before after (record { status = status; names = names; width = width })
 unfolding made_outcome

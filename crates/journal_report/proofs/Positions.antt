@@ -12,8 +12,8 @@ use Rattle.journal_spec.specs.Index.{entries_size}
 use Rattle.journal_parts.specs.Numbers.{number_in}
 use Rattle.journal_entries.specs.Entries.{name_at, start_at, size_at, start_in, entries_from, entries_in}
 use Rattle.journal_entries.specs.Answers.{start_meaning}
-use Rattle.journal_entries.specs.declared.finding.Start.{Start}
-use Rattle.journal_entries.specs.declared.finding.Start.TheVariants as S
+use Rattle.std.specs.Prelude.{Some, None}
+use Rattle.std.specs.Prelude as Code
 use Rattle.journal_entries.proofs.ByCounts.{size_here, start_stands, entries_end, entries_more, count_read, few}
 use Rattle.journal_parts.specs.Plain.{plain_record_at}
 use Rattle.journal_report.specs.Slot.{slot_of}
@@ -87,11 +87,11 @@ module _ (b : List ℕ) where
 
 -- ---- the line by what is found
 
-module _ (tabs : Bool) (width : ℕ) (asked v : List ℕ) (s : Start) (x : Option ℕ) (e : start_meaning s ≡ x) where
-  pub line_at : (n : ℕ) → s ≡ S.At n → slot_of tabs width asked (plain_record_at n v) ≡ start_line tabs width asked v x
+module _ (tabs : Bool) (width : ℕ) (asked v : List ℕ) (s : Code.Option ℕ) (x : Option ℕ) (e : start_meaning s ≡ x) where
+  pub line_at : (n : ℕ) → s ≡ Some n → slot_of tabs width asked (plain_record_at n v) ≡ start_line tabs width asked v x
   unfolding start_line start_meaning
   line_at n f = rw (← e, f) refl
 
-  pub line_none : s ≡ S.Absent → [] ≡ start_line tabs width asked v x
+  pub line_none : s ≡ None → [] ≡ start_line tabs width asked v x
   unfolding start_line start_meaning
   line_none f = rw (← e, f) refl

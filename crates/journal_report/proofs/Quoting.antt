@@ -1,7 +1,7 @@
 -- Chances with their limits, as they stand in some bytes: what the loops over them keep. Assumes nothing.
 use mathlib.Core.Path.{◌≡◌, refl, sym, ap, ◌∙◌}
 use Prim.Native.Nat.{ℕ, zero, suc, ◌+◌, ◌*◌, ◌-◌, ◌≤◌, ◌<◌, min}
-use mathlib.Core.Bool.{Bool, cond}
+use mathlib.Core.Bool.{Bool, true, false, cond}
 use mathlib.Core.List.{List, ◌∷◌, ◌++◌}
 use native.Mathlib.Omega.{arith}
 use native.Mathlib.Nat.{zero-min, min-zero, suc-min-suc}
@@ -13,8 +13,6 @@ use borrow.Author.Tests.{eq-eqb, ne_eqb}
 use Rattle.text_digits.specs.Text.{Put}
 use Rattle.text_digits.proofs.Putting.{put_nothing, put_put}
 use Rattle.journal_spec.specs.Bytes.{number_at, numbers_in}
-use Rattle.journal_parts.specs.Numbers.{number_in}
-use Rattle.journal_parts.proofs.NumberStands.{number_stands}
 use Rattle.journal_listing.proofs.Pairs.{each_pair}
 use Rattle.journal_report.specs.Slot.{Quote, column, slot_text, quotes_of, limit_for, no_limit, limit_width, quote_columns, asked_columns, limit_columns}
 
@@ -31,21 +29,35 @@ quotes_fewer b (suc n) (suc m) c l = rw (suc-min-suc, quotes_fewer b n m (c + 4)
 
 -- the columns of the limits, by whether chances are asked for
 module _ (tabs : Bool) (asked b : List ℕ) (n m c l k : ℕ) where
-  pub all_columns : length asked ≡ 0 → k ≡ min n m
+  pub all_columns : eqb (length asked) 0 ≡ true → k ≡ min n m
       → quote_columns tabs (quotes_in b k c l) ≡ limit_columns tabs asked (quotes_of (numbers_in 4 n c b) (numbers_in 8 m l b))
   unfolding limit_columns
-  all_columns none few = rw (few, quotes_fewer b n m c l, eq-eqb (length asked) 0 none) refl
+  all_columns none few = rw (few, quotes_fewer b n m c l, none) refl
 
-  pub asked_columns_lem : (length asked ≡ 0 → ⊥) → k ≡ min n m
+  pub asked_columns_lem : eqb (length asked) 0 ≡ false → k ≡ min n m
       → asked_columns tabs asked (quotes_in b k c l) ≡ limit_columns tabs asked (quotes_of (numbers_in 4 n c b) (numbers_in 8 m l b))
   unfolding limit_columns
-  asked_columns_lem some few = rw (few, quotes_fewer b n m c l, ne_eqb (length asked) 0 some) refl
+  asked_columns_lem some few = rw (few, quotes_fewer b n m c l, some) refl
 
--- the first, and those behind it
-quotes_next : (b : List ℕ) (k c l : ℕ) → 0 < k
-    → quotes_in b k c l ≡ record { chance = number_at 4 c b; limit = number_at 8 l b } ∷ quotes_in b (k - 1) (c + 4) (l + 8)
-quotes_next b zero c l pos = absurd (omega arith)
-quotes_next b (suc k) c l pos = let z : suc k - 1 ≡ k = omega arith in rw z (unfold numbers_in quotes_of in refl)
+-- those from the i-th on
+abbrev pub quotes_from : List ℕ → ℕ → ℕ → ℕ → ℕ → List Quote
+quotes_from b n c l i = quotes_in b (n - i) (c + i * 4) (l + i * 8)
+
+pub quotes_all : (b : List ℕ) (n c l : ℕ) → quotes_in b n c l ≡ quotes_from b n c l 0
+quotes_all b n c l =
+    let en : n - 0 ≡ n = omega arith in
+    let ec : c + 0 * 4 ≡ c = omega arith in
+    let el : l + 0 * 8 ≡ l = omega arith in
+    rw (en, ec, el) refl
+
+-- the i-th, and those behind it
+quotes_next : (b : List ℕ) (n c l i : ℕ) → i < n
+    → quotes_from b n c l i ≡ record { chance = number_at 4 (c + i * 4) b; limit = number_at 8 (l + i * 8) b } ∷ quotes_from b n c l (i + 1)
+quotes_next b n c l i h =
+    let en : n - i ≡ suc (n - (i + 1)) = omega arith in
+    let ec : c + (i + 1) * 4 ≡ c + i * 4 + 4 = omega arith in
+    let el : l + (i + 1) * 8 ≡ l + i * 8 + 8 = omega arith in
+    rw (en, ec, el) (unfold numbers_in quotes_of in refl)
 
 -- a quote's column
 abbrev pub quote_column : Bool → ℕ → ℕ → List ℕ
@@ -58,55 +70,32 @@ columns_quoted tabs b zero c l = refl
 columns_quoted tabs b (suc n) c l =
     ap (λ (t : List ℕ). quote_column tabs (number_at 4 c b) (number_at 8 l b) ++ t) (columns_quoted tabs b n (c + 4) (l + 8))
 
--- ---- the limit at a chance: it is not among those before the last `left`
+-- ---- the limit at a chance: it is that among the quotes from the i-th on
 
-pub record Sought (b : List ℕ) (c₀ l₀ n wanted c l left : ℕ) : Type 0 where
-  pub chances : c + left * 4 ≤ length b
-  pub limits : l + left * 8 ≤ length b
-  pub same : limit_for wanted (quotes_in b n c₀ l₀) ≡ limit_for wanted (quotes_in b left c l)
+module _ (b : List ℕ) (n c l wanted i : ℕ) (s : limit_for wanted (quotes_in b n c l) ≡ limit_for wanted (quotes_from b n c l i)) where
+  sought_next : i < n → limit_for wanted (quotes_in b n c l)
+      ≡ cond (eqb (number_at 4 (c + i * 4) b) wanted) (number_at 8 (l + i * 8) b) (limit_for wanted (quotes_from b n c l (i + 1)))
+  sought_next h = s ∙ rw (quotes_next b n c l i h) (unfold limit_for in refl)
 
-module _ (b : List ℕ) (c₀ l₀ n wanted : ℕ) where
-  pub sought_start : c₀ + n * 4 ≤ length b → l₀ + n * 8 ≤ length b → Sought b c₀ l₀ n wanted c₀ l₀ n
-  sought_start h k = record { chances = h; limits = k; same = refl }
+  pub sought_turn : (x : ℕ) → i < n → x ≡ number_at 4 (c + i * 4) b → (x ≡ wanted → ⊥)
+      → limit_for wanted (quotes_in b n c l) ≡ limit_for wanted (quotes_from b n c l (i + 1))
+  sought_turn x h ex other = sought_next h ∙ rw (← ex, ne_eqb x wanted other) refl
 
-  module _ (c l left : ℕ) (g : Sought b c₀ l₀ n wanted c l left) where
-    sought_next : 0 < left
-        → limit_for wanted (quotes_in b left c l)
-        ≡ cond (eqb (number_at 4 c b) wanted) (number_at 8 l b) (limit_for wanted (quotes_in b (left - 1) (c + 4) (l + 8)))
-    sought_next pos = rw (quotes_next b left c l pos) (unfold limit_for in refl)
+  pub sought_found : (x y : ℕ) → i < n → x ≡ number_at 4 (c + i * 4) b → x ≡ wanted → y ≡ number_at 8 (l + i * 8) b
+      → y ≡ limit_for wanted (quotes_in b n c l)
+  sought_found x y h ex is ey = ey ∙ sym (sought_next h ∙ rw (← ex, eq-eqb x wanted is) refl)
 
-    chance_is : (x : ℕ) → 0 < left → x ≡ number_in 4 c b → number_at 4 c b ≡ x
-    chance_is x pos ex = sym (ex ∙ number_stands 4 c b (omega arith) (omega (arith, g.chances)))
-
-    pub sought_turn : (x : ℕ) → 0 < left → x ≡ number_in 4 c b → (x ≡ wanted → ⊥) → Sought b c₀ l₀ n wanted (c + 4) (l + 8) (left - 1)
-    sought_turn x pos ex other =
-        let fc = g.chances in
-        let fl = g.limits in
-        record {
-          chances = omega arith;
-          limits = omega arith;
-          same = g.same ∙ sought_next pos ∙ rw (chance_is x pos ex, ne_eqb x wanted other) refl;
-        }
-
-    pub sought_found : (x y : ℕ) → 0 < left → x ≡ number_in 4 c b → x ≡ wanted → y ≡ number_in 8 l b → y ≡ limit_for wanted (quotes_in b n c₀ l₀)
-    sought_found x y pos ex is ey =
-        let fl = g.limits in
-        let vy : y ≡ number_at 8 l b = ey ∙ number_stands 8 l b (omega arith) (omega arith) in
-        vy ∙ sym (g.same ∙ sought_next pos ∙ rw (chance_is x pos ex, eq-eqb x wanted is) refl)
-
-    pub sought_none : left ≡ 0 → no_limit ≡ limit_for wanted (quotes_in b n c₀ l₀)
-    sought_none z = sym (g.same ∙ rw z (unfold numbers_in quotes_of limit_for in refl))
+  pub sought_none : n ≤ i → no_limit ≡ limit_for wanted (quotes_in b n c l)
+  sought_none h = let none : n - i ≡ 0 = omega arith in sym (s ∙ rw none (unfold numbers_in quotes_of limit_for in refl))
 
 -- ---- the chances asked for: i of them are put into d, up to p
 
 pub record Asked (tabs : Bool) (asked : List ℕ) (qs : List Quote) (d₀ : List ℕ) (at : ℕ) (d : List ℕ) (p i : ℕ) : Type 0 where
-  pub few : i ≤ length asked
-  pub size : length d ≡ length d₀
   pub goes : (d' : List ℕ) (r : ℕ) → Put d p (asked_columns tabs (drop i asked) qs) d' r → Put d₀ at (asked_columns tabs asked qs) d' r
 
 module _ (tabs : Bool) (asked : List ℕ) (qs : List Quote) (d₀ : List ℕ) (at : ℕ) where
   pub asked_start : Asked tabs asked qs d₀ at d₀ at 0
-  asked_start = record { few = omega arith; size = refl; goes = λ d' r w. w }
+  asked_start = record { goes = λ d' r w. w }
 
   module _ (d : List ℕ) (p i : ℕ) (g : Asked tabs asked qs d₀ at d p i) where
     asked_next : i < length asked
@@ -114,17 +103,11 @@ module _ (tabs : Bool) (asked : List ℕ) (qs : List Quote) (d₀ : List ℕ) (a
         ≡ quote_column tabs (get_or asked i 0) (limit_for (get_or asked i 0) qs) ++ asked_columns tabs (drop (i + 1) asked) qs
     asked_next h = rw (drop-cons asked i 0 h, add-one) (unfold asked_columns in refl)
 
-    pub asked_turn : (x y : ℕ) (d₁ : List ℕ) (p₁ : ℕ) → i < length asked → x ≡ get_or asked i 0 → y ≡ limit_for x qs → length d₁ ≡ length d
+    pub asked_turn : (x y : ℕ) (d₁ : List ℕ) (p₁ : ℕ) → i < length asked → x ≡ get_or asked i 0 → y ≡ limit_for x qs
         → Put d p (quote_column tabs x y) d₁ p₁ → Asked tabs asked qs d₀ at d₁ p₁ (i + 1)
-    asked_turn x y d₁ p₁ h ex ey size w =
+    asked_turn x y d₁ p₁ h ex ey w =
         let first : Put d p (quote_column tabs (get_or asked i 0) (limit_for (get_or asked i 0) qs)) d₁ p₁ = rw (← ex) (rw (← ey) w) in
-        record {
-          few = omega arith;
-          size = size ∙ g.size;
-          goes = λ d' r rest. g.goes d' r (rw (asked_next h)
-              (put_put d p (quote_column tabs (get_or asked i 0) (limit_for (get_or asked i 0) qs)) d₁ p₁ (asked_columns tabs (drop (i + 1) asked) qs) d' r
-              first rest));
-        }
+        record { goes = λ d' r rest. g.goes d' r (rw (asked_next h) (put_put d p _ d₁ p₁ _ d' r first rest)) }
 
     pub asked_end : length asked ≤ i → Put d₀ at (asked_columns tabs asked qs) d p
     asked_end h = g.goes d p (rw (drop_of_length-le asked h) (unfold asked_columns in put_nothing d p))

@@ -1,7 +1,7 @@
 -- Parts of a line as the code puts them one behind another, and those of the definition that they make up. Assumes nothing.
 use mathlib.Core.Path.{◌≡◌, refl, sym, ap, ap₂, ◌∙◌}
 use Prim.Native.Nat.{ℕ, ◌+◌, ◌-◌, ◌*◌, ◌%◌, ◌^◌, ◌≤◌, ◌<◌}
-use mathlib.Core.Bool.{Bool, true, false}
+use mathlib.Core.Bool.{Bool}
 use mathlib.Core.List.{List, [], ◌∷◌, ◌++◌, append_assoc}
 use native.Mathlib.Omega.{arith}
 use native.Mathlib.Nat.{add-sub_cancel_left}
@@ -9,7 +9,8 @@ use lib.ListN.{length, take, drop, get_or, length-append}
 use lib.Ieee.{binary64, of_bits}
 use Rattle.text_digits.specs.Hex.{decimal_digits}
 use Rattle.text_digits.proofs.Counting.{decimal_most}
-use Rattle.text_ticks.specs.declared.whole.Ticks.{Ticks}
+use Rattle.std.specs.Prelude.{Option, Some, None}
+use Rattle.text_ticks.specs.declared.whole.Count.{Count}
 use Rattle.text_ticks.specs.Ticks.{ticks_up}
 use Rattle.text_ticks.specs.Text.{ticks_text, max_text}
 use Rattle.text_ticks.proofs.Longest.{up_text_most, near_text_most}
@@ -23,8 +24,8 @@ use Rattle.journal.proofs.Equal.{length_numbers}
 use Rattle.journal_listing.specs.Listing.{mean_bits, spread_bits}
 use Rattle.journal_listing.specs.MomentsIn.{moments_in}
 use Rattle.journal_parts.specs.Plain.{plain_record_at}
-use Rattle.journal_parts.specs.Spans.{spans_at, numbers_of, record_in}
-use Rattle.journal_parts.specs.declared.spans.Spans.{Spans}
+use Rattle.journal_parts.specs.Spans.{all_of, spans_at, numbers_of, record_in}
+use Rattle.journal_parts.specs.declared.spans.Sections.{Sections}
 use Rattle.journal_parts.proofs.Reached.{record_stands, record_short}
 use Rattle.journal_listing.proofs.Texts.{bytes_in_lem}
 use Rattle.journal_listing.proofs.There.{moments_there}
@@ -38,9 +39,9 @@ day_is x at b bytes h e =
     omega (arith, stands, number_below 2 (at + 2) b bytes)
 
 -- `chance:limit`
-pub slot_parts : (c l : ℕ) (t : Ticks) → t ≡ ticks_up (of_bits binary64 l) → (decimal_digits c ++ (0x3a ∷ [])) ++ ticks_text t ≡ slot_text c l
+pub slot_parts : (c l : ℕ) (t : Option Count) → t ≡ ticks_up (of_bits binary64 l) → (decimal_digits c ++ (0x3a ∷ [])) ++ ticks_text t ≡ slot_text c l
 unfolding slot_text
-slot_parts c l t e = append_assoc (decimal_digits c) (0x3a ∷ []) (ticks_text t) ∙ ap (λ (x : Ticks). decimal_digits c ++ (0x3a ∷ ticks_text x)) e
+slot_parts c l t e = append_assoc (decimal_digits c) (0x3a ∷ []) (ticks_text t) ∙ ap (λ (x : Option Count). decimal_digits c ++ (0x3a ∷ ticks_text x)) e
 
 -- of whatever chance and limit it fits 39 bytes: 20 digits, a colon and the ticks; a number fits 20
 pub slot_fits : (c l : ℕ) → c < 2 ^ 64 → length (slot_text c l) ≤ 39
@@ -63,14 +64,14 @@ unfolding name_column
 name_parts tabs w f n b h = rw (add-sub_cancel_left f n, length_numbers 1 n f b, bytes_in_lem n f b h) refl
 
 -- number of times, mean and spread of a record that stands
-pub figure_parts : (tabs : Bool) (at : ℕ) (b : List ℕ) (s : Spans) (m p : ℕ) → s ≡ spans_at at b → s.limits.stands ≡ true
+pub figure_parts : (tabs : Bool) (at : ℕ) (b : List ℕ) (s : Sections) (m p : ℕ) → all_of (spans_at at b) ≡ Some s
     → m ≡ mean_bits (moments_in at b) → p ≡ spread_bits (moments_in at b)
     → (column tabs times_width (decimal_digits s.times.count) ++ column tabs moment_width (near_text m)) ++ column tabs moment_width (near_text p)
     ≡ figure_columns tabs (record_in at s b)
 unfolding figure_columns record_in numbers_of
-figure_parts tabs at b s m p e t em ep =
+figure_parts tabs at b s m p e em ep =
     let count : s.times.count ≡ length (numbers_of 4 s.times b) = sym (length_numbers 4 s.times.count s.times.first b) in
-    let moments : moments_in at b ≡ moments_of_times (number_at 2 at b) (numbers_of 4 s.times b) = sym (moments_there at b s e t) in
+    let moments : moments_in at b ≡ moments_of_times (number_at 2 at b) (numbers_of 4 s.times b) = sym (moments_there at b s e) in
     rw (em, ep)
     (ap₂
     (λ (n : ℕ) (x : MomentsResult).
@@ -78,11 +79,12 @@ figure_parts tabs at b s m p e t em ep =
     count moments)
 
 -- the line of what stands at a place
-module _ (tabs : Bool) (w : ℕ) (asked : List ℕ) (at : ℕ) (b : List ℕ) (s : Spans) (e : s ≡ spans_at at b) where
-  pub slot_none : s.limits.stands ≡ false → [] ≡ slot_of tabs w asked (plain_record_at at b)
+module _ (tabs : Bool) (w : ℕ) (asked : List ℕ) (at : ℕ) (b : List ℕ) where
+  pub slot_none : all_of (spans_at at b) ≡ None → [] ≡ slot_of tabs w asked (plain_record_at at b)
   unfolding slot_of
-  slot_none t = rw (record_short at b (rw e at t)) refl
+  slot_none t = rw (record_short at b t) refl
 
-  pub slot_there : s.limits.stands ≡ true → slot_line tabs w asked (record_in at s b) ≡ slot_of tabs w asked (plain_record_at at b)
+  pub slot_there : (s : Sections) → all_of (spans_at at b) ≡ Some s
+      → slot_line tabs w asked (record_in at s b) ≡ slot_of tabs w asked (plain_record_at at b)
   unfolding slot_of
-  slot_there t = rw (record_stands at b (rw e at t)) (ap (λ (x : Spans). slot_line tabs w asked (record_in at x b)) e)
+  slot_there s t = rw (record_stands at b s t) refl

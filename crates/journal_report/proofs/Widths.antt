@@ -1,9 +1,8 @@
 -- The widest of an index's names, entry by entry; and it is no more than 32 where no name is. Assumes nothing.
 use mathlib.Core.Path.{◌≡◌, sym, ap, ◌∙◌}
-use Prim.Native.Nat.{ℕ, ◌+◌, ◌-◌, ◌≤◌, ◌<◌, max}
+use Prim.Native.Nat.{ℕ, ◌+◌, ◌-◌, ◌<◌, max}
 use mathlib.Core.List.{List, []}
 use native.Mathlib.Omega.{arith}
-use Rattle.facts.proofs.Orders.{by_order}
 use Rattle.journal_parts.specs.Numbers.{number_in}
 use Rattle.journal_entries.specs.Entries.{size_at, entries_from, entries_in}
 use Rattle.journal_entries.proofs.ByCounts.{size_here, entries_end, entries_none, entries_more, count_read}
@@ -23,20 +22,20 @@ module _ (b : List ℕ) where
     unfolding widest
     ends e = sym (w.same ∙ ap (widest width) e)
 
-    pub width_short : (size : ℕ) → size ≡ size_at b place → size < 6 → width ≡ width_of (entries_in b)
-    width_short size e h =
-        ends (entries_end b place left
-        (by_order size 0 (λ z. omega (arith, e)) (λ pos. absurd (omega (arith, (size_here b place size e pos).count)))))
+    pub width_short : size_at b place ≡ 0 → width ≡ width_of (entries_in b)
+    width_short e = ends (entries_end b place left (sym e))
 
     pub width_done : left ≡ 0 → width ≡ width_of (entries_in b)
     width_done e = ends (entries_none b left place e)
 
-    pub width_next : (size wider : ℕ) → size ≡ size_at b place → 6 ≤ size → 0 < left → wider ≡ max width (size - 6) → Widening wider (left - 1) (place + size)
+    pub width_next : (n wider less next : ℕ) → n + 6 ≡ size_at b place → 0 < left → wider ≡ max width n → less ≡ left - 1 → next ≡ place + (n + 6)
+        → Widening wider less next
     unfolding widest
-    width_next size wider e k h m =
-        let x = size_here b place size e (omega arith) in
-        let more = entries_more b place left size h e (omega arith) in
-        record {
-          same = w.same ∙ ap (widest width) more
-              ∙ ap (λ (n : ℕ). widest n (entries_from b (left - 1) (place + size))) (ap (max width) x.named ∙ sym m);
-        }
+    width_next n wider less next e k m f g =
+        let x = size_here b place (n + 6) e (omega arith) in
+        let more = entries_more b place left (n + 6) k e (omega arith) in
+        let named : n + 6 - 6 ≡ n = omega arith in
+        rw (f, g, m)
+        (record {
+          same = w.same ∙ ap (widest width) more ∙ ap (λ (l : ℕ). widest (max width l) (entries_from b (left - 1) (place + (n + 6)))) (x.named ∙ named);
+        })

@@ -7,7 +7,7 @@ ghost use Rattle.journal_report.specs.Begin.{names_made, Begins};
 use crate::width::name_width;
 use journal::Status;
 use journal_entries::end_of;
-use journal_index::{IndexMade, scan_and_index};
+use journal_index::{IndexError, scan_and_index};
 
 // The journal's end state, how many lines the report has, and the width of the names' column.
 #[derive(Clone, Copy)]
@@ -22,24 +22,20 @@ pub fn begin(v: &[u8], index: &mut [u8]) -> Begun
     ensures { Begins v.now index.old index.new result }
 {
     let scanned = scan_and_index(v, v.len(), index);
-    let status = scanned.status;
-    let made = scanned.made;
-    let names = names_of(made, index);
     let width = name_width(index);
     Begun {
-        status,
-        names,
+        status: scanned.status,
+        names: names_of(scanned.made, index),
         width,
     }
 }
 
 // How many entries an index has, where one is made.
-fn names_of(made: IndexMade, index: &[u8]) -> usize
+fn names_of(made: Result<usize, IndexError>, index: &[u8]) -> usize
     ensures { result ≡ names_made (made_meaning made) index.now }
 {
     match made {
-        IndexMade::Length(_) => end_of(index).count,
-        IndexMade::Declined(_) => 0,
-        IndexMade::Damaged(_) => 0,
+        Ok(_) => end_of(index).count,
+        Err(_) => 0,
     }
 }

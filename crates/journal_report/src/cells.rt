@@ -1,6 +1,6 @@
 // Columns put into a lent line: what separates them, and spaces to a width, or a tab.
 // Each answers the place behind what it put.
-ghost use Rattle.std.specs.Prelude.{◌≡◌, [], ◌∷◌, ◌-◌, replicate};
+ghost use Rattle.std.specs.Prelude.{[], ◌∷◌, replicate};
 ghost use Rattle.text_digits.specs.Text.{Put};
 ghost use Rattle.journal_spec.specs.Log.{space};
 ghost use Rattle.journal_report.specs.Slot.{gap, fill, column};
@@ -8,13 +8,15 @@ ghost use Rattle.journal_report.specs.Slot.{gap, fill, column};
 use text_digits::put;
 
 // A tab or a space.
+#[tactic(auto, unfolding(crate::specs::Slot::gap))]
 pub(crate) fn put_gap(out: &mut [u8], place: usize, tabs: bool) -> usize
     ensures { Put out.old place (gap tabs ∷ []) out.new result }
 {
     if tabs {
-        return put(out, place, b"\t");
+        put(out, place, b"\t")
+    } else {
+        put(out, place, b" ")
     }
-    put(out, place, b" ")
 }
 
 // The spaces that a text of some size lacks to a width.
@@ -24,17 +26,7 @@ pub fn put_fill(out: &mut [u8], place: usize, tabs: bool, width: usize, size: us
     if tabs {
         return place;
     }
-    put_spaces(out, place, lacking(width, size))
-}
-
-// How much a size lacks to a width.
-fn lacking(width: usize, size: usize) -> usize
-    ensures { result ≡ width - size }
-{
-    if width < size {
-        return 0;
-    }
-    width - size
+    put_spaces(out, place, width.saturating_sub(size))
 }
 
 // So many spaces.
@@ -42,10 +34,8 @@ fn put_spaces(out: &mut [u8], place: usize, n: usize) -> usize
     ensures { Put out.old place (replicate n space) out.new result }
 {
     let mut p = place;
-    let mut left = n;
-    while 0 < left {
+    for _ in 0..n {
         p = put(out, p, b" ");
-        left -= 1;
     }
     p
 }

@@ -1,16 +1,16 @@
 // The first columns of a line: name, date and mark.
 // The record's sections stand inside the bytes.
-ghost use Rattle.std.specs.Prelude.{◌≡◌, true, [], ◌∷◌, ◌++◌, ◌+◌, ◌≤◌, length};
+ghost use Rattle.std.specs.Prelude.{◌≡◌, Some, [], ◌∷◌, ◌++◌, ◌+◌, ◌≤◌, length};
 ghost use Rattle.text_digits.specs.Text.{Put};
 ghost use Rattle.text_dates.specs.Iso.{iso_of};
 ghost use Rattle.journal_spec.specs.Bytes.{number_at};
 ghost use Rattle.journal_spec.specs.Read.{letter_of, mark_of};
-ghost use Rattle.journal_parts.specs.Spans.{Inside, numbers_of, record_in, spans_at};
+ghost use Rattle.journal_parts.specs.Spans.{Inside, all_of, numbers_of, record_in, spans_at};
 ghost use Rattle.journal_report.specs.Slot.{gap, name_column, front_columns};
 
 use crate::cells::{put_fill, put_gap};
 use journal::marks::{letter_of, mark_of};
-use journal_parts::{Span, Spans, number_in};
+use journal_parts::{Sections, Span, number_in};
 use text_dates::put_date;
 use text_digits::put;
 
@@ -18,12 +18,12 @@ use text_digits::put;
 pub(crate) fn put_front(
     v: &[u8],
     at: usize,
-    s: Spans,
+    s: Sections,
     width: usize,
     tabs: bool,
     out: &mut [u8],
 ) -> usize
-    requires { (s ≡ spans_at at v.now) × (s.limits.stands ≡ true) }
+    requires { all_of (spans_at at v.now) ≡ Some s }
     ensures { Put out.old 0 (front_columns tabs width (record_in at s v.now)) out.new result }
 {
     let p = put_name(v, s.name, width, tabs, out);
@@ -36,11 +36,8 @@ fn put_name(v: &[u8], name: Span, width: usize, tabs: bool, out: &mut [u8]) -> u
     requires { Inside 1 name v.now }
     ensures { Put out.old 0 (name_column tabs width (numbers_of 1 name v.now)) out.new result }
 {
-    let first = name.first;
-    let count = name.count;
-    let end = first + count;
-    let p = put(out, 0, &v[first..end]);
-    put_fill(out, p, tabs, width, count)
+    let p = put(out, 0, &v[name.first..name.first + name.count]);
+    put_fill(out, p, tabs, width, name.count)
 }
 
 // The date of the record's day.
@@ -61,7 +58,7 @@ fn put_mark(v: &[u8], times: Span, tabs: bool, out: &mut [u8], place: usize) -> 
 {
     let first = times.first;
     let end = first + times.count * 4;
-    let letter = [letter_of(mark_of(&v[first..end])); 1];
+    let letter = letter_of(mark_of(&v[first..end]));
     let p = put_gap(out, place, tabs);
-    put(out, p, &letter)
+    put(out, p, &[letter])
 }

@@ -7,7 +7,7 @@ ghost use Rattle.journal_entries.specs.Entries.{entries_in};
 ghost use Rattle.journal_entries.specs.Answers.{start_meaning};
 ghost use Rattle.journal_report.specs.Report.{start_at_position, WritesLine};
 
-use journal_entries::{Start, entry_place, size_at, start_at};
+use journal_entries::{entry_at, entry_place};
 use journal_parts::number_in;
 
 mod beginning;
@@ -42,25 +42,20 @@ pub fn entry_line(
     ensures { WritesLine layout.tabs layout.name asked.now v.now index.now position
         out.old out.new result }
 {
-    let start = entry_start(index, position);
-    match start {
-        Start::At(at) => slot_line(v, at, layout, asked, out),
-        Start::Absent => 0,
+    match entry_start(index, position) {
+        Some(at) => slot_line(v, at, layout, asked, out),
+        None => 0,
     }
 }
 
 // The start that the entry at a position has.
-fn entry_start(index: &[u8], position: usize) -> Start
+fn entry_start(index: &[u8], position: usize) -> Option<usize>
     ensures { start_meaning result ≡ start_at_position (entries_in index.now) position }
 {
     let count = number_in(index, 0, 2) as usize;
     if count <= position {
-        return Start::Absent;
+        return None;
     }
-    let at = entry_place(index, position);
-    let size = size_at(index, at);
-    if size == 0 {
-        return Start::Absent;
-    }
-    Start::At(start_at(index, at))
+    let entry = entry_at(index, entry_place(index, position))?;
+    Some(entry.start)
 }

@@ -1,14 +1,14 @@
 // The columns behind the mark: the number of times, and mean and spread, to the nearest tick.
 // A text is made in an array of its own first, since its column needs its length.
-ghost use Rattle.std.specs.Prelude.{◌≡◌, true};
+ghost use Rattle.std.specs.Prelude.{◌≡◌, Some};
 ghost use Rattle.text_digits.specs.Hex.{decimal_digits};
 ghost use Rattle.text_digits.specs.Text.{Put};
-ghost use Rattle.journal_parts.specs.Spans.{record_in, spans_at};
+ghost use Rattle.journal_parts.specs.Spans.{all_of, record_in, spans_at};
 ghost use Rattle.journal_report.specs.Slot.{column, near_text, times_width, moment_width, figure_columns};
 
 use crate::cells::put_column;
 use journal_listing::moments::{mean_bits, moments_in, spread_bits};
-use journal_parts::Spans;
+use journal_parts::Sections;
 use text_digits::put_decimal;
 use text_ticks::{put_ticks, ticks_near};
 
@@ -24,19 +24,18 @@ const MAX_NUMBER: usize = 20;
 pub(crate) fn put_figures(
     v: &[u8],
     at: usize,
-    s: Spans,
+    s: Sections,
     tabs: bool,
     out: &mut [u8],
     place: usize,
 ) -> usize
-    requires { (s ≡ spans_at at v.now) × (s.limits.stands ≡ true) }
+    requires { all_of (spans_at at v.now) ≡ Some s }
     ensures { Put out.old place (figure_columns tabs (record_in at s v.now)) out.new result }
 {
     let worked = moments_in(v, at);
     let mean = mean_bits(worked);
     let spread = spread_bits(worked);
-    let times = s.times;
-    let p = put_times(out, place, tabs, times.count as u64);
+    let p = put_times(out, place, tabs, s.times.count as u64);
     let q = put_near(out, p, tabs, mean);
     put_near(out, q, tabs, spread)
 }

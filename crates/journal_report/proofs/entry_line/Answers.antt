@@ -6,12 +6,12 @@ use Rattle.journal_report.proofs.Positions.{line_at, line_none}
 use Rattle.journal_report.proofs.Shown.{writes_line}
 use Rattle.journal_report.proofs.entry_line.Goals as goal
 
-pub returns-in-At : goal.returns-in-At
-returns-in-At c =
+pub returns-in-Some : goal.returns-in-Some
+returns-in-Some c =
     writes_line _ _ _ _ _ _ _ _ _ (λ i. omega (arith, c.type_inv.v i))
-    (put_as _ _ _ _ _ _ (line_at _ _ _ _ _ _ c.entry_start-start.ensures _ c.in-At.is) c.slot_line.ensures)
+    (put_as _ _ _ _ _ _ (line_at _ _ _ _ _ _ c.entry_start.ensures _ c.in-Some.is) c.slot_line.ensures)
 
-pub returns-in-Absent : goal.returns-in-Absent
-returns-in-Absent c =
+pub returns-in-None : goal.returns-in-None
+returns-in-None c =
     writes_line _ _ _ _ _ _ _ _ _ (λ i. omega (arith, c.type_inv.v i))
-    (put_as _ _ _ _ _ _ (line_none _ _ _ _ _ _ c.entry_start-start.ensures c.in-Absent.is) (put_nothing _ _))
+    (put_as _ _ _ _ _ _ (line_none _ _ _ _ _ _ c.entry_start.ensures c.in-None.is) (put_nothing _ _))

@@ -6,17 +6,18 @@ use mathlib.Core.List.{◌++◌}
 use lib.Ieee.{binary64, of_bits}
 use Rattle.text_digits.specs.Hex.{decimal_digits}
 use Rattle.text_digits.proofs.Putting.{put_put, put_as}
-use Rattle.text_ticks.specs.declared.whole.Ticks.{Ticks}
+use Rattle.std.specs.Prelude.{Option}
+use Rattle.text_ticks.specs.declared.whole.Count.{Count}
 use Rattle.text_ticks.specs.Ticks.{ticks_up}
 use Rattle.text_ticks.specs.Text.{ticks_text}
 use Rattle.journal_report.specs.Figures.{limit_word, chance_word, up_word, last_word, double_text, limit_line}
 use Rattle.journal_report.proofs.figures.limit_line.Goals as goal
 
-limit_parts : (chance limit : ℕ) (t : Ticks) → t ≡ ticks_up (of_bits binary64 limit)
+limit_parts : (chance limit : ℕ) (t : Option Count) → t ≡ ticks_up (of_bits binary64 limit)
     → limit_word ++ decimal_digits chance ++ double_text chance_word limit ++ up_word ++ ticks_text t ++ last_word ≡ limit_line chance limit
 unfolding limit_line
 limit_parts chance limit t e =
-    ap (λ (x : Ticks). limit_word ++ decimal_digits chance ++ double_text chance_word limit ++ up_word ++ ticks_text x ++ last_word) e
+    ap (λ (x : Option Count). limit_word ++ decimal_digits chance ++ double_text chance_word limit ++ up_word ++ ticks_text x ++ last_word) e
 
 pub returns : goal.returns
 returns c =

@@ -7,13 +7,13 @@ use Rattle.journal_report.specs.Slot.{front_columns}
 use Rattle.journal_report.proofs.front.put_front.Goals as goal
 
 pub put_name-p-requires : goal.put_name-p-requires
-put_name-p-requires c = (standing c.args.at c.args.s c.args.v.now c.requires.0 c.requires.1).name
+put_name-p-requires c = (standing c.args.at c.args.s c.args.v.now c.requires).name
 
 pub put_day-q-requires : goal.put_day-q-requires
-put_day-q-requires c = (standing c.args.at c.args.s c.args.v.now c.requires.0 c.requires.1).head
+put_day-q-requires c = (standing c.args.at c.args.s c.args.v.now c.requires).head
 
 pub put_mark-requires : goal.put_mark-requires
-put_mark-requires c = (standing c.args.at c.args.s c.args.v.now c.requires.0 c.requires.1).times
+put_mark-requires c = (standing c.args.at c.args.s c.args.v.now c.requires).times
 
 pub returns : goal.returns
 unfolding front_columns record_in

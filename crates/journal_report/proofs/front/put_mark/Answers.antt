@@ -20,5 +20,5 @@ returns c =
     let n = a.times.count in
     let times : times_in (take (f + n * 4 - f) (drop f a.v.now)) ≡ numbers_in 4 n f a.v.now =
     rw (add-sub_cancel_left f (n * 4)) (times_part n f a.v.now (omega arith)) in
-    let letter = c.letter_of.ensures ∙ ap letter_of (c.mark_of.ensures ∙ ap mark_of times) in
+    let letter = c.letter_of-letter.ensures ∙ ap letter_of (c.mark_of.ensures ∙ ap mark_of times) in
     rw (← letter) (put_put _ _ _ _ _ _ _ _ c.put_gap-p.ensures c.put.ensures)

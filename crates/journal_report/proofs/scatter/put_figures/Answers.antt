@@ -9,7 +9,7 @@ use Rattle.journal_report.proofs.scatter.put_figures.Goals as goal
 pub returns : goal.returns
 returns c =
     put_as _ _ _ _ _ _
-    (figure_parts c.args.tabs c.args.at c.args.v.now c.args.s _ _ c.requires.0 c.requires.1
+    (figure_parts c.args.tabs c.args.at c.args.v.now c.args.s _ _ c.requires
     (c.mean_bits-mean.ensures ∙ ap mean_bits c.moments_in-worked.ensures)
     (c.spread_bits-spread.ensures ∙ ap spread_bits c.moments_in-worked.ensures))
     (put_put _ _ _ _ _ _ _ _ (put_put _ _ _ _ _ _ _ _ c.put_times-p.ensures c.put_near-q.ensures) c.put_near.ensures)

@@ -7,14 +7,14 @@ use Rattle.journal_report.specs.Slot.{slot_line}
 use Rattle.journal_report.proofs.slot.put_slot.Goals as goal
 
 pub put_front-p-requires : goal.put_front-p-requires
-put_front-p-requires c = (c.requires.0, c.requires.1)
+put_front-p-requires c = c.requires
 
 pub put_figures-q-requires : goal.put_figures-q-requires
-put_figures-q-requires c = (c.requires.0, c.requires.1)
+put_figures-q-requires c = c.requires
 
 pub put_limits-r-requires : goal.put_limits-r-requires
 put_limits-r-requires c =
-    let k = standing c.args.at c.args.s c.args.v.now c.requires.0 c.requires.1 in
+    let k = standing c.args.at c.args.s c.args.v.now c.requires in
     (k.chances, k.limits)
 
 pub returns : goal.returns
