@@ -5,9 +5,6 @@ use Rattle.journal_merge.proofs.copying.copy.Goals as goal
 pub records-init : goal.records-init
 records-init c = copying_start _ _ _ c.requires.0 c.requires.1 c.requires.2
 
-pub next_record-requires : goal.next_record-requires
-next_record-requires c = (c.records.invariant.there, c.requires.3)
-
 pub records-smaller : goal.records-smaller
 records-smaller c =
     let l = c.records in

@@ -7,22 +7,12 @@ use Rattle.journal_merge.proofs.measuring.measure.Goals as goal
 pub records-init : goal.records-init
 records-init c = measuring_start _ _ c.requires.0 c.requires.1
 
-pub next_record-requires : goal.next_record-requires
-next_record-requires c = (c.records.invariant.there, c.requires.2)
-
 pub returns-then-next-form : goal.returns-then-next-form
 returns-then-next-form c =
     let l = c.records in
     let s = l.invariant.there in
     let t = c.in-Some.ensures s.made s.reached in
     measuring_falls _ _ l.p l.n l.form l.invariant _ _ t _ (c.number_in-next.ensures ∙ t.form) (omega arith)
-
-pub overflow_add-n : goal.overflow_add-n
-overflow_add-n c =
-    let l = c.records in
-    let s = l.invariant.there in
-    let t = c.in-Some.ensures s.made s.reached in
-    omega (arith, (measuring_fits _ _ l.p l.n l.form l.invariant _ _ t).0)
 
 pub records-smaller : goal.records-smaller
 records-smaller c =

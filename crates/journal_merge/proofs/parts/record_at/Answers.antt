@@ -1,5 +1,5 @@
 -- `record_at` cuts out the record's bytes. Assumes nothing.
-use mathlib.Core.Path.{◌≡◌, refl, sym, ap, ◌∙◌}
+use mathlib.Core.Path.{◌≡◌, sym, ap, ◌∙◌}
 use native.Mathlib.Omega.{arith}
 use lib.ListN.{drop}
 use lib.Seq.{length-take-le}
@@ -16,9 +16,3 @@ slice_bounds-result-end c =
     let k = bounds b at c.requires in
     let e : c.record_size.result ≡ record_size (drop at b) = c.record_size.ensures ∙ ap record_size (from_place b at) in
     rw (from_place b at) (sym (length-take-le _ _ (rw length-drop (omega (arith, e, k.inside)))))
-
-pub returns : goal.returns
-returns c =
-    let b = c.args.b.now in
-    let at = c.args.at in
-    rw (c.record_size.ensures, from_place b at) refl

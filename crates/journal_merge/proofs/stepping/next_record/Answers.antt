@@ -1,12 +1,9 @@
 -- `next_record` drops records until one is next. Assumes nothing.
 use mathlib.Core.Path.{sym, ◌∙◌}
 use native.Mathlib.Omega.{arith}
-use Rattle.journal_merge.proofs.Steps.{passed_none, there, first_rest, second_rest, first_record, second_record}
+use Rattle.journal_merge.proofs.Steps.{there, first_rest, second_rest, first_record, second_record}
 use Rattle.journal_merge.proofs.Steps.{stepped_done, stepped_first, stepped_second, stepped_dropped, second_inside}
 use Rattle.journal_merge.proofs.stepping.next_record.Goals as goal
-
-pub steps-init : goal.steps-init
-steps-init c = passed_none _ _ _
 
 pub first_is_next-requires : goal.first_is_next-requires
 first_is_next-requires c =
