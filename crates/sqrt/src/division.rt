@@ -51,6 +51,8 @@ fn root4(n: u64) -> u64
     }
 }
 
+// A function for each number of digits: each is one call of `extend`, and its contract says which digits are reached. One function for all would take
+// three constants in place of a name, and is no plainer.
 // The root of q's leading digits, those above the lowest 40.
 fn root7(q: u64) -> Whole
     requires { (2 ^ 52 ≤ q) × (q < 2 ^ 54) }
