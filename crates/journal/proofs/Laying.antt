@@ -11,7 +11,7 @@ use Rattle.facts.proofs.Orders.{by_order}
 use Rattle.text_digits.specs.Text.{room_for, Put}
 use Rattle.text_digits.proofs.Putting.{put_nothing, put_put, put_as, put_whole}
 use Rattle.limit.specs.Formula.{sample_form}
-use Rattle.journal_spec.specs.Bytes.{bytes_of, joined, AreBytes}
+use Rattle.journal_spec.specs.Bytes.{bytes_of, joined}
 use Rattle.journal_spec.specs.Section.{number_bytes, section_bytes}
 use Rattle.limit.specs.Times.{max_count}
 use Rattle.journal_spec.specs.Record.{max_name, max_chances, record_bytes}

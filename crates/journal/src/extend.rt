@@ -14,7 +14,7 @@ ghost use Rattle.journal.specs.Answers.{outcome_of};
 use crate::AppendError;
 use crate::contents::{MAX_LENGTH, contents_of};
 use crate::layout::{MAX_RECORD, lay_record};
-use crate::offer::offer_refusal;
+use crate::offer::{Offer, offer_refusal};
 use crate::profile::Rule;
 use crate::record::{Head, MAX_CHANCES};
 use crate::write::put_record;
@@ -70,17 +70,20 @@ pub fn extend_by(
         → outcome_of len result v.new ≡ append_to (standing ps committed) (record { slice = v.old; len = len })
         (request_by asked name.now chances.now (Request.times times.now) none) }
 {
-    let day = asked.day;
-    let budget = asked.budget;
-    let rule = asked.rule;
+    let offer = Offer {
+        day: asked.day,
+        name,
+        chances,
+        times,
+    };
     let mut bits: [u64; MAX_CHANCES] = [0; MAX_CHANCES];
-    if let Err(refusal) = offer_refusal(last, day, name, chances, times, rule, &mut bits) {
+    if let Err(refusal) = offer_refusal(last, &offer, asked.rule, &mut bits) {
         return Err(AppendError::Declined(refusal));
     }
     let n = chances.len();
     let mut bytes: [u8; MAX_RECORD] = [0; MAX_RECORD];
-    let size = lay_record(&mut bytes, day, name, chances, times, &bits[..n]);
-    extend_within(v, committed, &bytes[..size], budget)
+    let size = lay_record(&mut bytes, &offer, &bits[..n]);
+    extend_within(v, committed, &bytes[..size], asked.budget)
 }
 
 // A record that nothing else refuses: no room, or its first bytes are written, as many as the budget lets through.

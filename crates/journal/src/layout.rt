@@ -7,6 +7,7 @@ ghost use Rattle.journal_spec.specs.Bytes.{bytes_of};
 ghost use Rattle.journal_spec.specs.Section.{section_bytes};
 ghost use Rattle.journal.specs.Handed.{bytes_from};
 
+use crate::offer::Offer;
 use limit::SAMPLE_FORM;
 use text_digits::put;
 
@@ -14,21 +15,14 @@ use text_digits::put;
 pub const MAX_RECORD: usize = 652;
 
 // The record of what is offered with its limits, from the array's front on. Answers its length.
-pub(crate) fn lay_record(
-    out: &mut [u8],
-    day: u16,
-    name: &[u8],
-    chances: &[u32],
-    times: &[u32],
-    limits: &[u64],
-) -> usize
-    ensures { Put out.old 0 (bytes_from day name.now chances.now times.now limits.now)
+pub(crate) fn lay_record(out: &mut [u8], offer: &Offer, limits: &[u64]) -> usize
+    ensures { Put out.old 0 (bytes_from offer.now.day offer.now.name.now offer.now.chances.now offer.now.times.now limits.now)
         out.new result }
 {
-    let of_head = lay_head(out, day);
-    let of_name = lay_section(out, of_head, 1, name);
-    let of_chances = lay_section(out, of_name, 4, chances);
-    let of_times = lay_section(out, of_chances, 4, times);
+    let of_head = lay_head(out, offer.day);
+    let of_name = lay_section(out, of_head, 1, offer.name);
+    let of_chances = lay_section(out, of_name, 4, offer.chances);
+    let of_times = lay_section(out, of_chances, 4, offer.times);
     lay_section(out, of_times, 8, limits)
 }
 

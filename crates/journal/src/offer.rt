@@ -21,20 +21,32 @@ use refusals::Refusal;
 // The greatest chance of an offer, which is an even one.
 const EVEN_CHANCE: u32 = 500_000;
 
+// A record that is offered: document 01's leaf without its limits.
+#[derive(Clone, Copy)]
+pub(crate) struct Offer<'a> {
+    pub day: u16,
+    pub name: &'a [u8],
+    pub chances: &'a [u32],
+    pub times: &'a [u32],
+}
+
 // The refusal of the offer after the record `last`; where there is none, the limits' bits stand first in `bits`.
 pub(crate) fn offer_refusal(
     last: Head,
-    day: u16,
-    name: &[u8],
-    chances: &[u32],
-    times: &[u32],
+    offer: &Offer,
     rule: Rule,
     bits: &mut [u64],
 ) -> Result<(), Refusal>
     requires { length bits.old ≡ max_chances }
-    ensures { OfferChecked (as_rule rule) (as_last last) (offer_from day name.now chances.now times.now)
+    ensures { OfferChecked (as_rule rule) (as_last last) (offer_from offer.now.day offer.now.name.now offer.now.chances.now offer.now.times.now)
         result bits.new }
 {
+    let Offer {
+        day,
+        name,
+        chances,
+        times,
+    } = *offer;
     if (day as u64) < last.day {
         return Err(Refusal::Day);
     }

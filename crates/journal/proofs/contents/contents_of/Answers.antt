@@ -3,7 +3,6 @@
 use mathlib.Core.Path.{◌∙◌}
 use mathlib.Core.Logic.{inl, inr}
 use native.Mathlib.Omega.{arith}
-use lib.ListN.{length-take}
 use Rattle.journal.specs.Handed.{as_rule}
 use Rattle.journal.proofs.Answering.{contents_beyond, contents_within}
 use Rattle.journal.proofs.contents.contents_of.Goals as goal
@@ -17,6 +16,3 @@ pub returns : goal.returns
 returns c =
     let a = c.args in
     c.records_of.ensures ∙ contents_within (as_rule a.rule) a.v.now a.len a.i (omega arith) (omega arith)
-
-pub slice_bounds-records_of-end : goal.slice_bounds-records_of-end
-slice_bounds-records_of-end c = rw length-take (omega arith)

@@ -8,16 +8,8 @@ use Rattle.journal.proofs.contents.records_of.Goals as goal
 pub loop-e-init : goal.loop-e-init
 loop-e-init c = let a = c.args in counting_start a.rule a.b.now a.i
 
-pub record_by-requires : goal.record_by-requires
-record_by-requires c = c.loop-e.invariant.going.inside
-
 pub shown_next-shown-requires : goal.shown_next-shown-requires
 shown_next-shown-requires c = omega (arith, (counting_more _ _ _ _ _ _ _ c.loop-e.invariant _ c.in-Ok.ensures c.in-Ok.e refl).later)
-
-pub overflow_add-records : goal.overflow_add-records
-overflow_add-records c =
-    let inv = c.loop-e.invariant in
-    omega (arith, inv.count, inv.going.few, inv.going.inside)
 
 pub loop-e-smaller : goal.loop-e-smaller
 loop-e-smaller c = let more = counting_more _ _ _ _ _ _ _ c.loop-e.invariant _ c.in-Ok.ensures c.in-Ok.e refl in omega (arith, more.later, more.there)

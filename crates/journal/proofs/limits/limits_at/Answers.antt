@@ -1,36 +1,12 @@
 -- `limits_at` passes one limit a turn, and the place of its chance with it.
 -- Assumes nothing.
-use mathlib.Core.Path.{◌≡◌, refl}
+use mathlib.Core.Path.{refl}
 use Prim.Native.Nat.{◌+◌, ◌-◌}
 use native.Mathlib.Omega.{arith}
 use Rattle.limit.specs.Answer.{moments_meaning}
 use Rattle.std.proofs.lemmas.Result.{err_from_is_err_and}
-use Rattle.journal.proofs.LimitsLoop.{limiting_start, limiting_end, limiting_halted, limiting_more, limit_there, chance_there}
+use Rattle.journal.proofs.LimitsLoop.{limiting_end, limiting_halted, limiting_more}
 use Rattle.journal.proofs.limits.limits_at.Goals as goal
-
-pub loop-i-init : goal.loop-i-init
-loop-i-init c =
-    let a = c.args in
-    let all : a.n - 0 ≡ a.n = omega arith in
-    rw all (limiting_start a.b.now a.at a.n a.chances (moments_meaning a.worked) c.requires.0)
-
-pub limit_at-requires : goal.limit_at-requires
-limit_at-requires c =
-    let a = c.args in
-    let l = c.loop-i in (
-      l.invariant.passed.inside,
-      chance_there a.b.now a.at a.n a.chances (moments_meaning a.worked) l.next l.chance (a.n - l.i) l.invariant c.requires.1 (omega arith),
-    )
-
-pub overflow_add-next : goal.overflow_add-next
-overflow_add-next c =
-    let a = c.args in
-    let l = c.loop-i in
-    omega (
-      arith,
-      limit_there a.b.now a.at a.n a.chances (moments_meaning a.worked) l.next l.chance (a.n - l.i) l.invariant
-          (a.n - (l.i + 1)) (omega arith) _ c.in_ok-_bits.ensures _ refl,
-    )
 
 pub loop-i-preserved : goal.loop-i-preserved
 loop-i-preserved c =

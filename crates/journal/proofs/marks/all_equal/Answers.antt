@@ -1,7 +1,7 @@
 -- `all_equal` meets its contract, by the invariant `Comparing`.
 -- Assumes nothing.
 use mathlib.Core.Path.{◌≡◌, sym}
-use Prim.Native.Nat.{◌+◌, ◌*◌, ◌-◌}
+use Prim.Native.Nat.{◌+◌, ◌-◌}
 use native.Mathlib.Omega.{arith}
 use Rattle.journal.proofs.Equal.{comparing_start, comparing_turn, comparing_differs, comparing_end}
 use Rattle.journal.proofs.marks.all_equal.Goals as goal
@@ -10,9 +10,6 @@ pub loop-i-init : goal.loop-i-init
 loop-i-init c =
     let all : c.args.n - 0 ≡ c.args.n = omega arith in
     rw all (comparing_start _ _ _ (omega arith) c.number_in-first.ensures)
-
-pub number_at-requires : goal.number_at-requires
-number_at-requires c = (omega (arith, c.loop-i.invariant.inside), omega arith)
 
 pub returns-then-number_at-first : goal.returns-then-number_at-first
 returns-then-number_at-first c =

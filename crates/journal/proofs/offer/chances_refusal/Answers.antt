@@ -31,9 +31,6 @@ loop-chance-preserved c =
     let l = c.loop-chance in
     chances_more c.args.chances.now l.low l.chance-index l.invariant (omega arith) c.in_ok-range_refusal-2.ensures
 
-pub overflow_add-low : goal.overflow_add-low
-overflow_add-low c = omega (arith, c.type_inv.chances c.loop-chance.chance-index)
-
 pub returns : goal.returns
 returns c =
     let l = c.loop-chance in

@@ -12,7 +12,7 @@ pub returns-then-day-last : goal.returns-then-day-last
 unfolding offer_from as_last
 returns-then-day-last c =
     let a = c.args in
-    day_refused (as_rule a.rule) (as_last a.last) (offer_from a.day a.name.now a.chances.now a.times.now) a.bits.now (omega arith)
+    day_refused (as_rule a.rule) (as_last a.last) (offer_from a.offer.now.day a.offer.now.name.now a.offer.now.chances.now a.offer.now.times.now) a.bits.now (omega arith)
 
 pub returns-in_err-name_refusal : goal.returns-in_err-name_refusal
 unfolding offer_from as_last
@@ -21,7 +21,7 @@ returns-in_err-name_refusal c =
     let again = c.from_residual in
     let p = err_from_is_err_and again.result again.ensures.1 in
     rw (p.1, p.2)
-    (name_refused (as_rule a.rule) (as_last a.last) (offer_from a.day a.name.now a.chances.now a.times.now) a.bits.now (omega arith)
+    (name_refused (as_rule a.rule) (as_last a.last) (offer_from a.offer.now.day a.offer.now.name.now a.offer.now.chances.now a.offer.now.times.now) a.bits.now (omega arith)
     c.in_err-name_refusal.field-0.0 c.in_err-name_refusal.ensures)
 
 pub returns-in_err-chances_refusal : goal.returns-in_err-chances_refusal
@@ -31,7 +31,7 @@ returns-in_err-chances_refusal c =
     let again = c.from_residual-in_err-chances_refusal in
     let p = err_from_is_err_and again.result again.ensures.1 in
     rw (p.1, p.2)
-    (chances_refused (as_rule a.rule) (as_last a.last) (offer_from a.day a.name.now a.chances.now a.times.now) a.bits.now (omega arith)
+    (chances_refused (as_rule a.rule) (as_last a.last) (offer_from a.offer.now.day a.offer.now.name.now a.offer.now.chances.now a.offer.now.times.now) a.bits.now (omega arith)
     c.in_ok-name_refusal.ensures
     c.in_err-chances_refusal.field-0.0 c.in_err-chances_refusal.ensures)
 
@@ -42,20 +42,20 @@ returns-in_err-even_refusal c =
     let again = c.from_residual-in_err-even_refusal in
     let p = err_from_is_err_and again.result again.ensures.1 in
     rw (p.1, p.2)
-    (even_refused (as_rule a.rule) (as_last a.last) (offer_from a.day a.name.now a.chances.now a.times.now) a.bits.now (omega arith)
+    (even_refused (as_rule a.rule) (as_last a.last) (offer_from a.offer.now.day a.offer.now.name.now a.offer.now.chances.now a.offer.now.times.now) a.bits.now (omega arith)
     c.in_ok-name_refusal.ensures c.in_ok-chances_refusal.ensures
     c.in_err-even_refusal.field-0.0 c.in_err-even_refusal.ensures)
 
 pub rule_refusal-requires : goal.rule_refusal-requires
 rule_refusal-requires c =
-    (chances_few c.args.chances.now c.in_ok-chances_refusal.ensures, c.requires)
+    (chances_few c.args.offer.now.chances.now c.in_ok-chances_refusal.ensures, c.requires)
 
 pub returns : goal.returns
 unfolding offer_from as_last
 returns c =
     let judged = c.rule_refusal in
     let a = c.args in
-    rule_judged (as_rule a.rule) (as_last a.last) (offer_from a.day a.name.now a.chances.now a.times.now) _ (omega arith)
+    rule_judged (as_rule a.rule) (as_last a.last) (offer_from a.offer.now.day a.offer.now.name.now a.offer.now.chances.now a.offer.now.times.now) _ (omega arith)
     c.in_ok-name_refusal.ensures c.in_ok-chances_refusal.ensures
     c.in_ok-even_refusal.ensures
     _ c.in_ok-sums.ensures _ refl _ judged.ensures
@@ -67,7 +67,7 @@ returns-in_err-sums c =
     let again = c.from_residual-in_err-sums in
     let p = err_from_is_err_and again.result again.ensures.1 in
     rw (p.1, p.2)
-    (times_refused (as_rule a.rule) (as_last a.last) (offer_from a.day a.name.now a.chances.now a.times.now) a.bits.now (omega arith)
+    (times_refused (as_rule a.rule) (as_last a.last) (offer_from a.offer.now.day a.offer.now.name.now a.offer.now.chances.now a.offer.now.times.now) a.bits.now (omega arith)
     c.in_ok-name_refusal.ensures c.in_ok-chances_refusal.ensures
     c.in_ok-even_refusal.ensures
     _ c.in_err-sums.ensures c.in_err-sums.field-0.0 refl)

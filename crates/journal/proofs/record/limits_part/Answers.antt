@@ -7,9 +7,6 @@ use Rattle.journal.specs.Found.{limit_section_at}
 use Rattle.journal.proofs.LimitsPart.{limits_part_halted, limits_part_read}
 use Rattle.journal.proofs.record.limits_part.Goals as goal
 
-pub limit_section_at-requires : goal.limit_section_at-requires
-limit_section_at-requires c = (c.requires.0, c.requires.1)
-
 pub returns : goal.returns
 returns c name list times stand good total =
     let a = c.args in

@@ -16,9 +16,6 @@ loop-i-init c =
     let all : a.n - 0 ≡ a.n = omega arith in
     rw all (numbering_start a.b.now a.at a.n a.width r.high r.rising (number_of r.refusal) r.low c.requires.0 c.requires.3.least)
 
-pub field_at-requires : goal.field_at-requires
-field_at-requires c = (c.loop-i.invariant.passed.inside, omega (arith, c.requires.2), c.requires.3.refuses)
-
 pub least_next-low-requires : goal.least_next-low-requires
 least_next-low-requires c =
     let fits = numbering_fits _ _ _ _ _ _ _ _ _ _ _ _ _ c.loop-i.invariant (omega arith) c.requires.1 c.requires.3.greatest c.requires.3.refuses _ c.in_ok-x.ensures in
@@ -38,11 +35,6 @@ pub overflow_add-squares : goal.overflow_add-squares
 overflow_add-squares c =
     let fits = numbering_fits _ _ _ _ _ _ _ _ _ _ _ _ _ c.loop-i.invariant (omega arith) c.requires.1 c.requires.3.greatest c.requires.3.refuses _ c.in_ok-x.ensures in
     omega (arith, fits.squared)
-
-pub overflow_add-next : goal.overflow_add-next
-overflow_add-next c =
-    let fits = numbering_fits _ _ _ _ _ _ _ _ _ _ _ _ _ c.loop-i.invariant (omega arith) c.requires.1 c.requires.3.greatest c.requires.3.refuses _ c.in_ok-x.ensures in
-    omega (arith, fits.there)
 
 pub loop-i-preserved : goal.loop-i-preserved
 loop-i-preserved c =

@@ -2,26 +2,14 @@
 -- Assumes nothing.
 use mathlib.Core.Path.{refl}
 use native.Mathlib.Omega.{arith}
-use Rattle.journal.proofs.Filling.{filled_none, filled_length, filled_more}
+use Rattle.journal.proofs.Filling.{filled_none, filled_more}
 use Rattle.journal.proofs.write.put_record.Goals as goal
 
 pub loop-p-init : goal.loop-p-init
 loop-p-init c = (filled_none _ _ _ (omega arith) (omega arith) refl, omega arith)
-
-pub step-p-requires : goal.step-p-requires
-step-p-requires c =
-    let asked = c.requires in
-    let f = c.loop-p.invariant.0 in
-    (omega (arith, filled_length _ _ _ _ _ f, asked.0), omega (arith, asked.1), f.front)
-
-pub loop-p-smaller : goal.loop-p-smaller
-loop-p-smaller c = omega (arith, c.step-p.ensures.place)
 
 pub loop-p-preserved : goal.loop-p-preserved
 loop-p-preserved c =
     let asked = c.requires in
     let s = c.step-p.ensures in
     (filled_more _ _ _ _ _ _ _ c.loop-p.invariant.0 (omega (arith, asked.0)) (omega (arith, asked.1)) s, omega (arith, s.place))
-
-pub returns : goal.returns
-returns c = record { filled = c.loop-p.invariant.0; value = omega (arith, c.loop-p.invariant.1) }
