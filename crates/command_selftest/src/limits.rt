@@ -5,7 +5,7 @@ ghost use Rattle.command_selftest.specs.Replay.{figures_differing, limit_differi
 
 use crate::quantiles::other_bits;
 use double_bits::bits_of;
-use limit::{Answer, Figures};
+use limit::Figures;
 
 #[derive(Clone, Copy)]
 pub(crate) struct Row {
@@ -25,10 +25,9 @@ pub(crate) fn limit_differing(row: Row) -> usize
     ensures upper_bound { result ≤ 4 }
 {
     let times = [row.first, row.second];
-    let a = limit::limit(row.form, &times, row.chance);
-    match a {
-        Answer::Limit(f) => figures_differing(row, f),
-        Answer::Refused(_) => 4,
+    match limit::limit(row.form, &times, row.chance) {
+        Ok(f) => figures_differing(row, f),
+        Err(_) => 4,
     }
 }
 

@@ -12,13 +12,9 @@ pub(crate) fn quantiles_differing(x: &[u64], bits: &[u64]) -> usize
     if x.len() != bits.len() {
         return x.len();
     }
-    let mut differing: usize = 0;
-    let mut i: usize = 0;
-    while i < x.len() {
-        let got = f_erfcinv_bits(x[i]);
-        let one = other_bits(got, bits[i]);
-        differing += one;
-        i += 1;
+    let mut differing = 0;
+    for (argument, answer) in x.iter().zip(bits) {
+        differing += other_bits(f_erfcinv_bits(*argument), *answer);
     }
     differing
 }
@@ -28,8 +24,5 @@ pub(crate) fn other_bits(got: u64, wanted: u64) -> usize
     ensures value { result ≡ one_if_other got wanted }
     ensures upper_bound { result ≤ 1 }
 {
-    if got == wanted {
-        return 0;
-    }
-    1
+    usize::from(got != wanted)
 }

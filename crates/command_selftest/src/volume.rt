@@ -30,10 +30,8 @@ pub(crate) fn is_listed() -> bool {
         at: 0,
         cursor: journal_listing::start(&VOLUME, Rule::Plain),
     };
-    let mut lines: usize = 0;
-    while lines < LINES {
-        placed = put_line(&mut out, placed.at, placed.cursor);
-        lines += 1;
+    for _ in 0..LINES {
+        placed = put_line(&mut out, placed);
     }
     let mut wanted = [0u8; 1024];
     put(&mut wanted, 0, &LISTING);
@@ -41,47 +39,34 @@ pub(crate) fn is_listed() -> bool {
 }
 
 // The next line, put behind those before it.
-fn put_line(out: &mut [u8], at: usize, cursor: Cursor) -> Placed {
+fn put_line(out: &mut [u8], placed: Placed) -> Placed {
     let mut text = [0u8; MAX_LINE];
-    let line = journal_listing::next_line(&VOLUME, cursor, &mut text);
-    let size = line.size;
-    let next = line.cursor;
-    let end = put(out, at, &text[..size]);
+    let line = journal_listing::next_line(&VOLUME, placed.cursor, &mut text);
     Placed {
-        at: end,
-        cursor: next,
+        at: put(out, placed.at, &text[..line.size]),
+        cursor: line.cursor,
     }
 }
 
-// How many cuts of the last record leave other bytes than stand stored, or let the next append leave others.
-pub(crate) fn cuts_differing() -> usize {
-    let mut differing: usize = 0;
-    let mut cut: usize = START;
-    while cut <= SIZE {
-        let one = cut_differs(cut);
-        differing += one;
-        cut += 1;
-    }
-    differing
+// Whether every cut of the last record leaves the stored bytes up to there, and lets the next append finish them.
+pub(crate) fn are_cuts_finished() -> bool {
+    (START..=SIZE).all(|cut| is_cut_finished(cut))
 }
 
-// 0 where an append that is cut there leaves the volume up to there, and the next one the whole volume; 1 elsewhere.
-fn cut_differs(cut: usize) -> usize
-    ensures { result ≤ 1 }
-{
-    if cut < START {
-        return 1;
-    }
-    let budget = cut - START;
+// Whether an append that is cut there leaves the volume up to there, and the next one the whole volume.
+fn is_cut_finished(cut: usize) -> bool {
     let mut v = front(START);
-    let wanted = front(cut);
-    if !append_leaves(&mut v, START, DAY, &NAME, &CHANCES, &TIMES, budget, &wanted) {
-        return 1;
-    }
-    if !append_leaves(&mut v, cut, DAY, &NAME, &CHANCES, &TIMES, SIZE, &VOLUME) {
-        return 1;
-    }
-    0
+    let budget = cut.saturating_sub(START);
+    append_leaves(
+        &mut v,
+        START,
+        DAY,
+        &NAME,
+        &CHANCES,
+        &TIMES,
+        budget,
+        &front(cut),
+    ) && append_leaves(&mut v, cut, DAY, &NAME, &CHANCES, &TIMES, SIZE, &VOLUME)
 }
 
 // The volume's first bytes, and zeros behind them.
@@ -89,10 +74,8 @@ fn front(size: usize) -> [u8; SIZE]
     ensures { 632 ≡ length result }
 {
     let mut v = VOLUME;
-    let mut i = size;
-    while i < SIZE {
-        v[i] = 0;
-        i += 1;
+    if let Some(behind) = v.get_mut(size..) {
+        behind.fill(0);
     }
     v
 }
@@ -120,6 +103,6 @@ pub(crate) fn append_leaves(
         })
         ).journal.slice wanted.now }
 {
-    journal::append_upto(v, len, day, name, chances, times, budget);
+    let _ = journal::append_upto(v, len, day, name, chances, times, budget);
     same(v, wanted)
 }

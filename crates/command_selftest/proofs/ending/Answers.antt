@@ -1,6 +1,6 @@
 -- `ending` is its definition, a branch each.
 -- Assumes nothing.
-use borrow.Author.Rules.{rules}
+use Rattle.std.proofs.Common.{rules}
 use Rattle.command_selftest.specs.Replay.{ending_of}
 use Rattle.command_selftest.proofs.ending.Goals as goal
 
@@ -8,6 +8,6 @@ pub returns-then-same : goal.returns-then-same
 unfolding ending_of
 returns-then-same c = search rules
 
-pub returns : goal.returns
+pub returns-else-same : goal.returns-else-same
 unfolding ending_of
-returns c = search rules
+returns-else-same c = search rules

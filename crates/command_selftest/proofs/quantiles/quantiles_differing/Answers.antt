@@ -1,9 +1,8 @@
--- `quantiles_differing` passes one argument a turn: those passed are counted, the rest is left. The measure is how many are left.
+-- `quantiles_differing` passes one argument a turn: those passed are counted, the rest is left.
 -- Assumes nothing.
-use mathlib.Core.Path.{◌≡◌}
-use native.Mathlib.Omega.{arith}
+use Rattle.std.proofs.Common.{◌≡◌, ◌+◌, [], ◌∷◌, ◌++◌, length, length-append, get_or, min, arith, rules}
+use Rattle.std.proofs.lemmas.Slice.Zip.{zip_turn, zip_end}
 use borrow.Author.Tests.{eq-eqb, ne_eqb}
-use lib.ListN.{length, get_or}
 use Rattle.pxfm.specs.Inverfc.{f_erfcinv_bits}
 use Rattle.command_selftest.specs.Replay.{one_if_other, quantiles_differing}
 use Rattle.command_selftest.proofs.Counting.{count_starts, count_turn, count_ends}
@@ -15,42 +14,26 @@ returns-then-x-bits c =
     let p = c.args in
     rw (ne_eqb (length p.x.now) (length p.bits.now) (λ e. omega arith))
 
-pub loop-i-init : goal.loop-i-init
-loop-i-init c = (omega arith, omega arith, omega arith, count_starts _ _)
+pub loop-argument-init : goal.loop-argument-init
+loop-argument-init c = (omega arith, omega arith, count_starts _ _)
 
-pub loop-i-preserved : goal.loop-i-preserved
-loop-i-preserved c =
-    let l = c.loop-i in
+pub loop-argument-preserved : goal.loop-argument-preserved
+loop-argument-preserved c =
+    let l = c.loop-argument in
     let p = c.args in
-    let one : c.other_bits-one.result ≡ one_if_other (f_erfcinv_bits (get_or p.x.now l.i 0)) (get_or p.bits.now l.i 0) = cc in
-    let counted = count_turn p.x.now p.bits.now l.i (omega arith) l.invariant.0 l.differing _ c.other_bits-one.result one l.invariant.3 in
-    (l.invariant.0, omega arith, omega arith, counted)
+    let i = length l.yielded in
+    let turn = zip_turn p.x.now p.bits.now l.yielded c.into_iter-argument-iterator.result l.argument-iterator c.next.new.self c.next.result (search rules) (search rules) l.yielded_by _ c.in-Some.is c.next.ensures.steps in
+    let one : c.other_bits-differing.result ≡ one_if_other (f_erfcinv_bits (get_or p.x.now i 0)) (get_or p.bits.now i 0) = cc (turn.2 0, turn.3 0) in
+    let next : length l.yielded + 1 ≡ length (l.yielded ++ (c.in-Some.argument, c.in-Some.answer) ∷ []) = omega (arith, length-append l.yielded ((c.in-Some.argument, c.in-Some.answer) ∷ [])) in
+    let counted = count_turn p.x.now p.bits.now i turn.0 l.invariant.0 l.differing _ c.other_bits-differing.result one l.invariant.2 in
+    (l.invariant.0, omega (arith, next), rw next at counted)
 
 pub returns : goal.returns
 unfolding quantiles_differing
 returns c =
-    let l = c.loop-i in
+    let l = c.loop-argument in
     let p = c.args in
+    let end : length l.yielded ≡ min (length p.x.now) (length p.bits.now) =
+    zip_end p.x.now p.bits.now l.yielded c.into_iter-argument-iterator.result l.argument-iterator c.next.new.self c.next.result (search rules) (search rules) l.yielded_by c.in-None.is c.next.ensures.steps in
     rw (eq-eqb (length p.x.now) (length p.bits.now) l.invariant.0)
-    (count_ends p.x.now p.bits.now l.i l.differing _ (omega arith) l.invariant.3)
-
-pub offset_bounds-x-i : goal.offset_bounds-x-i
-offset_bounds-x-i c = omega arith
-
-pub bounds-x-i : goal.bounds-x-i
-bounds-x-i c = omega arith
-
-pub offset_bounds-bits-i : goal.offset_bounds-bits-i
-offset_bounds-bits-i c = omega arith
-
-pub bounds-bits-i : goal.bounds-bits-i
-bounds-bits-i c = omega arith
-
-pub overflow_add-differing : goal.overflow_add-differing
-overflow_add-differing c = omega arith
-
-pub overflow_add-i : goal.overflow_add-i
-overflow_add-i c = omega arith
-
-pub loop-i-smaller : goal.loop-i-smaller
-loop-i-smaller c = omega arith
+    (count_ends p.x.now p.bits.now (length l.yielded) l.differing _ (omega arith) l.invariant.2)

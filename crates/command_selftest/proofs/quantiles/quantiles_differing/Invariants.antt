@@ -1,15 +1,10 @@
--- `quantiles_differing` passes one argument a turn: those passed are counted, the rest is left. The measure is how many are left.
+-- `quantiles_differing` passes one argument a turn: those passed are counted, the rest is left.
 -- Assumes nothing.
-use Prim.Native.Nat.{◌+◌, ◌-◌, ◌≤◌}
-use mathlib.Core.Path.{◌≡◌}
-use lib.ListN.{length, drop}
+use Rattle.std.proofs.Common.{◌≡◌, ◌+◌, ◌≤◌, length, drop}
 use Rattle.command_selftest.specs.Replay.{others_among}
 use Rattle.command_selftest.proofs.quantiles.quantiles_differing.Given as goal
 
-abbrev pub invariant-loop-i : goal.invariant-loop-i
-invariant-loop-i l =
-    (length l.x ≡ length l.bits) × (l.i ≤ length l.x) × (l.differing ≤ l.i)
-    × (l.differing + others_among (drop l.i l.x) (drop l.i l.bits) ≡ others_among l.x l.bits)
-
-abbrev pub decreases-loop-i : goal.decreases-loop-i
-decreases-loop-i l = length l.x - l.i
+abbrev pub invariant-loop-argument : goal.invariant-loop-argument
+invariant-loop-argument l =
+    (length l.x ≡ length l.bits) × (l.differing ≤ length l.yielded)
+    × (l.differing + others_among (drop (length l.yielded) l.x) (drop (length l.yielded) l.bits) ≡ others_among l.x l.bits)
