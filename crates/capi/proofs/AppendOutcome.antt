@@ -7,14 +7,15 @@ use mathlib.Core.Bool.{Bool, true, false}
 use lib.Dec.{eqb}
 use Rattle.journal_spec.specs.Request.{Journal, up_to, Source, Outcome, request_of}
 use Rattle.journal_spec.specs.Append.{append_of}
-use Rattle.journal.specs.declared.Appended.{Appended}
+use Rattle.std.proofs.Common.{Result}
+use Rattle.journal.specs.declared.AppendError.{AppendError}
 use Rattle.journal.specs.declared.extend.Asked.{Asked}
 use Rattle.journal.specs.Handed.{as_budget, as_rule, request_by}
 use Rattle.journal.specs.Answers.{append_meaning, outcome_with, outcome_of}
 use Rattle.journal_index.specs.Outcome.{handed}
 use Rattle.capi.specs.Append.{append_words, rule_of, handed_by, left_in}
 
-pub outcome_told : (len : ℕ) (r : Appended) (slice words : List ℕ) (o : Outcome) → outcome_of len r slice ≡ o → words ≡ append_words (append_meaning r)
+pub outcome_told : (len : ℕ) (r : Result ℕ AppendError) (slice words : List ℕ) (o : Outcome) → outcome_of len r slice ≡ o → words ≡ append_words (append_meaning r)
     → (slice ≡ o.journal.slice) × (words ≡ append_words o.answer)
 unfolding outcome_with
 outcome_told len r slice words o e put = (ap (λ (x : Outcome). x.journal.slice) e, put ∙ ap (λ (x : Outcome). append_words x.answer) e)
@@ -28,7 +29,7 @@ left_by true after b stays = refl
 left_by false after b stays = stays refl
 
 module _ (j : Journal) (name chances : List ℕ) (source : Source) (a : Asked) (day budget options : ℕ)
-    (is : (a.day ≡ day) × (as_budget a.budget ≡ up_to budget) × (as_rule a.rule ≡ rule_of options)) (r : Appended)
+    (is : (a.day ≡ day) × (as_budget a.budget ≡ up_to budget) × (as_rule a.rule ≡ rule_of options)) (r : Result ℕ AppendError)
     (slice after b words : List ℕ) where
   -- what the call comes to
   abbrev came : Outcome

@@ -11,7 +11,7 @@ ghost use Rattle.journal.specs.Handed.{as_budget, as_rule};
 ghost use Rattle.journal.specs.Answers.{append_meaning};
 ghost use Rattle.capi.specs.Append.{append_words, rule_of, handed_by, left_in};
 
-use journal::{Appended, Asked, Budget, Rule};
+use journal::{AppendError, Asked, Budget, Fault, Rule};
 use journal_index::{append_beside, append_log_beside};
 
 pub fn journal_append(
@@ -138,42 +138,44 @@ pub fn journal_append_log_with(
     put_words(a, out);
 }
 
-// What a call asks for by its options: the profile where they have the 2 in them.
+// What a call asks for by its options.
+#[tactic(auto, unfolding(journal::specs::Handed::as_budget))]
 fn asked_by(day: u16, budget: usize, options: u32) -> Asked
     ensures { (result.day ≡ day) × (as_budget result.budget ≡ up_to budget) × (as_rule result.rule ≡ rule_of options) }
 {
-    let cut = Budget::UpTo(budget);
-    if options / 2 % 2 == 1 {
-        return Asked {
-            day,
-            budget: cut,
-            rule: Rule::Profile,
-        };
-    }
     Asked {
         day,
-        budget: cut,
-        rule: Rule::Plain,
+        budget: Budget::UpTo(budget),
+        rule: rule_of(options),
+    }
+}
+
+// The profile where the options have the 2 in them.
+#[tactic(auto, unfolding(crate::specs::Append::rule_of, journal::specs::Handed::as_rule))]
+fn rule_of(options: u32) -> Rule
+    ensures { as_rule result ≡ rule_of options }
+{
+    if options / 2 % 2 == 1 {
+        Rule::Profile
+    } else {
+        Rule::Plain
     }
 }
 
 // 0 and the journal's length after the call; 1 and the number by which it is declined; 2, with the fault's number and place; or 3, with the
 // number by which a line of the log is refused and its place in the log.
-fn put_words(a: Appended, out: &mut [u64; 3])
+#[tactic(auto, unfolding(crate::specs::Append::append_words, journal::specs::Answers::append_meaning))]
+fn put_words(a: Result<usize, AppendError>, out: &mut [u64; 3])
     ensures { out.new ≡ append_words (append_meaning a) }
 {
     match a {
-        Appended::Extended(n) => {
-            *out = [0, n as u64, 0];
+        Ok(n) => *out = [0, n as u64, 0],
+        Err(AppendError::Declined(r)) => *out = [1, u64::from(r.number()), 0],
+        Err(AppendError::DeclinedAt(Fault { refusal: r, place })) => {
+            *out = [3, u64::from(r.number()), place as u64];
         }
-        Appended::Declined(n) => {
-            *out = [1, n as u64, 0];
-        }
-        Appended::DeclinedAt(f) => {
-            *out = [3, f.number as u64, f.place as u64];
-        }
-        Appended::Damaged(f) => {
-            *out = [2, f.number as u64, f.place as u64];
+        Err(AppendError::Damaged(Fault { refusal: r, place })) => {
+            *out = [2, u64::from(r.number()), place as u64];
         }
     }
 }

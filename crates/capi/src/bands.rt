@@ -4,21 +4,15 @@ ghost use Rattle.std.specs.Prelude.{◌≡◌};
 ghost use Rattle.band.specs.Band.{band_of};
 ghost use Rattle.capi.specs.Band.{band_words};
 
-use band::Answer;
+use band::Ends;
 use double_bits::bits_of;
 
+#[tactic(auto, unfolding(crate::specs::Band::band_words, band::specs::Answer::meaning))]
 pub fn band_bits(times: &[u32], share: u32, out: &mut [u64; 3])
     ensures { out.new ≡ band_words (band_of times.now share) }
 {
-    let a = band::band(times, share);
-    match a {
-        Answer::Band(e) => {
-            let low = bits_of(e.low);
-            let high = bits_of(e.high);
-            *out = [0, low, high];
-        }
-        Answer::Refused(n) => {
-            *out = [1, n as u64, 0];
-        }
+    match band::band(times, share) {
+        Ok(Ends { low, high }) => *out = [0, bits_of(low), bits_of(high)],
+        Err(r) => *out = [1, u64::from(r.number()), 0],
     }
 }

@@ -5,7 +5,8 @@ ghost use Rattle.journal_spec.specs.MakeIndex.{make_index_of};
 ghost use Rattle.journal_index.specs.Made.{made_meaning};
 ghost use Rattle.capi.specs.Index.{index_words};
 
-use journal_index::IndexMade;
+use journal::Fault;
+use journal_index::IndexError;
 
 pub fn journal_index(v: &[u8], len: usize, index: &mut [u8], out: &mut [u64; 3])
     ensures index_after { index.new ≡ (make_index_of (record { slice = v.now; len = len }) index.old).buffer }
@@ -16,18 +17,15 @@ pub fn journal_index(v: &[u8], len: usize, index: &mut [u8], out: &mut [u64; 3])
 }
 
 // 0 and the index's length; 1 and 15; or 2, a fault's number and place.
-fn put_made(m: IndexMade, out: &mut [u64; 3])
+#[tactic(auto, unfolding(crate::specs::Index::index_words, journal_index::specs::Made::made_meaning))]
+fn put_made(m: Result<usize, IndexError>, out: &mut [u64; 3])
     ensures { out.new ≡ index_words (made_meaning m) }
 {
     match m {
-        IndexMade::Length(n) => {
-            *out = [0, n as u64, 0];
-        }
-        IndexMade::Declined(number) => {
-            *out = [1, number as u64, 0];
-        }
-        IndexMade::Damaged(fault) => {
-            *out = [2, fault.number as u64, fault.place as u64];
+        Ok(n) => *out = [0, n as u64, 0],
+        Err(IndexError::Declined(r)) => *out = [1, u64::from(r.number()), 0],
+        Err(IndexError::Damaged(Fault { refusal: r, place })) => {
+            *out = [2, u64::from(r.number()), place as u64];
         }
     }
 }

@@ -4,11 +4,12 @@ ghost use Rattle.std.specs.Prelude.{◌≡◌};
 ghost use Rattle.journal_spec.specs.Profile.{plain, profile};
 ghost use Rattle.journal_spec.specs.Scan.{scan_of};
 ghost use Rattle.journal_spec.specs.Read.{part_place, read_mark};
-ghost use Rattle.journal.specs.Answers.{meaning, part_meaning, mark_meaning};
+ghost use Rattle.journal.specs.Answers.{meaning, place_meaning, mark_meaning};
 ghost use Rattle.capi.specs.Journal.{scan_words, part_words, mark_word};
 
-use journal::marks::letter_of;
-use journal::{Marked, Part, Rule, Status};
+use journal::marks::{Mark, letter_of};
+use journal::{Fault, Part, Rule, Status};
+use refusals::Refusal;
 
 pub fn journal_scan(v: &[u8], len: usize, out: &mut [u64; 3])
     ensures { out.new ≡ scan_words (scan_of plain v.now len) }
@@ -54,35 +55,37 @@ pub fn journal_profile_mark(v: &[u8], len: usize, i: usize) -> u64
 }
 
 // 0 whole or 1 torn, with the number of records and the committed length; or 2, with the fault's number and place.
+#[tactic(auto, unfolding(crate::specs::Journal::scan_words, journal::specs::Answers::meaning))]
 fn put_status(s: Status, out: &mut [u64; 3])
     ensures { out.new ≡ scan_words (meaning s) }
 {
     match s {
-        Status::Whole { records, committed } => {
-            *out = [0, records as u64, committed as u64];
-        }
-        Status::Torn { records, committed } => {
-            *out = [1, records as u64, committed as u64];
-        }
-        Status::Damaged(f) => {
-            *out = [2, f.number as u64, f.place as u64];
+        Status::Whole { records, committed } => *out = [0, records as u64, committed as u64],
+        Status::Torn { records, committed } => *out = [1, records as u64, committed as u64],
+        Status::Damaged(Fault { refusal: r, place }) => {
+            *out = [2, u64::from(r.number()), place as u64];
         }
     }
 }
 
 // The place of a record's first byte and its bytes' number, both 0 where reading is refused.
-fn put_part(p: Part, out: &mut [u64; 2])
-    ensures { out.new ≡ part_words (part_meaning p) }
+#[tactic(auto, unfolding(crate::specs::Journal::part_words, journal::specs::Answers::place_meaning, journal::specs::Answers::part_meaning, journal_spec::specs::Read::no_part))]
+fn put_part(p: Option<Part>, out: &mut [u64; 2])
+    ensures { out.new ≡ part_words (place_meaning p) }
 {
-    *out = [p.start as u64, p.size as u64];
+    match p {
+        Some(Part { start, size }) => *out = [start as u64, size as u64],
+        None => *out = [0, 0],
+    }
 }
 
 // The letter of a record's mark, or the refusal's number.
-fn mark_word(m: Marked) -> u64
+#[tactic(auto, unfolding(crate::specs::Journal::mark_word, journal::specs::Answers::mark_meaning))]
+fn mark_word(m: Result<Mark, Refusal>) -> u64
     ensures { result ≡ mark_word (mark_meaning m) }
 {
     match m {
-        Marked::As(mark) => letter_of(mark) as u64,
-        Marked::Refused(n) => n as u64,
+        Ok(mark) => u64::from(letter_of(mark)),
+        Err(r) => u64::from(r.number()),
     }
 }

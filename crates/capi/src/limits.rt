@@ -5,22 +5,29 @@ ghost use Rattle.limit.specs.Limit.{limit_of};
 ghost use Rattle.capi.specs.Limit.{limit_words};
 
 use double_bits::bits_of;
-use limit::Answer;
+use limit::Figures;
 
+#[tactic(auto, unfolding(crate::specs::Limit::limit_words, limit::specs::Answer::meaning))]
 pub fn limit_bits(form: u32, times: &[u32], chance: u32, out: &mut [u64; 5])
     ensures { out.new ≡ limit_words (limit_of form times.now chance) }
 {
-    let a = limit::limit(form as u64, times, chance);
-    match a {
-        Answer::Limit(f) => {
-            let mean = bits_of(f.mean);
-            let spread = bits_of(f.spread);
-            let quantile = bits_of(f.quantile);
-            let limit = bits_of(f.limit);
-            *out = [0, mean, spread, quantile, limit];
+    match limit::limit(u64::from(form), times, chance) {
+        Ok(
+            Figures {
+                mean,
+                spread,
+                quantile,
+                limit,
+            },
+        ) => {
+            *out = [
+                0,
+                bits_of(mean),
+                bits_of(spread),
+                bits_of(quantile),
+                bits_of(limit),
+            ];
         }
-        Answer::Refused(n) => {
-            *out = [1, n as u64, 0, 0, 0];
-        }
+        Err(r) => *out = [1, u64::from(r.number()), 0, 0, 0],
     }
 }

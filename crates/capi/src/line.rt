@@ -22,13 +22,11 @@ fn cursor_before(v: &[u8], i: usize) -> Cursor
     ensures { (step (position_of result) v.now).text ≡ line_at i v.now }
 {
     let mut cursor = journal_listing::start(v, Rule::Plain);
-    let mut left = i;
-    while left > 0 {
+    for _ in 0..i {
         if cursor.ended {
             return cursor;
         }
         cursor = next_cursor(v, cursor);
-        left -= 1;
     }
     cursor
 }

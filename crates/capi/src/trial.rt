@@ -1,11 +1,13 @@
 // The trial of a recorded log (request 2026-12): the call for an entry of the index, with its answer in twelve words, and the call for unknown names,
 // in three. `log` is all of the log, `v` the slice, `len` the journal's length in it, `index` the buffer with the index at its front.
 ghost use Rattle.std.specs.Prelude.{◌≡◌};
-ghost use mathlib.Core.List.{◌∷◌, replicate};
+ghost use mathlib.Core.List.{[], ◌∷◌, ◌++◌, replicate};
 ghost use Rattle.journal_trial_spec.specs.Trial.{try_entry, try_unknown};
-ghost use Rattle.capi.specs.Trial.{trial_words, words_of, unknown_words, words_of_unknown};
+ghost use Rattle.journal_trial.specs.Answers.{refusal_of, meaning};
+ghost use Rattle.capi.specs.Trial.{refusal_words, trial_words, words_of, unknown_words, words_of_unknown};
 
-use journal_trial::{Answer, Trial, Unknown};
+use journal::Fault;
+use journal_trial::{Trial, TrialError};
 
 pub fn journal_trial(
     log: &[u8],
@@ -28,53 +30,63 @@ pub fn journal_trial_unknown(log: &[u8], v: &[u8], len: usize, index: &[u8], out
     put_unknown(u, out);
 }
 
-// 0, the links, how many chances there are, the lowest that was exceeded or 0, and the overs by chance; 1 and the number by which it is declined; 2, with
-// the fault's number and place; or 3, 11 and the place in the log.
-fn put_trial(t: Trial, out: &mut [u64; 12])
-    ensures { out.new ≡ words_of t }
+// 0, the links, how many chances there are, the lowest that was exceeded or 0, and the overs by chance; or a refusal.
+#[tactic(auto, unfolding(crate::specs::Trial::words_of, journal_trial::specs::Counting::eight))]
+fn put_trial(t: Result<Trial, TrialError>, out: &mut [u64; 12])
+    ensures { out.new ≡ words_of (meaning t) }
 {
-    let answer = t.answer;
-    let o = t.overs;
-    match answer {
-        Answer::Tried {
-            links,
-            chances,
-            lowest,
-        } => {
-            let count = chances as u64;
+    match t {
+        Ok(trial) => {
+            let links = trial.links;
+            let count = trial.chances as u64;
+            let lowest = trial.lowest.unwrap_or(0);
+            let o = trial.overs;
             *out = [
                 0, links, count, lowest, o[0], o[1], o[2], o[3], o[4], o[5], o[6], o[7],
             ];
         }
-        Answer::Declined(n) => put_refusal(out, 1, n, 0),
-        Answer::Damaged(f) => put_refusal(out, 2, f.number, f.place),
-        Answer::DeclinedAt(f) => put_refusal(out, 3, f.number, f.place),
+        Err(e) => put_refusal(e, out),
     }
 }
 
-// A refusal: which kind it is, its number and its place.
-fn put_refusal(out: &mut [u64; 12], kind: u64, number: u32, place: usize)
-    ensures { out.new ≡ kind ∷ number ∷ place ∷ replicate 9 0 }
+// The three words of a refusal, and 0 behind them.
+fn put_refusal(e: TrialError, out: &mut [u64; 12])
+    ensures { out.new ≡ refusal_words (refusal_of e) ++ replicate 9 0 }
 {
-    *out = [kind, number as u64, place as u64, 0, 0, 0, 0, 0, 0, 0, 0, 0];
+    let (kind, number, place) = refusal_words(e);
+    *out = [kind, number, place, 0, 0, 0, 0, 0, 0, 0, 0, 0];
+}
+
+// 1 and the number by which it is declined; 2, with the fault's number and place; or 3, 11 and the place in the log.
+#[tactic(auto, unfolding(crate::specs::Trial::refusal_words))]
+fn refusal_words(e: TrialError) -> (u64, u64, u64)
+    ensures { result.0 ∷ result.1 ∷ result.2 ∷ [] ≡ refusal_words (refusal_of e) }
+{
+    match e {
+        TrialError::Declined(r) => (1, u64::from(r.number()), 0),
+        TrialError::Damaged(Fault { refusal: r, place }) => (
+            2,
+            u64::from(r.number()),
+            place as u64,
+        ),
+        TrialError::DeclinedAt(Fault { refusal: r, place }) => (
+            3,
+            u64::from(r.number()),
+            place as u64,
+        ),
+    }
 }
 
 // 0 and the lines; else as above.
-fn put_unknown(u: Unknown, out: &mut [u64; 3])
-    ensures { out.new ≡ words_of_unknown u }
+#[tactic(auto, unfolding(crate::specs::Trial::words_of_unknown))]
+fn put_unknown(u: Result<u64, TrialError>, out: &mut [u64; 3])
+    ensures { out.new ≡ words_of_unknown (meaning u) }
 {
     match u {
-        Unknown::Lines(n) => {
-            *out = [0, n, 0];
-        }
-        Unknown::Declined(n) => {
-            *out = [1, n as u64, 0];
-        }
-        Unknown::Damaged(f) => {
-            *out = [2, f.number as u64, f.place as u64];
-        }
-        Unknown::DeclinedAt(f) => {
-            *out = [3, f.number as u64, f.place as u64];
+        Ok(n) => *out = [0, n, 0],
+        Err(e) => {
+            let (kind, number, place) = refusal_words(e);
+            *out = [kind, number, place];
         }
     }
 }

@@ -3,4 +3,4 @@
 use Rattle.capi.proofs.journals.journal_part.Goals as goal
 
 pub returns : goal.returns
-returns c = rw (← c.part_place-p.ensures) c.put_part.ensures
+returns c = rw (← c.part_place-p.ensures.value) c.put_part.ensures

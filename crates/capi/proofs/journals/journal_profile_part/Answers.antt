@@ -5,4 +5,4 @@ use Rattle.capi.proofs.journals.journal_profile_part.Goals as goal
 
 pub returns : goal.returns
 unfolding as_rule
-returns c = rw (← c.part_place_by-p.ensures) c.put_part.ensures
+returns c = rw (← c.part_place_by-p.ensures.value) c.put_part.ensures
