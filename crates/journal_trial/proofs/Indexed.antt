@@ -1,6 +1,6 @@
 -- The journal's own index, by its entries: its count, and where the record of the entry at a position starts.
 -- Assumes nothing.
-use Rattle.std.proofs.Common.{◌≡◌, ℕ, zero, suc, ◌+◌, ◌<◌, ◌≤◌, Bool, true, false, cond, leb, List, [], ◌∷◌, length, get_or, take, drop, sym, refl, ap, ◌∙◌, arith, drop-cons, le-leb}
+use Rattle.std.proofs.Common.{◌≡◌, ℕ, zero, suc, ◌+◌, ◌<◌, ◌≤◌, Bool, true, false, cond, leb, List, [], ◌∷◌, length, get_or, take, drop, refl, ap, ◌∙◌, arith, drop-cons, le-leb}
 use Rattle.journal_spec.specs.Bytes.{number_at}
 use Rattle.journal_spec.specs.Index.{IndexEntry, entries_size}
 use Rattle.journal_parts.specs.Numbers.{number_in}

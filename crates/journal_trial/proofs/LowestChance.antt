@@ -1,10 +1,10 @@
 -- The lowest chance by its bytes: the turns of the loop, and that it is the one of the definition. Assumes nothing.
-use Rattle.std.proofs.Common.{◌≡◌, ℕ, zero, suc, ◌+◌, ◌-◌, ◌*◌, ◌/◌, ◌<◌, ◌≤◌, Bool, true, false, cond, List, [], ◌∷◌, length, get_or, sym, refl, ap, ◌∙◌, arith, Option, None, Some}
-use Rattle.journal_spec.specs.Bytes.{number_at, numbers_in}
+use Rattle.std.proofs.Common.{◌≡◌, ℕ, suc, ◌+◌, ◌-◌, ◌*◌, ◌/◌, ◌≤◌, Bool, cond, List, length, get_or, sym, refl, ap, ◌∙◌, arith, None, Some}
+use Rattle.journal_spec.specs.Bytes.{number_at}
 use Rattle.journal_parts.specs.Numbers.{number_in}
 use Rattle.journal_parts.proofs.NumberStands.{number_stands}
-use Rattle.journal_trial_spec.specs.Trial.{overruns, Lowest, no_chance, chance, lowest_of}
-use Rattle.journal_trial.specs.Lowest.{ChancesIn, lowest_from, lowest_in}
+use Rattle.journal_trial_spec.specs.Trial.{overruns}
+use Rattle.journal_trial.specs.Lowest.{lowest_from, lowest_in}
 
 -- the chance at a place
 pub chance_is : (b : List ℕ) (j c : ℕ) → 4 * j + 4 ≤ length b → c ≡ number_in 4 (4 * j) b → c ≡ number_at 4 (4 * j) b

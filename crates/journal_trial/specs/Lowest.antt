@@ -1,6 +1,6 @@
 -- The lowest chance that was overrun, of chances whose bytes stand one behind the other.
 -- Assumes nothing.
-use Rattle.std.specs.Prelude.{ℕ, zero, suc, ◌+◌, ◌*◌, ◌/◌, ◌<◌, ◌≤◌, cond, List, length, slice_index, Option, None, Some}
+use Rattle.std.specs.Prelude.{ℕ, zero, suc, ◌+◌, ◌*◌, ◌/◌, ◌≤◌, cond, List, length, slice_index, Option, None, Some}
 use Rattle.journal_spec.specs.Bytes.{number_at}
 use Rattle.journal_trial_spec.specs.Trial.{million, overruns}
 

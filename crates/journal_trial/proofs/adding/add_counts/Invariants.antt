@@ -1,5 +1,5 @@
 -- `add_counts` adds one number a turn. The measure is how many are left. Assumes nothing.
-use Rattle.std.proofs.Common.{◌≡◌, ◌-◌, ◌≤◌, length, get_or}
+use Rattle.std.proofs.Common.{◌≡◌, get_or}
 use Rattle.journal_trial.specs.Adding.{added_first}
 use Rattle.journal_trial.proofs.adding.add_counts.Given as goal
 

@@ -1,5 +1,4 @@
 -- `put_limits` puts one limit a turn. The measure is how many of the eight are left. Assumes nothing.
-use Rattle.std.proofs.Common.{◌≡◌, ◌+◌, ◌-◌, ◌*◌, ◌≤◌, length}
 use Rattle.journal_trial.specs.Together.{LimitsPut}
 use Rattle.journal_trial.proofs.limits.put_limits.Given as goal
 

@@ -1,5 +1,5 @@
 -- `lowest` takes one chance a turn. Assumes nothing.
-use Rattle.std.proofs.Common.{◌≡◌, ◌+◌, ◌*◌, ◌≤◌, length, true, false, sym, ◌∙◌, arith}
+use Rattle.std.proofs.Common.{◌+◌, ◌*◌, ◌≤◌, length, true, false, sym, ◌∙◌, arith}
 use Rattle.journal_trial.proofs.LowestChance.{chance_is, lowest_turn, lowest_ends, lowest_start}
 use Rattle.journal_trial.proofs.lowest.lowest.Goals as goal
 

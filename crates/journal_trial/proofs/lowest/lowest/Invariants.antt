@@ -1,6 +1,6 @@
 -- `lowest` takes one chance a turn. The invariant: the answer is that of the chances left. The measure is how many are left.
 -- Assumes nothing.
-use Rattle.std.proofs.Common.{◌≡◌, ◌-◌, ◌/◌, ◌≤◌, length}
+use Rattle.std.proofs.Common.{◌≡◌, ◌-◌, ◌/◌, length}
 use Rattle.journal_trial.specs.Lowest.{lowest_from, lowest_in}
 use Rattle.journal_trial.proofs.lowest.lowest.Given as goal
 
