@@ -6,7 +6,7 @@ use mathlib.Core.List.{List, [], ◌∷◌, ◌++◌}
 use native.Mathlib.Omega.{arith}
 use native.Mathlib.Numerals.{add-one}
 use lib.ListN.{length, take, drop, get_or, set, length-append, length-drop}
-use lib.Seq.{length-take-le, take-add, take-suc, take-suc-set, drop-drop, set_split, drop-cons}
+use lib.Seq.{length-take-le, take-add, drop-drop, set_split, drop-cons}
 use Rattle.journal_spec.specs.Append.{written}
 use Rattle.journal_spec.proofs.Writing.{written_nil, written_two}
 use Rattle.journal.specs.Stepped.{Front, Stepped, Filled}
@@ -47,10 +47,6 @@ filled_two new d p q r d₁ d₂ f g =
           ∙ ap (written d p) e;
       front = g.front;
     }
-
--- the byte after the front makes it one longer
-pub front_next : (new d : List ℕ) (p : ℕ) → p < length d → p < length new → Front new p d → Front new (p + 1) (set d p (get_or new p 0))
-front_next new d p h k f = rw (add-one, take-suc-set d p (get_or new p 0) h, take-suc new p 0 k, f) refl
 
 -- a step is a run to the next place
 filled_one : (new d : List ℕ) (p : ℕ) → p < length d → p < length new → Front new (p + 1) (set d p (get_or new p 0))

@@ -77,9 +77,6 @@ module _ (d : List ℕ) (at w : ℕ) (xs : List ℕ) where
   -- behind the section's count
   module _ (before : List ℕ) (start : ℕ) (count : Put before start (bytes_of 2 (length xs)) d at) (i : ℕ) (d₁ : List ℕ) (p : ℕ)
       (l : Laid d at w xs i d₁ p) where
-    pub laid_length : length d₁ ≡ length before
-    laid_length = put_length _ _ _ _ _ l.put ∙ put_length _ _ _ _ _ count
-
     pub laid_all : length xs ≤ i → Put before start (section_bytes w xs) d₁ p
     unfolding section_bytes
     laid_all h =

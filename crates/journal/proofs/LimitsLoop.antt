@@ -1,7 +1,7 @@
 -- The loop over a record's limits: each limit's field judges its bits by the limit worked out for its chance.
 -- One limit, the start, one limit more, the two ways to end, and the section around the loop. Assumes nothing.
 use mathlib.Core.Path.{◌≡◌, refl, sym, ap, ◌∙◌}
-use Prim.Native.Nat.{ℕ, suc, ◌+◌, ◌*◌, ◌-◌, ◌≤◌, ◌<◌}
+use Prim.Native.Nat.{ℕ, suc, ◌+◌, ◌*◌, ◌-◌, ◌≤◌}
 use mathlib.Core.List.{List, [], ◌∷◌, ◌++◌}
 use native.Mathlib.Omega.{arith}
 use Rattle.std.specs.Prelude.{Result, Ok, Err}
@@ -19,11 +19,11 @@ use Rattle.journal_spec.specs.Refusals.{limit_refusal, unless, outside}
 use Rattle.journal_spec.specs.Reader.{run}
 use Rattle.journal_spec.specs.Section.{items, section}
 use Rattle.journal_spec.specs.Record.{judge_limit}
-use Rattle.journal_spec.proofs.FieldAt.{Items, items_start, items_end}
+use Rattle.journal_spec.proofs.FieldAt.{Items, items_end}
 use Rattle.journal.specs.Told.{Stopped, kept_of}
 use Rattle.journal.specs.Found.{field_by, field_at, limit_refusal_at, limit_item, limits_at, limits_by, limit_section_at}
 use Rattle.journal.proofs.Ranges.{one_alone, none_inside}
-use Rattle.journal.proofs.Fields.{after_field, by_field, same_field, read_value, field_value}
+use Rattle.journal.proofs.Fields.{after_field, by_field, same_field, field_value}
 use Rattle.journal.proofs.Items.{items_answer, items_more}
 use Rattle.journal.proofs.Stopping.{halted_kept}
 
@@ -62,14 +62,7 @@ pub record Limiting (b : List ℕ) (at n chances : ℕ) (w : MomentsResult) (p c
   pub place : chance ≡ chances + length before * 4
 
 module _ (b : List ℕ) (at n chances : ℕ) (w : MomentsResult) where
-  pub limiting_start : at ≤ length b → Limiting b at n chances w at chances n
-  limiting_start h = record { before = []; passed = items_start 8 (limit_item b chances w) n at b h; place = omega arith }
-
   module _ (p chance left : ℕ) (g : Limiting b at n chances w p chance left) where
-    -- the bytes of the next chance stand
-    pub chance_there : chances + n * 4 ≤ length b → 0 < left → chance + 4 ≤ length b
-    chance_there h pos = omega (arith, g.place, g.passed.count)
-
     -- no limit is left
     pub limiting_end : left ≡ 0 → Ok p ≡ limits_at n chances w at b
     unfolding limits_at kept_of
@@ -85,10 +78,6 @@ module _ (b : List ℕ) (at n chances : ℕ) (w : MomentsResult) where
       limiting_halted e told =
           rw (items_answer 8 (limit_item b chances w) n at b left more g.before p g.passed less (Err e) (sym told ∙ same))
           (halted_kept (λ (xs : List ℕ) (q : ℕ). q) e)
-
-      -- the limit's bytes stand
-      pub limit_there : (x : ℕ) → f ≡ Ok x → 8 ≤ length b - p
-      limit_there x told = (read_value 8 (limit_refusal_at b w chance) p b x (sym told ∙ read)).there
 
       pub limiting_more : (x : ℕ) → f ≡ Ok x → Limiting b at n chances w (p + 8) (chance + 4) more
       limiting_more x told = record {

@@ -9,7 +9,7 @@ use Rattle.std.specs.Prelude.{Result, Ok, Err}
 use Rattle.refusals.specs.declared.Refusal.{Refusal}
 use native.Mathlib.Numerals.{add-one}
 use lib.ListN.{length, take, get_or, set, length-set}
-use lib.Seq.{take-suc, take_all, take-suc-set}
+use lib.Seq.{take-suc, take-suc-set}
 use lib.Ieee.{binary64, to_bits}
 use Rattle.limit.specs.declared.Figures.{Figures}
 use Rattle.limit.specs.declared.sums.Sums.{Sums}
@@ -60,11 +60,6 @@ module _ (w : MomentsResult) (chances bits : List ℕ) where
           ∙ ap₂ (λ (y : List ℕ) (z : ℕ). y ++ z ∷ []) g.kept e
           ∙ sym (rw (add-one, take-suc chances i 0 h) (map-append _ (take i chances) (get_or chances i 0 ∷ [])));
     }
-
-    pub kept_all : length chances ≤ i → take (length chances) bits ≡ limits_from w chances
-    kept_all h =
-        let e : length chances ≡ i = omega (arith, g.few) in
-        rw e (g.kept ∙ ap (limits_from w) (take_all i chances (omega arith)))
 
 -- times in range have the limits that mean and spread of their sums give
 pub limits_from_lem : (w : MomentsResult) (s : Sums) (times chances : List ℕ) → w ≡ moments_of_sums sample_form s → times_in_range times ≡ true
