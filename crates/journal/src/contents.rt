@@ -50,7 +50,8 @@ pub fn contents_of(v: &[u8], len: usize, i: usize, rule: Rule) -> Result<Content
     records_of(&v[..len], i, rule)
 }
 
-// The records of a journal that takes all of a slice.
+// The records of a journal that takes all of a slice. The loop goes on at the place after each record, which has as many bytes as its counts say,
+// so that no `for` fits it.
 fn records_of(b: &[u8], i: usize, rule: Rule) -> Result<Contents, Fault>
     ensures { by_number result ≡ records_read i (as_rule rule) b.now }
 {

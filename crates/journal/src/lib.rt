@@ -123,8 +123,8 @@ pub fn append(
     append_with(v, len, name, chances, times, all)
 }
 
-// Document 01's call with k: after append's checks it stops when `budget` bytes of the record are written. A budget beyond the record is
-// all of it.
+// Document 01's call with k, a call of its own beside append: after append's checks it stops when `budget` bytes of the record are written.
+// A budget beyond the record is all of it.
 pub fn append_upto(
     v: &mut [u8],
     len: usize,

@@ -3,7 +3,8 @@
 ghost use Rattle.std.specs.Prelude.{◌≡◌, ◌≤◌, ◌<◌, length};
 ghost use Rattle.journal.specs.Stepped.{Front, Stepped, Filled};
 
-// The record, from the part's first byte on, `end` bytes of it. Answers the place after the last.
+// The record, from the part's first byte on, `end` bytes of it. Answers the place after the last. The loop goes on at the place that document 01's
+// step answers (`Stepped`, law `in_turn`), so that no `for` over the places fits it.
 pub(crate) fn put_record(part: &mut [u8], end: usize, bytes: &[u8]) -> usize
     requires { (end ≤ length part.old) × (end ≤ length bytes.now) }
     ensures filled { Filled bytes.now part.old 0 result part.new }
