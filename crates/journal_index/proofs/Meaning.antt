@@ -60,7 +60,8 @@ check_injective (Err (E.Declined r)) (Err (E.Damaged g)) e = let z : ◌≡◌ {
 check_injective (Err (E.Damaged f)) (Ok t) e = let z : ◌≡◌ {A = ℕ} 0 1 = cc in absurd (omega arith)
 check_injective (Err (E.Damaged f)) (Err (E.Declined q)) e = let z : ◌≡◌ {A = ℕ} 0 1 = cc in absurd (omega arith)
 
-pub indexed_injective : (len : ℕ) (a b : Result ℕ AppendError) (v w i j : List ℕ) → indexed_outcome len a v i ≡ indexed_outcome len b w j → (a ≡ b) × (v ≡ w) × (i ≡ j)
+pub indexed_injective : (len : ℕ) (a b : Result ℕ AppendError) (v w i j : List ℕ) → indexed_outcome len a v i ≡ indexed_outcome len b w j
+    → (a ≡ b) × (v ≡ w) × (i ≡ j)
 unfolding outcome_with
 indexed_injective len a b v w i j e = (
   append_meaning_injective a b (ap (λ (o : Outcome). o.answer) e),

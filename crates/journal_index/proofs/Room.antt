@@ -34,7 +34,9 @@ module _ (b name index : List ℕ) (whole : WholeBytes b) (start : ℕ) where
   module _ (own : Bool) (is : own ≡ in_front (index_bytes (index_in b)) index) where
     pub not_own : not own ≡ true → (index_refusal ≡ first_of rows) × (0 < first_of rows)
     unfolding judge_index
-    not_own h = let e : index_refusal ≡ first_of rows = first_this index_refusal _ _ (omega arith) (sym (unless_false _ index_refusal (sym is ∙ not-true own h))) in
+    not_own h =
+        let e : index_refusal ≡ first_of rows =
+        first_this index_refusal _ _ (omega arith) (sym (unless_false _ index_refusal (sym is ∙ not-true own h))) in
         (e, omega (arith, e))
 
     module _ (h : not own ≡ false) (room : Bool) (by : room ≡ leb (length (next_bytes (entry name start) index)) (length index)) where
@@ -52,7 +54,9 @@ module _ (b name index : List ℕ) (whole : WholeBytes b) (start : ℕ) where
 
       pub no_room : not room ≡ true → (index_room_refusal ≡ first_of rows) × (0 < first_of rows)
       unfolding judge_index_room
-      no_room n = let e : index_room_refusal ≡ first_of rows = sym (second ∙ unless_false _ index_room_refusal (sym told ∙ not-true room n)) in (e, omega (arith, e))
+      no_room n =
+          let e : index_room_refusal ≡ first_of rows = sym (second ∙ unless_false _ index_room_refusal (sym told ∙ not-true room n)) in
+          (e, omega (arith, e))
 
       pub some_room : not room ≡ false → first_of rows ≡ 0
       unfolding judge_index_room

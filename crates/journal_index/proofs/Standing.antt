@@ -81,8 +81,10 @@ ends_placed v committed last s = s.ends ∙ ap last_of (sym (records_of_placed 0
 
 -- ---- after the call with a budget of nothing
 
-module _ {v : List ℕ} {committed len day : ℕ} {name chances ts : List ℕ} {budget : Budget} {rule : Rule} {b : List ℕ} {r : Result ℕ AppendError} {after : List ℕ}
-    (t : JudgedBy (record { slice = v; len = len }) (placed_in (take committed v)) committed (request_of day name chances (times ts) budget rule (some b)) b refl r after) where
+module _ {v : List ℕ} {committed len day : ℕ} {name chances ts : List ℕ} {budget : Budget} {rule : Rule} {b : List ℕ} {r : Result ℕ AppendError}
+    {after : List ℕ}
+    (t : JudgedBy (record { slice = v; len = len }) (placed_in (take committed v)) committed
+    (request_of day name chances (times ts) budget rule (some b)) b refl r after) where
   abbrev asked : Request
   asked = request_of day name chances (times ts) budget rule (some b)
 
