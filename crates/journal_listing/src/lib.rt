@@ -23,6 +23,7 @@ pub use words::{put_number, put_word, put_words};
 pub const MAX_LINE: usize = 267;
 
 // Where a listing stands: the place of the next record, how many are left, whether the end state's line is written, and that state.
+// It has the definition's `Position` field by field, so that its two numbers and its flag stay.
 #[derive(Clone, Copy)]
 pub struct Cursor {
     pub at: usize,
@@ -32,6 +33,7 @@ pub struct Cursor {
 }
 
 // How many bytes of the buffer are the line, 0 where there is none, and the cursor behind it.
+// No line is empty, so that the number of bytes says both: an Option would say it twice.
 #[derive(Clone, Copy)]
 pub struct Line {
     pub size: usize,

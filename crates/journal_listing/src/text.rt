@@ -1,5 +1,5 @@
 // Numbers and pairs put into a lent buffer, one behind another. What has no room is left out, as in crate text_digits.
-// Each answers the place behind what it put.
+// Each answers the place behind what it put. The line and the place stay two parameters, for the reason in crate text_digits.
 ghost use Rattle.std.specs.Prelude.{◌≡◌, ◌∷◌, ◌++◌, ◌+◌, ◌*◌, ◌≤◌, min, length};
 ghost use Rattle.text_digits.specs.Hex.{hex_digits};
 ghost use Rattle.text_digits.specs.Text.{Put};

@@ -1,5 +1,5 @@
 // Columns put into a lent line: what separates them, and spaces to a width, or a tab.
-// Each answers the place behind what it put.
+// Each answers the place behind what it put. The line and the place stay two parameters, for the reason in crate text_digits.
 ghost use Rattle.std.specs.Prelude.{[], ◌∷◌, replicate};
 ghost use Rattle.text_digits.specs.Text.{Put};
 ghost use Rattle.journal_spec.specs.Log.{space};

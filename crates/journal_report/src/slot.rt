@@ -13,6 +13,7 @@ use journal_parts::{Sections, spans_at};
 use text_digits::put;
 
 // How a line is laid out: the width of the names' column, and whether tabs separate the columns, which then have no width.
+// The definitions `slot_line` and `report_line` take both, and a caller knows the width in either case, so that they stay two fields.
 #[derive(Clone, Copy)]
 pub struct Layout {
     pub name: usize,

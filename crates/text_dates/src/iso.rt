@@ -1,5 +1,6 @@
 // A date's text YYYY-MM-DD: by value, and put into a lent line.
 // Every day has a year of four digits, so the text has ten bytes.
+// The line and the place in it stay two parameters, for the reason in crate text_digits.
 ghost use Rattle.std.specs.Prelude.{◌≡◌};
 ghost use Rattle.text_digits.specs.Text.{Put};
 ghost use Rattle.text_dates.specs.Iso.{iso_of};

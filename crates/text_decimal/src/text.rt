@@ -1,5 +1,6 @@
 // The exact decimal of a double, put into a lent line. What has no room is left out, as in crate text_digits.
 // Ten times what is left behind the point gives the next digit: five times it, over half of what it was over.
+// The line and the place in it stay two parameters, for the reason in crate text_digits.
 ghost use Rattle.std.specs.Prelude.{◌*◌, ◌^◌, ◌≤◌, ◌<◌, ◌≡◌};
 ghost use Rattle.std.specs.Float.{binary64};
 ghost use Rattle.std.specs.Float.Ieee.{of_bits};

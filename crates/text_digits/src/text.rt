@@ -1,5 +1,7 @@
 // Bytes put into a lent line, one text behind another.
 // What has no room is left out, so that any line and any place are fine.
+// The line and the place in it stay two parameters here and above: a struct of both that lends the line was tried. Its `put` proves, but two puts
+// through it do not unless each contract also says that it still lends the same bytes; and each array filled at its front would need one.
 ghost use Rattle.std.specs.Prelude.{◌≡◌, ◌-◌, min};
 ghost use Rattle.text_digits.specs.Hex.{decimal_digits};
 ghost use Rattle.text_digits.specs.Text.{Put};

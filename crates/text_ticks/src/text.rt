@@ -1,5 +1,6 @@
 // Whole ticks as text in milliseconds, put into a lent line. What has no room is left out, as in crate text_digits.
 // A tick is 0.01 ms, so the two decimals are exact.
+// The line and the place in it stay two parameters, for the reason in crate text_digits.
 ghost use Rattle.std.specs.Prelude.{◌≡◌};
 ghost use Rattle.text_digits.specs.Text.{Put};
 ghost use Rattle.text_ticks.specs.Text.{hundredths, count_text, ticks_text};

@@ -52,7 +52,7 @@ fn halves_in_range(b: u64) -> Option<Halves>
     Some(halves_of(size))
 }
 
-// Rounded up: above zero away from it, below zero towards it.
+// Rounded up: above zero away from it, below zero towards it. To the nearest is this with its two halves exchanged; each says its own rounding.
 fn up_size(below: bool, down: u64, up: u64) -> u64
     requires { up < 2 ^ 62 }
     ensures { result ≡ cond below (down / 2) ((up + 1) / 2) }
