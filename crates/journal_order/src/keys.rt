@@ -8,7 +8,7 @@ use journal_parts::{record_name, record_size};
 // As many records as a journal can hold: 65,536 bytes, 33 at least for each.
 pub const MOST: usize = 1985;
 
-// The record's name, or all its bytes.
+// The record's name, or all its bytes. An enum and no closure: the specs' key_at goes by it, and two keys are no plainer as functions.
 #[derive(Clone, Copy)]
 pub enum Key {
     Name,

@@ -10,7 +10,8 @@ use crate::putting::insert;
 use journal_parts::record_size;
 
 impl Keyed<'_> {
-    // Enters a place among the first `count` of an array, and answers how many there are then.
+    // Enters a place among the first `count` of an array, and answers how many there are then. The array is lent with its count beside it: there is
+    // no heap here, and memory is fixed.
     fn enter(&self, places: &mut [u16], count: usize, place: u16) -> usize
         requires { (count < length places.old) × Climbs (key_at self.now.key self.now.bytes.now) (take count places.old) }
         ensures latest_of { LatestOf (key_at self.now.key self.now.bytes.now)
