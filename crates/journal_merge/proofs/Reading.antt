@@ -10,7 +10,7 @@ use Rattle.journal_spec.specs.Record.{Record}
 use Rattle.journal_spec.specs.Scan.{max_length}
 use Rattle.journal_spec.proofs.Cursor.{Cursor, cursor_some}
 use Rattle.journal_parts.specs.Numbers.{number_in}
-use Rattle.journal_parts.specs.Spans.{form_at, day_at}
+use Rattle.journal_parts.specs.Spans.{day_at}
 use Rattle.journal_parts.specs.Front.{record_size}
 use Rattle.journal_parts.proofs.NumberStands.{number_stands}
 use Rattle.journal_parts.proofs.Parts.{Parts, cursor_parts}
@@ -36,9 +36,6 @@ module _ (b : List ℕ) (at : ℕ) (a : AtRecord b at) where
 
   pub day_read : number_in 2 (at + 2) b ≡ day_at b at
   day_read = number_stands 2 (at + 2) b (omega arith) (omega (arith, read.inside, read.length'))
-
-  pub form_read : number_in 2 at b ≡ form_at b at
-  form_read = number_stands 2 at b (omega arith) (omega (arith, read.inside, read.length'))
 
   -- where the record ends
   pub record Bounds : Type 0 where

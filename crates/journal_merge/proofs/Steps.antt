@@ -141,9 +141,6 @@ module _ (c : List ℕ) (at : ℕ) (part : List ℕ) (r : Record) (rs : List Rec
       number_stands 2 0 part (omega arith) (omega arith) ∙ ap (number_at 2 0) e ∙ front_number c at (record_size (drop at c)) m ∙ k.form
 
 module _ (a b : List ℕ) (from : Places) where
-  pub passed_none : Passed a b from from
-  passed_none = record { further = omega arith; reached = λ made m. m }
-
   module _ (s : Somewhere a b from) (at : Places) (q : Passed a b from at) where
     pub there : Somewhere a b at
     there = record {
