@@ -1,66 +1,52 @@
 // Records found by walking from one to the next, which a scan has judged before: the place of a position, and the position of a place.
 // The last record of a name is found by the volume's index.
-use journal_entries::{Start, look_up};
+use journal_entries::look_up;
 use journal_parts::record_size;
 
-// Where a record stands, and its position; or that there is none.
-#[derive(Clone, Copy)]
+// Where a record stands, and its position.
+#[derive(Clone, Copy, Debug, PartialEq, Eq)]
 pub(crate) struct Place {
-    pub(crate) found: bool,
     pub(crate) at: usize,
     pub(crate) i: usize,
 }
 
-const NOWHERE: Place = Place {
-    found: false,
-    at: 0,
-    i: 0,
-};
-
-// The record at a position, of so many.
-pub(crate) fn at_position(v: &[u8], records: usize, wanted: usize) -> Place {
+// The record at a position, of so many; none behind the last.
+pub(crate) fn at_position(v: &[u8], records: usize, wanted: usize) -> Option<Place> {
     if records <= wanted {
-        return NOWHERE;
+        return None;
     }
     let mut at = 0;
-    let mut i = 0;
-    while i < wanted {
+    for _ in 0..wanted {
         at = place_behind(v, at);
-        i += 1;
     }
-    Place { found: true, at, i }
+    Some(Place { at, i: wanted })
 }
 
-// The last record of a name, of so many, by the volume's index.
-pub(crate) fn last_named(v: &[u8], index: &[u8], records: usize, name: &[u8]) -> Place {
-    match look_up(index, name) {
-        Start::At(at) => Place {
-            found: true,
-            at,
-            i: position_of(v, records, at),
-        },
-        Start::Absent => NOWHERE,
-    }
+// The last record of a name, of so many, by the volume's index; none where no record has it.
+pub(crate) fn last_named(v: &[u8], index: &[u8], records: usize, name: &[u8]) -> Option<Place> {
+    let at = look_up(index, name)?;
+    Some(Place {
+        at,
+        i: position_of(v, records, at),
+    })
 }
 
 // The position of the record that starts at a place, of so many.
 fn position_of(v: &[u8], records: usize, place: usize) -> usize {
     let mut at = 0;
-    let mut i = 0;
-    while i < records {
+    for i in 0..records {
         if place <= at {
             return i;
         }
         at = place_behind(v, at);
-        i += 1;
     }
-    i
+    records
 }
 
 // The place behind the record at a place.
 fn place_behind(v: &[u8], at: usize) -> usize {
-    if v.len() < at {
-        return at;
+    match v.get(at..) {
+        Some(rest) => at.wrapping_add(record_size(rest)),
+        None => at,
     }
-    std::num::wrapping_add_usize(at, record_size(&v[at..]))
 }

@@ -1,113 +1,81 @@
 // The words behind a volume's name: a name or a position, or chances.
 // A name may start with a dash; `--` may stand before it.
-ghost use Rattle.std.specs.Prelude.{◌<◌, ◌≤◌, length};
+ghost use Rattle.std.specs.Prelude.{◌≤◌, length};
 
-use command_io::{Number, arg_count, argument, is_argument};
+use command_io::{Status, argument, fail, is_argument, read_number, words_from};
 use limit::{MAX_CHANCE, MIN_CHANCE};
 
 // The most chances of a record, and so of those asked for.
 pub(crate) const MAX_CHANCES: usize = 8;
 
-// Which record is asked for: the last of the name in an argument, or the one at a position, counted from 0. Or that the position is none; or that the
-// words ask for nothing.
-#[derive(Clone, Copy)]
+// Which record is asked for: the last of the name in an argument, or the one at a position, counted from 0.
+#[derive(Clone, Copy, Debug, PartialEq, Eq)]
 pub(crate) enum Asked {
     Name(usize),
-    At(u32),
-    WrongPosition,
-    Nothing,
+    At(usize),
 }
 
-// Which record the words from a place on ask for.
-pub(crate) fn question(rt: &HostRuntime, at: usize) -> Asked {
-    let end = arg_count(rt);
-    if end <= at {
-        return Asked::Nothing;
+// Which record the words from a place on ask for. Where they ask for none, what is wrong is said.
+pub(crate) fn question(rt: &HostRuntime, at: usize) -> Result<Asked, Status> {
+    match words_from(rt, at) {
+        1 => Ok(Asked::Name(at)),
+        2 => option_at(rt, at),
+        _ => Err(usage(rt)),
     }
-    let count = end - at;
-    if count == 1 {
-        return Asked::Name(at);
-    }
-    if count == 2 {
-        return option_at(rt, at);
-    }
-    Asked::Nothing
 }
 
 // Two words: `--at I`, or `-- NAME`.
-fn option_at(rt: &HostRuntime, i: usize) -> Asked {
-    let next = std::num::wrapping_add_usize(i, 1);
-    if is_argument(rt, i, b"--") {
-        return Asked::Name(next);
+fn option_at(rt: &HostRuntime, at: usize) -> Result<Asked, Status> {
+    let next = at.wrapping_add(1);
+    if is_argument(rt, at, b"--") {
+        return Ok(Asked::Name(next));
     }
-    if !is_argument(rt, i, b"--at") {
-        return Asked::Nothing;
+    if !is_argument(rt, at, b"--at") {
+        return Err(usage(rt));
     }
-    let mut text = [0u8; 32];
-    let size = argument(rt, next, &mut text);
-    match command_io::read_number(&text[..size], 65_535) {
-        Number::Value(n) => Asked::At(n),
-        Number::Nothing => Asked::WrongPosition,
+    let mut room = [0u8; 32];
+    match read_number(argument(rt, next, &mut room), 65_535) {
+        Some(n) => Ok(Asked::At(n as usize)),
+        None => Err(fail(
+            rt,
+            b"I: not a decimal number from 0 to 65535 without leading zeros",
+        )),
     }
 }
 
-// Which of the arguments from one on, counted from 1, is no chance or one too many; 0 where none is.
-pub(crate) fn wrong_chance(rt: &HostRuntime, first: usize) -> usize
-    requires { first < 100 }
-{
-    let end = arg_count(rt);
-    let mut n = 0;
-    while n < MAX_CHANCES {
-        if end <= first + n {
-            return 0;
-        }
-        if !is_chance(rt, first + n) {
-            return n + 1;
-        }
-        n += 1;
-    }
-    if first + n < end {
-        return n + 1;
-    }
-    0
+// What the command record takes.
+fn usage(rt: &HostRuntime) -> Status {
+    fail(
+        rt,
+        b"record takes [--ticks] FILE and NAME or --at I; awaqlla --help says more",
+    )
+}
+
+// Which of the arguments from one on, counted from 0, is no chance or one too many; none where all are chances.
+pub(crate) fn wrong_chance(rt: &HostRuntime, first: usize) -> Option<usize> {
+    let mut all = 0..words_from(rt, first);
+    all.find(|n| MAX_CHANCES <= *n || !is_chance(rt, first.wrapping_add(*n)))
 }
 
 // Whether an argument is a chance.
 fn is_chance(rt: &HostRuntime, i: usize) -> bool {
-    MIN_CHANCE <= chance(rt, i) as u64
+    chance(rt, i).is_some_and(|n| MIN_CHANCE <= n as u64)
 }
 
-// The chances among the arguments from one on, as many as there are and have room; their number.
-pub(crate) fn chances(rt: &HostRuntime, first: usize, out: &mut [u32]) -> usize
-    ensures { result ≤ length out.new }
+// The chances among the arguments from one on, as many as there are and have room, put into the buffer.
+pub(crate) fn chances<'a>(rt: &HostRuntime, first: usize, out: &'a mut [u32]) -> &'a [u32]
+    ensures { length result.now ≤ length out.old }
 {
-    let end = arg_count(rt);
-    if end < first {
-        return 0;
+    let count = words_from(rt, first).min(out.len());
+    let asked = &mut out[..count];
+    for (n, place) in asked.iter_mut().enumerate() {
+        *place = chance(rt, first.wrapping_add(n)).unwrap_or(0);
     }
-    let wanted = end - first;
-    let mut n = 0;
-    while n < out.len() {
-        if wanted <= n {
-            return n;
-        }
-        out[n] = chance(rt, std::num::wrapping_add_usize(first, n));
-        n += 1;
-    }
-    n
-}
-
-// The chance in an argument, or 0, which is none.
-fn chance(rt: &HostRuntime, i: usize) -> u32 {
-    match number(rt, i) {
-        Number::Value(n) => n,
-        Number::Nothing => 0,
-    }
+    asked
 }
 
 // The number in an argument, of those up to the largest chance.
-fn number(rt: &HostRuntime, i: usize) -> Number {
-    let mut text = [0u8; 32];
-    let size = argument(rt, i, &mut text);
-    command_io::read_number(&text[..size], MAX_CHANCE as u32)
+fn chance(rt: &HostRuntime, i: usize) -> Option<u32> {
+    let mut room = [0u8; 32];
+    read_number(argument(rt, i, &mut room), MAX_CHANCE as u32)
 }

@@ -2,121 +2,82 @@
 // What fails is said on standard error.
 use crate::find::{Place, at_position, last_named};
 use crate::input::{Asked, question};
-use crate::lines;
-use command_io::{Options, argument, fail, if_written};
+use crate::lines::{print_fields, print_times};
+use command_io::{Kind, Options, argument, input_room};
+use command_list::{close_with, read_volume};
 use journal::Status;
 use journal_index::index_room;
 use journal_report::begin;
+use refusals::Refusal;
 
 // The command.
-pub fn record(rt: &HostRuntime, o: Options, kinds: &[u8]) -> command_io::Status {
-    let asked = question(rt, std::num::wrapping_add_usize(o.first, 1));
-    match asked {
-        Asked::Nothing => fail(
-            rt,
-            b"record takes [--ticks] FILE and NAME or --at I; awaqlla --help says more",
-        ),
-        Asked::WrongPosition => fail(
-            rt,
-            b"I: not a decimal number from 0 to 65535 without leading zeros",
-        ),
-        _ => read_record(rt, o, kinds, asked),
+pub fn record(rt: &HostRuntime, o: Options, kinds: &[Kind]) -> command_io::Status {
+    match question(rt, o.first.wrapping_add(1)) {
+        Ok(asked) => read_record(rt, o, kinds, asked),
+        Err(status) => status,
     }
 }
 
 // The volume's bytes.
-fn read_record(rt: &HostRuntime, o: Options, kinds: &[u8], asked: Asked) -> command_io::Status {
-    let mut room = command_io::input_room();
-    let read = command_list::read_volume(rt, o.first, kinds, &mut room);
-    if read.failed.is_some() {
-        return command_io::Status::Failed;
+fn read_record(rt: &HostRuntime, o: Options, kinds: &[Kind], asked: Asked) -> command_io::Status {
+    let mut room = input_room();
+    match read_volume(rt, o.first, kinds, &mut room) {
+        Ok(v) => print_asked(rt, v, asked, o.ticks),
+        Err(status) => status,
     }
-    let size = read.size;
-    print_asked(rt, &room[..size], asked, o.ticks)
 }
 
-// What is asked for. The volume is scanned once.
+// What is asked for; or the volume's fault, or that there is no such record. The volume is scanned once.
 fn print_asked(rt: &HostRuntime, v: &[u8], asked: Asked, ticks: bool) -> command_io::Status {
     let mut index = index_room();
-    let begun = begin(v, &mut index);
-    let status = begun.status;
+    let status = begin(v, &mut index).status;
     let records = records_of(status);
-    match asked {
-        Asked::Name(word) => print_named(rt, v, &index, records, word, ticks, status),
-        Asked::At(i) => print_record(
-            rt,
-            v,
-            records,
-            at_position(v, records, i as usize),
-            ticks,
-            status,
-        ),
-        _ => command_io::Status::Failed,
+    let found = match asked {
+        Asked::Name(word) => named(rt, v, &index, records, word),
+        Asked::At(i) => at_position(v, records, i),
+    };
+    match (found, status) {
+        (Some(place), _) => print_record(rt, v, records, place, ticks),
+        (None, Status::Damaged(_)) => close_with(rt, v, status, true),
+        (None, _) => print_absent(rt),
     }
 }
 
 // How many records stand; none where the volume is damaged.
 fn records_of(status: Status) -> usize {
     match status {
-        Status::Whole {
-            records,
-            committed: _,
-        } => records,
-        Status::Torn {
-            records,
-            committed: _,
-        } => records,
+        Status::Whole { records, .. } | Status::Torn { records, .. } => records,
         Status::Damaged(_) => 0,
     }
 }
 
 // The last record of the name in an argument.
-fn print_named(
-    rt: &HostRuntime,
-    v: &[u8],
-    index: &[u8],
-    records: usize,
-    word: usize,
-    ticks: bool,
-    status: Status,
-) -> command_io::Status {
-    let mut name = [0u8; 33];
-    let size = argument(rt, word, &mut name);
-    let place = last_named(v, index, records, &name[..size]);
-    print_record(rt, v, records, place, ticks, status)
+fn named(rt: &HostRuntime, v: &[u8], index: &[u8], records: usize, word: usize) -> Option<Place> {
+    let mut room = [0u8; 33];
+    last_named(v, index, records, argument(rt, word, &mut room))
 }
 
-// The record at a place; or the volume's fault, or that there is no such record.
+// The record at a place, every field, or its times alone.
 fn print_record(
     rt: &HostRuntime,
     v: &[u8],
     records: usize,
     place: Place,
     ticks: bool,
-    status: Status,
 ) -> command_io::Status {
-    if place.found {
-        if ticks {
-            return if_written(
-                lines::print_times(rt, v, place.at),
-                command_io::Status::Done,
-            );
-        }
-        return if_written(
-            lines::print_fields(rt, v, records, place.i, place.at),
-            command_io::Status::Done,
-        );
-    }
-    match status {
-        Status::Damaged(_) => command_list::close_with(rt, v, status, true),
-        _ => print_absent(rt),
-    }
+    let written = if ticks {
+        print_times(rt, v, place.at)
+    } else {
+        print_fields(rt, v, records, place)
+    };
+    command_io::Status::Done.if_written(written)
 }
 
 // That there is no such record.
 fn print_absent(rt: &HostRuntime) -> command_io::Status {
     if command_io::print_verdict(rt, b"refused 10\n") {
-        return command_words::refused(rt, 10);
+        command_words::refused(rt, Refusal::Absent)
+    } else {
+        command_io::Status::Failed
     }
-    command_io::Status::Failed
 }
