@@ -3,6 +3,7 @@
 use mathlib.Core.Path.{◌≡◌, refl, sym, subst}
 use Prim.Native.Nat.{ℕ, zero, suc, ◌≤◌}
 use mathlib.Core.List.{List}
+use Rattle.std.specs.Prelude.{Result, Ok, Err, IfOk}
 use native.Mathlib.Omega.{arith}
 use borrow.Author.Tests.{leb-true}
 use lib.Dec.{leb}
@@ -12,12 +13,17 @@ use Rattle.journal_spec.specs.Scan.{Contents, standing, faulty, contents_of}
 use Rattle.journal_spec.specs.Request.{Journal}
 use Rattle.journal_spec.specs.Index.{IndexEntry, index_bytes, index_of}
 use Rattle.journal_spec.specs.Append.{judge_index_room}
-use Rattle.journal_spec.specs.MakeIndex.{Made, make_unless, make_from, make_index_of}
+use Rattle.journal_spec.specs.MakeIndex.{Made, IndexResult, made, declined, damaged, make_unless, make_from, make_index_of}
 use Rattle.journal_spec.proofs.Judging.{unless_none}
 use Rattle.journal_spec.proofs.Placing.{written_length}
-use Rattle.journal_index.specs.declared.make.IndexMade.{IndexMade}
+use Rattle.journal_index.specs.declared.IndexError.{IndexError}
 use Rattle.journal_index.specs.Made.{made_meaning, made_outcome}
-use Rattle.command_index.specs.Made.{size_of}
+
+-- how many bytes an index takes that is made
+unfoldable size_of : IndexResult → ℕ
+size_of (made n) = n
+size_of (declined n) = 0
+size_of (damaged n p) = 0
 
 -- the made size is within the buffer after the call
 abbrev Fits : Made → Type 0
@@ -35,6 +41,13 @@ unfolding make_from size_of
 from_fits (faulty n p) b = omega arith
 from_fits (standing ps committed) b = unless_fits (judge_index_room (index_of ps) b) (index_of ps) b refl
 
-pub size_fits : (j : Journal) (b after : List ℕ) (r : IndexMade) → made_outcome r after ≡ make_index_of j b → size_of (made_meaning r) ≤ length after
+answer_fits : (j : Journal) (b after : List ℕ) (r : Result ℕ IndexError) → made_outcome r after ≡ make_index_of j b
+    → size_of (made_meaning r) ≤ length after
 unfolding made_outcome make_index_of
-size_fits j b after r e = subst Fits (sym e) (from_fits (contents_of plain j.slice j.len) b)
+answer_fits j b after r e = subst Fits (sym e) (from_fits (contents_of plain j.slice j.len) b)
+
+pub size_fits : (j : Journal) (b after : List ℕ) (r : Result ℕ IndexError) → made_outcome r after ≡ make_index_of j b
+    → IfOk r (λ size. size ≤ length after)
+unfolding size_of made_meaning
+size_fits j b after (Ok n) e = answer_fits j b after (Ok n) e
+size_fits j b after (Err error) e = tt

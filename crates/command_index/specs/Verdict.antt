@@ -8,6 +8,9 @@ use Rattle.journal_spec.specs.Scan as Scan
 use Rattle.journal_spec.specs.MakeIndex.{IndexResult, made, declined, damaged}
 use Rattle.journal_spec.specs.CheckIndex.{IndexCheck, own}
 use Rattle.journal_spec.specs.CheckIndex as Check
+use Rattle.refusals.specs.Refusals.{number_of}
+use Rattle.journal_index.specs.declared.IndexError.{IndexError}
+use Rattle.journal_index.specs.declared.IndexError.TheVariants as E
 use Rattle.journal_listing.specs.Listing.{line_of, word_declined, state_line}
 
 -- the words `indexed` and `own`
@@ -32,6 +35,11 @@ unfoldable pub checked_line : ℕ → IndexCheck → List ℕ
 checked_line size own = numbered word_own size
 checked_line size (Check.declined n) = numbered word_declined n
 checked_line size (Check.damaged n p) = state_line (Scan.damaged n p)
+
+-- the same of an index that is not made, or not the volume's, as the code has it
+unfoldable pub error_line : IndexError → List ℕ
+error_line (E.Declined r) = numbered word_declined (number_of r)
+error_line (E.Damaged f) = state_line (Scan.damaged (number_of f.refusal) f.place)
 
 -- the exit status that each decides
 unfoldable pub made_status : IndexResult → Status

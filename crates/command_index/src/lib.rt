@@ -9,173 +9,122 @@ mod output;
 mod verdict;
 
 use command_io::{
-    Options, Status, apart, arg, behind, fail, fail_argument, input_room, is_guarded, read_named,
-    readable, words_from,
+    Kind, Options, Status, apart, arg, behind, fail, fail_argument, input_room, is_guarded,
+    read_named, readable, words_from,
 };
-pub use found::{Looked, look, looked_line};
-use journal_entries::Start;
-pub use made::{Made, indexed};
+pub use found::{LookError, look, looked_line};
+pub use made::indexed;
 pub use verdict::{checked_line, made_line};
 
-// Whether words and files are as they should be; if not, what is wrong is said and the status is failed.
-pub fn judge(rt: &HostRuntime, o: Options, kinds: &[u8]) -> Status {
-    if !has_words(rt, o) {
-        return Status::Failed;
-    }
+// Whether words and files are as they should be; if not, what is wrong is said and the command is over.
+pub fn judge(rt: &HostRuntime, o: Options, kinds: &[Kind]) -> Result<(), Status> {
+    judge_words(rt, o)?;
     if !readable(rt, kinds, o.first) {
-        return Status::Failed;
+        return Err(Status::Failed);
     }
     let index = behind(o.first, 1);
     if o.make {
         return judge_made(rt, index, kinds);
     }
     if readable(rt, kinds, index) {
-        return Status::Done;
+        Ok(())
+    } else {
+        Err(Status::Failed)
     }
-    Status::Failed
 }
 
 // Whether there are as many words as the options ask for; if not, that is said.
-fn has_words(rt: &HostRuntime, o: Options) -> bool {
-    let count = words_from(rt, o.first);
-    if o.make {
-        return is_count(
-            rt,
-            count,
+fn judge_words(rt: &HostRuntime, o: Options) -> Result<(), Status> {
+    let (wanted, what): (usize, &[u8]) = if o.make {
+        (
             2,
             b"index takes --make FILE INDEX; awaqlla --help says more",
-        );
-    }
-    if o.check {
-        return is_count(
-            rt,
-            count,
+        )
+    } else if o.check {
+        (
             2,
             b"index takes --check FILE INDEX; awaqlla --help says more",
-        );
+        )
+    } else {
+        (
+            3,
+            b"index takes FILE INDEX NAME, or --make or --check FILE INDEX; awaqlla --help says more",
+        )
+    };
+    if words_from(rt, o.first) == wanted {
+        Ok(())
+    } else {
+        Err(fail(rt, what))
     }
-    is_count(
-        rt,
-        count,
-        3,
-        b"index takes FILE INDEX NAME, or --make or --check FILE INDEX; awaqlla --help says more",
-    )
-}
-
-// Whether there are so many words.
-fn is_count(rt: &HostRuntime, count: usize, wanted: usize, what: &[u8]) -> bool {
-    if count == wanted {
-        return true;
-    }
-    fail(rt, what);
-    false
 }
 
 // An INDEX that is written is another file than the volume, and nothing is printed into it.
-fn judge_made(rt: &HostRuntime, index: usize, kinds: &[u8]) -> Status {
+fn judge_made(rt: &HostRuntime, index: usize, kinds: &[Kind]) -> Result<(), Status> {
     if !apart(rt, kinds, index) {
-        return Status::Failed;
+        return Err(Status::Failed);
     }
     if is_guarded(kinds, index) {
-        return fail_argument(
+        return Err(fail_argument(
             rt,
             index,
             b"it is the volume, and its index is another file",
-        );
+        ));
     }
-    Status::Done
+    Ok(())
 }
 
 // The index made, checked, or a name looked up in it.
-pub fn index(rt: &HostRuntime, o: Options, kinds: &[u8]) -> Status {
-    if o.make {
-        return make(rt, o.first);
-    }
-    if o.check {
-        return check(rt, o.first);
-    }
-    look_up(rt, o.first)
+pub fn index(rt: &HostRuntime, o: Options) -> Status {
+    let answered = if o.make {
+        make(rt, o.first)
+    } else if o.check {
+        check(rt, o.first)
+    } else {
+        look_up(rt, o.first)
+    };
+    answered.unwrap_or_else(|failed| failed)
 }
 
-// `--make`: the volume is read, then its index is made.
-fn make(rt: &HostRuntime, at: usize) -> Status {
+// `--make`: the volume is read, then its index is made. The file gets the index where one is made.
+fn make(rt: &HostRuntime, at: usize) -> Result<Status, Status> {
     let mut room = input_room();
-    let read = read_named(rt, at, &mut room);
-    let size = read.size;
-    if read.failed.is_some() {
-        return Status::Failed;
+    let v = read_named(rt, at, &mut room)?;
+    let mut index = journal_index::index_room();
+    let made = indexed(v, &mut index);
+    if let Ok(size) = made {
+        files::write_index(rt, behind(at, 1), &index[..size])?;
     }
-    make_of(rt, &room[..size], behind(at, 1))
+    Ok(output::answered_made(rt, made))
 }
 
-// The file gets the index where one is made.
-fn make_of(rt: &HostRuntime, v: &[u8], at: usize) -> Status {
-    let mut room = journal_index::index_room();
-    let m = made::indexed(v, &mut room);
-    let size = m.size;
-    let answer = m.answer;
-    if 0 < size {
-        if !files::write_index(rt, at, &room[..size]) {
-            return Status::Failed;
-        }
-    }
-    output::answered_made(rt, answer)
-}
-
-// `--check`: the volume is read, then the index.
-fn check(rt: &HostRuntime, at: usize) -> Status {
+// `--check`: the volume is read, then the index. What stands behind the longest index is not read: it does not matter.
+fn check(rt: &HostRuntime, at: usize) -> Result<Status, Status> {
     let mut room = input_room();
-    let read = read_named(rt, at, &mut room);
-    let size = read.size;
-    if read.failed.is_some() {
-        return Status::Failed;
-    }
-    check_with(rt, &room[..size], behind(at, 1))
+    let v = read_named(rt, at, &mut room)?;
+    let mut index_room = journal_index::index_room();
+    let index = read_named(rt, behind(at, 1), &mut index_room)?;
+    Ok(output::answered_checked(rt, v, index))
 }
 
-// What stands behind the longest index is not read: it does not matter.
-fn check_with(rt: &HostRuntime, v: &[u8], at: usize) -> Status {
+// A look-up: the index is read, and of the volume one record. Of bytes that are no whole index nothing is taken. A name of more than 32 bytes is read as
+// the empty one, which no record has either.
+fn look_up(rt: &HostRuntime, at: usize) -> Result<Status, Status> {
     let mut room = journal_index::index_room();
-    let read = read_named(rt, at, &mut room);
-    let size = read.size;
-    if read.failed.is_some() {
-        return Status::Failed;
-    }
-    output::answered_checked(rt, v, &room[..size])
-}
-
-// A look-up: the index is read, and of the volume one record.
-fn look_up(rt: &HostRuntime, at: usize) -> Status {
-    let mut room = journal_index::index_room();
-    let read = read_named(rt, behind(at, 1), &mut room);
-    let size = read.size;
-    if read.failed.is_some() {
-        return Status::Failed;
-    }
-    look_in(rt, &room[..size], at)
-}
-
-// The start that the index has for the name. Of bytes that are no whole index nothing is taken. A name of more than 32 bytes is read as the empty
-// one, which no record has either.
-fn look_in(rt: &HostRuntime, index: &[u8], at: usize) -> Status {
+    let index = read_named(rt, behind(at, 1), &mut room)?;
     if !journal_entries::is_index(index) {
-        return output::answered_found(rt, Looked::Other, b"");
+        return Ok(output::answered_found(rt, Err(LookError::Other), b""));
     }
-    let mut name = [0u8; 32];
-    let size = arg(rt, behind(at, 2), &mut name);
-    match journal_entries::look_up(index, &name[..size]) {
-        Start::At(start) => look_at(rt, at, start, &name[..size]),
-        Start::Absent => output::answered_found(rt, Looked::Absent, b""),
+    let mut name_room = [0u8; 32];
+    let name = arg(rt, behind(at, 2), &mut name_room).unwrap_or(b"");
+    match journal_entries::look_up(index, name) {
+        Some(start) => look_at(rt, at, start, name),
+        None => Ok(output::answered_found(rt, Err(LookError::Absent), b"")),
     }
 }
 
 // The record there.
-fn look_at(rt: &HostRuntime, at: usize, start: usize, name: &[u8]) -> Status {
+fn look_at(rt: &HostRuntime, at: usize, start: usize, name: &[u8]) -> Result<Status, Status> {
     let mut room = found::record_room();
-    let read = files::read_record(rt, at, start, &mut room);
-    let size = read.size;
-    if read.failed.is_some() {
-        return Status::Failed;
-    }
-    output::answered_found(rt, found::look(&room[..size], name, start), &room[..size])
+    let record = files::read_record(rt, at, start, &mut room)?;
+    Ok(output::answered_found(rt, look(record, name, start), record))
 }

@@ -7,4 +7,4 @@ use Rattle.command_index.proofs.found.first_line.Goals as goal
 
 pub returns : goal.returns
 unfolding as_rule
-returns c = put_as _ _ _ _ _ _ (first_text _ _ c.start-cursor.ensures) c.next_line-line.ensures.bytes
+returns c = put_as _ _ _ _ _ _ (first_text _ _ c.start-cursor.ensures) c.next_line.ensures.bytes

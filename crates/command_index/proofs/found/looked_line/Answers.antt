@@ -1,22 +1,11 @@
--- `looked_line` puts the line of each of the four cases.
+-- `looked_line` puts the record's line, or that of the error.
 -- Assumes nothing.
-use Rattle.journal_listing.specs.Listing.{word_damaged, word_declined, state_line}
-use Rattle.command_index.specs.Verdict.{numbered}
-use Rattle.command_index.specs.Found.{word_refused, looked_line}
+use Rattle.command_index.specs.Found.{found_meaning, looked_line}
 use Rattle.command_index.proofs.found.looked_line.Goals as goal
 
-pub returns-in-Shown : goal.returns-in-Shown
-unfolding looked_line
-returns-in-Shown c = rw c.in-Shown.is c.shown_line.ensures
+pub returns-in-Ok : goal.returns-in-Ok
+unfolding looked_line found_meaning
+returns-in-Ok c = rw c.in-Ok.is c.shown_line.ensures
 
-pub returns-in-Absent : goal.returns-in-Absent
-unfolding looked_line numbered word_refused
-returns-in-Absent c = rw c.in-Absent.is c.put_word.ensures
-
-pub returns-in-Other : goal.returns-in-Other
-unfolding looked_line numbered word_declined
-returns-in-Other c = rw c.in-Other.is c.put_word-in-Other.ensures
-
-pub returns-in-Damaged : goal.returns-in-Damaged
-unfolding looked_line state_line word_damaged
-returns-in-Damaged c = rw c.in-Damaged.is c.put_words.ensures
+pub returns-in-Err : goal.returns-in-Err
+returns-in-Err c = rw c.in-Err.is c.unfound_line.ensures

@@ -1,20 +1,21 @@
--- `looked_status` answers by the four cases.
+-- `looked_status` answers by the cases.
 -- Assumes nothing.
-use Rattle.command_index.specs.Found.{looked_status}
+use Rattle.std.proofs.Common.{◌≡◌, Err, refl}
+use Rattle.command_io.specs.declared.ending.Status.TheVariants as S
+use Rattle.command_index.specs.declared.found.LookError.{LookError}
+use Rattle.command_index.specs.declared.found.LookError.TheVariants as L
+use Rattle.command_index.specs.Found.{found_meaning, looked_status}
 use Rattle.command_index.proofs.found.looked_status.Goals as goal
 
-pub returns-in-Shown : goal.returns-in-Shown
-unfolding looked_status
-returns-in-Shown c = rw c.in-Shown.is
+refused : (error : LookError) → S.Refused ≡ looked_status (found_meaning (Err error))
+unfolding looked_status found_meaning
+refused L.Absent = refl
+refused L.Other = refl
+refused (L.Damaged f) = refl
 
-pub returns-in-Absent : goal.returns-in-Absent
-unfolding looked_status
-returns-in-Absent c = rw c.in-Absent.is
+pub returns-in-Ok : goal.returns-in-Ok
+unfolding looked_status found_meaning
+returns-in-Ok c = rw c.in-Ok.is
 
-pub returns-in-Other : goal.returns-in-Other
-unfolding looked_status
-returns-in-Other c = rw c.in-Other.is
-
-pub returns-in-Damaged : goal.returns-in-Damaged
-unfolding looked_status
-returns-in-Damaged c = rw c.in-Damaged.is
+pub returns-in-Err : goal.returns-in-Err
+returns-in-Err c = rw c.in-Err.is (refused _)

@@ -1,17 +1,21 @@
--- `checked_status` answers by the three cases.
+-- `checked_status` answers by the cases.
 -- Assumes nothing.
+use Rattle.std.proofs.Common.{◌≡◌, Err, refl}
+use Rattle.journal_index.specs.declared.IndexError.{IndexError}
+use Rattle.journal_index.specs.declared.IndexError.TheVariants as E
 use Rattle.journal_index.specs.Checked.{check_meaning}
+use Rattle.command_io.specs.declared.ending.Status.TheVariants as S
 use Rattle.command_index.specs.Verdict.{checked_status}
 use Rattle.command_index.proofs.verdict.checked_status.Goals as goal
 
-pub returns-in-Own : goal.returns-in-Own
+refused : (error : IndexError) → S.Refused ≡ checked_status (check_meaning (Err error))
 unfolding checked_status check_meaning
-returns-in-Own c = rw c.in-Own.is
+refused (E.Declined r) = refl
+refused (E.Damaged f) = refl
 
-pub returns-in-Declined : goal.returns-in-Declined
+pub returns-in-Ok : goal.returns-in-Ok
 unfolding checked_status check_meaning
-returns-in-Declined c = rw c.in-Declined.is
+returns-in-Ok c = rw c.in-Ok.is
 
-pub returns-in-Damaged : goal.returns-in-Damaged
-unfolding checked_status check_meaning
-returns-in-Damaged c = rw c.in-Damaged.is
+pub returns-in-Err : goal.returns-in-Err
+returns-in-Err c = rw c.in-Err.is (refused _)

@@ -1,17 +1,21 @@
--- `made_status` answers by the three cases.
+-- `made_status` answers by the cases.
 -- Assumes nothing.
+use Rattle.std.proofs.Common.{◌≡◌, Err, refl}
+use Rattle.journal_index.specs.declared.IndexError.{IndexError}
+use Rattle.journal_index.specs.declared.IndexError.TheVariants as E
 use Rattle.journal_index.specs.Made.{made_meaning}
+use Rattle.command_io.specs.declared.ending.Status.TheVariants as S
 use Rattle.command_index.specs.Verdict.{made_status}
 use Rattle.command_index.proofs.verdict.made_status.Goals as goal
 
-pub returns-in-Length : goal.returns-in-Length
+refused : (error : IndexError) → S.Refused ≡ made_status (made_meaning (Err error))
 unfolding made_status made_meaning
-returns-in-Length c = rw c.in-Length.is
+refused (E.Declined r) = refl
+refused (E.Damaged f) = refl
 
-pub returns-in-Declined : goal.returns-in-Declined
+pub returns-in-Ok : goal.returns-in-Ok
 unfolding made_status made_meaning
-returns-in-Declined c = rw c.in-Declined.is
+returns-in-Ok c = rw c.in-Ok.is
 
-pub returns-in-Damaged : goal.returns-in-Damaged
-unfolding made_status made_meaning
-returns-in-Damaged c = rw c.in-Damaged.is
+pub returns-in-Err : goal.returns-in-Err
+returns-in-Err c = rw c.in-Err.is (refused _)
