@@ -1,6 +1,6 @@
 -- What `Extends` gives the program: the part that the file gets is the offered record, whole, from the committed length on, and the file with
 -- it is the journal of the new length. Where nothing is written the part is empty and the slice is as before. Assumes nothing.
-use Rattle.std.proofs.Common.{◌≡◌, ℕ, ◌-◌, ◌<◌, List, ◌++◌, take, drop, sym, refl, ap, ◌∙◌, arith, take-take}
+use Rattle.std.proofs.Common.{◌≡◌, ℕ, ◌-◌, ◌<◌, Result, List, ◌++◌, take, drop, sym, refl, ap, ◌∙◌, arith, take-take}
 use mathlib.Core.Option.{Option}
 use Rattle.journal_spec.specs.Record.{record_bytes}
 use Rattle.journal_spec.specs.Profile.{Rule}
@@ -9,36 +9,37 @@ use Rattle.journal_spec.specs.Request.{Offer, extended, Outcome}
 use Rattle.journal_spec.specs.Append.{offered}
 use Rattle.journal_spec.proofs.Writing.{written_nil}
 use Rattle.journal_spec.proofs.Placing.{written_take}
+use Rattle.journal.specs.declared.AppendError.{AppendError}
 use Rattle.command_append.specs.declared.extend.Extension.{Extension}
 use Rattle.journal.specs.Answers.{outcome_with}
-use Rattle.command_append.specs.Extension.{committed_in, start_in, end_in, part_in, append_all, Extends}
+use Rattle.command_append.specs.Extension.{committed_in, start_in, end_in, part_in, start_of, end_of, append_all, Extends}
 use Rattle.command_append.proofs.WrittenPart.{Extended, append_extended, offered_length, Unwritten, empty}
 
-module _ (slice : List ℕ) (len : ℕ) (rule : Rule) (o : Offer) (i : Option (List ℕ)) (r : Extension) (after : List ℕ) (k : Option (List ℕ))
+module _ (slice : List ℕ) (len : ℕ) (rule : Rule) (o : Offer) (i : Option (List ℕ)) (r : Result Extension AppendError) (after : List ℕ) (k : Option (List ℕ))
     (x : Extends slice len rule o i r after k) where
   -- ---- where the append extends the journal
   module _ (n : ℕ) (told : (append_all slice len rule o i).answer ≡ extended n) where
     all : Extended slice len rule o n (append_all slice len rule o i).journal.slice
     all = append_extended slice len rule o i n told
 
-    pub part_starts : r.start ≡ committed_in (scan_of rule slice len)
+    pub part_starts : start_of r ≡ committed_in (scan_of rule slice len)
     unfolding start_in
     part_starts = x.starts ∙ rw told refl
 
-    pub part_ends : r.end ≡ n
+    pub part_ends : end_of r ≡ n
     unfolding end_in
     part_ends = x.ends ∙ rw told refl
 
-    pub part_is_record : take (r.end - r.start) (drop r.start after) ≡ record_bytes (offered o)
+    pub part_is_record : take (end_of r - start_of r) (drop (start_of r) after) ≡ record_bytes (offered o)
     unfolding part_in
     part_is_record = x.part ∙ rw told refl
 
     -- the program writes a part that is not empty: this one is not
-    pub part_not_empty : r.start < r.end
+    pub part_not_empty : start_of r < end_of r
     part_not_empty = omega (arith, part_starts, part_ends, all.place, offered_length o)
 
     -- the file held the journal; cut at the part's start, with the part behind it, it holds the journal of the new length
-    pub file_after : take r.start (take len slice) ++ take (r.end - r.start) (drop r.start after) ≡ take n after
+    pub file_after : take (start_of r) (take len slice) ++ take (end_of r - start_of r) (drop (start_of r) after) ≡ take n after
     unfolding outcome_with
     file_after =
         let same : after ≡ (append_all slice len rule o i).journal.slice = ap (λ (y : Outcome). y.journal.slice) x.outcome in
@@ -46,7 +47,7 @@ module _ (slice : List ℕ) (len : ℕ) (rule : Rule) (o : Offer) (i : Option (L
         (sym (written_take slice _ (record_bytes (offered o)) (omega (arith, all.place, all.room))))
 
   -- ---- where it is declined or the journal is damaged
-  pub nothing_written : Unwritten (append_all slice len rule o i).answer → (r.start ≡ r.end) × (after ≡ slice)
+  pub nothing_written : Unwritten (append_all slice len rule o i).answer → (start_of r ≡ end_of r) × (after ≡ slice)
   nothing_written u =
       let none = empty (scan_of rule slice len) o (append_all slice len rule o i).answer u in
-      (x.starts ∙ none.starts ∙ sym (x.ends ∙ none.ends), x.rest ∙ rw none.part (written_nil slice r.start))
+      (x.starts ∙ none.starts ∙ sym (x.ends ∙ none.ends), x.rest ∙ rw none.part (written_nil slice (start_of r)))

@@ -1,6 +1,6 @@
 -- The part that an append writes is the offered record whole, from the committed length on, and it can be lent.
 -- Where nothing is written it is empty, and the slice is as before. Assumes nothing.
-use Rattle.std.proofs.Common.{◌≡◌, ℕ, zero, suc, ◌+◌, ◌-◌, ◌*◌, ◌≤◌, min, leb, List, [], length, take, sym, refl, ap, ◌∙◌, arith, take_all, leb-true}
+use Rattle.std.proofs.Common.{◌≡◌, ℕ, zero, suc, ◌+◌, ◌-◌, ◌*◌, ◌≤◌, min, leb, Result, Ok, Err, List, [], length, take, sym, refl, ap, ◌∙◌, arith, take_all, leb-true}
 use mathlib.Core.Option.{Option}
 use lib.ListN.{length-map}
 use Rattle.journal_spec.specs.Refusals.{first_of}
@@ -15,9 +15,8 @@ use Rattle.journal_spec.proofs.Records.{length_record}
 use Rattle.journal_spec.proofs.Writing.{written_nil}
 use Rattle.journal_spec.proofs.Placing.{written_part}
 use Rattle.journal.specs.Answers.{append_meaning, outcome_with}
-use Rattle.journal.specs.declared.Fault.{Fault}
-use Rattle.journal.specs.declared.Appended.{Appended}
-use Rattle.journal.specs.declared.Appended.TheVariants as A
+use Rattle.journal.specs.declared.AppendError.{AppendError}
+use Rattle.journal.specs.declared.AppendError.TheVariants as A
 use Rattle.command_append.specs.Extension.{committed_in, start_in, end_in, part_in, all_of, append_all, Extends}
 use Rattle.command_append.proofs.Committed.{committed_inside, committed_found}
 
@@ -101,17 +100,11 @@ append_unwritten slice len rule o i = go (contents_of rule slice len)
     go (faulty n p) u = refl
     go (standing ps c) u = settled_unwritten _ _ _ _ c _ u
 
-pub declined_unwritten : (answer : Appended) (n : ℕ) → answer ≡ A.Declined n → Unwritten (append_meaning answer)
+pub error_unwritten : (error : AppendError) → Unwritten (append_meaning (Err error))
 unfolding append_meaning
-declined_unwritten answer n h m e = let z : ◌≡◌ {A = ℕ} 0 1 = cc (rw h at e) in omega arith
-
-pub line_unwritten : (answer : Appended) (f : Fault) → answer ≡ A.DeclinedAt f → Unwritten (append_meaning answer)
-unfolding append_meaning
-line_unwritten answer f h m e = let z : ◌≡◌ {A = ℕ} 0 1 = cc (rw h at e) in omega arith
-
-pub damaged_unwritten : (answer : Appended) (f : Fault) → answer ≡ A.Damaged f → Unwritten (append_meaning answer)
-unfolding append_meaning
-damaged_unwritten answer f h m e = let z : ◌≡◌ {A = ℕ} 0 1 = cc (rw h at e) in omega arith
+error_unwritten (A.Declined r) n e = cc
+error_unwritten (A.DeclinedAt f) n e = cc
+error_unwritten (A.Damaged f) n e = cc
 
 -- the part is empty, at 0
 pub record Empty (s : ScanResult) (o : Offer) (a : AppendResult) : Type 0 where
@@ -132,8 +125,8 @@ empty s o (damaged n p) u = record { starts = refl; ends = refl; part = refl }
 abbrev pub Lendable : ℕ → ℕ → List ℕ → Type 0
 Lendable start end after = (start ≤ end) × (end ≤ length after) × (start ≤ max_length)
 
-module _ (slice : List ℕ) (len : ℕ) (rule : Rule) (o : Offer) (i : Option (List ℕ)) (answer : Appended) (after : List ℕ) (k : Option (List ℕ))
-    (e : outcome_with len answer after k ≡ append_all slice len rule o i) where
+module _ (slice : List ℕ) (len : ℕ) (rule : Rule) (o : Offer) (i : Option (List ℕ)) (answer : Result ℕ AppendError) (after : List ℕ)
+    (k : Option (List ℕ)) (e : outcome_with len answer after k ≡ append_all slice len rule o i) where
   said : append_meaning answer ≡ (append_all slice len rule o i).answer
   unfolding outcome_with
   said = ap (λ (x : Outcome). x.answer) e
@@ -142,15 +135,14 @@ module _ (slice : List ℕ) (len : ℕ) (rule : Rule) (o : Offer) (i : Option (L
   unfolding outcome_with
   left = ap (λ (x : Outcome). x.journal.slice) e
 
-  pub extended_said : (n : ℕ) → answer ≡ A.Extended n → Extended slice len rule o n after
+  pub extended_said : (n : ℕ) → answer ≡ Ok n → Extended slice len rule o n after
   unfolding append_meaning
   extended_said n h = rw left (append_extended slice len rule o i n (sym said ∙ rw h refl))
 
   -- the record is as long as the code takes it, so that it starts that long before its end
-  pub extends_record : (n start : ℕ) → answer ≡ A.Extended n
-      → start ≡ n - (12 + length o.name + 4 * length o.chances + 4 * length o.times + 8 * length o.chances)
+  pub extends_record : (n start : ℕ) → answer ≡ Ok n → start ≡ n - (12 + length o.name + 12 * length o.chances + 4 * length o.times)
       → length after ≡ length slice
-      → Extends slice len rule o i (record { start = start; end = n; answer = A.Extended n }) after k × Lendable start n after
+      → Extends slice len rule o i (Ok (record { start = start; end = n })) after k × Lendable start n after
   unfolding start_in end_in part_in append_meaning
   extends_record n start h s same =
       let x = extended_said n h in
@@ -169,16 +161,14 @@ module _ (slice : List ℕ) (len : ℕ) (rule : Rule) (o : Offer) (i : Option (L
         (omega (arith, x.place, c), omega (arith, x.room, same), omega (arith, x.room, x.place, c)),
       )
 
-  pub extends_nothing : Unwritten (append_meaning answer)
-      → Extends slice len rule o i (record { start = 0; end = 0; answer = answer }) after k × Lendable 0 0 after
-  extends_nothing u =
-      let none = empty (scan_of rule slice len) o (append_all slice len rule o i).answer (rw said at u) in (
-        record {
-          outcome = e;
-          starts = sym none.starts;
-          ends = sym none.ends;
-          part = sym none.part;
-          rest = rw none.part (left ∙ append_unwritten slice len rule o i (rw said at u) ∙ sym (written_nil slice 0));
-        },
-        (omega arith, omega arith, omega arith),
-      )
+  pub extends_nothing : (error : AppendError) → answer ≡ Err error → Extends slice len rule o i (Err error) after k
+  extends_nothing error h =
+      let u : Unwritten (append_meaning answer) = rw h (error_unwritten error) in
+      let none = empty (scan_of rule slice len) o (append_all slice len rule o i).answer (rw said at u) in
+      record {
+        outcome = rw h at e;
+        starts = sym none.starts;
+        ends = sym none.ends;
+        part = sym none.part;
+        rest = rw none.part (left ∙ append_unwritten slice len rule o i (rw said at u) ∙ sym (written_nil slice 0));
+      }

@@ -12,6 +12,6 @@ mod verdict;
 mod volume;
 mod words;
 
-pub use input::{Taken, take};
+pub use input::take;
 pub use verdict::{status_of, verdict_line};
 pub use volume::append;

@@ -1,34 +1,38 @@
-// The verdict on standard output, then what it means on standard error; and which word of the input is no number.
+// The verdict on standard output, then what it means on standard error; and what is wrong with the input.
 // The status is the verdict's; failed where the verdict could not be written.
 use crate::verdict::{status_of, verdict_line};
-use command_io::{Status, if_written, print_verdict, write_error, write_error_decimal};
-use journal::Appended;
+use command_io::{Status, fail_system, print_verdict, write_error, write_error_decimal};
+use journal::{AppendError, Fault};
+use std::io::Error;
 
 // Prints the verdict, as the last line of the output, and answers the status.
-pub(crate) fn answered(rt: &HostRuntime, answer: Appended) -> Status {
+pub(crate) fn answered(rt: &HostRuntime, answer: Result<usize, AppendError>) -> Status {
     let mut out = [0u8; journal_listing::MAX_LINE];
     let size = verdict_line(answer, &mut out);
     let written = print_verdict(rt, &out[..size]);
-    if written {
-        explain(rt, answer);
+    if written && let Err(error) = answer {
+        explain(rt, error);
     }
-    if_written(written, status_of(answer))
+    status_of(answer).if_written(written)
 }
 
-// What the verdict means.
-fn explain(rt: &HostRuntime, answer: Appended) {
-    match answer {
-        Appended::Extended(_) => {}
-        Appended::Declined(n) => {
-            command_words::refused(rt, n as u64);
+// What a refusal means.
+fn explain(rt: &HostRuntime, error: AppendError) {
+    match error {
+        AppendError::Declined(refusal) => command_words::refused(rt, refusal),
+        AppendError::DeclinedAt(Fault { refusal, place }) => {
+            command_words::refused_log(rt, refusal, place)
         }
-        Appended::DeclinedAt(f) => {
-            command_words::refused_log(rt, f.number as u64, f.place as u64);
+        AppendError::Damaged(Fault { refusal, place }) => {
+            command_words::damaged(rt, refusal, place)
         }
-        Appended::Damaged(f) => {
-            command_words::damaged(rt, f.number as u64, f.place as u64);
-        }
-    }
+    };
+}
+
+// Standard input, where a read of it fails.
+pub(crate) fn fail_input(rt: &HostRuntime, error: Error) -> Status {
+    fail_system(rt, b"awaqlla: standard input", error);
+    Status::Failed
 }
 
 // The word of a kind, counted from 1, that is no number, and between which numbers one is good.
@@ -48,7 +52,7 @@ pub(crate) fn malformed_tick(rt: &HostRuntime, before: usize) -> Status {
     malformed(
         rt,
         b"standard input: tick",
-        std::num::wrapping_add_usize(before, 1),
+        before.wrapping_add(1),
         b"1 to 1048575",
     )
 }

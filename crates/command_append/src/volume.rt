@@ -3,237 +3,106 @@
 ghost use Rattle.std.specs.Prelude.{◌≤◌};
 ghost use Rattle.journal_spec.specs.Scan.{max_length};
 
-use crate::beside::{Beside, open_index, ready_index, write_index};
-use crate::extend::{Given, extend};
+use crate::beside::{open_index, ready_index, write_index};
+use crate::extend::{Offer, extend};
 use crate::output::answered;
-use crate::words::chances;
-use command_date::{Chosen, day_or_date};
+use crate::words::read_chances;
+use command_date::day_or_date;
 use command_io::{
-    File, Held, Options, Status, argument, behind, fail_file_of, made, open_held, path_at,
-    write_synced,
+    Held, Options, Status, argument, behind, fail_file_of, input_room, made, open_held, path_at,
+    sync_folder, write_synced,
 };
-use journal::Rule;
+use journal::{AppendError, Rule};
 use std::fs;
 use std::io::Error;
 
-// Where a record goes: the volume's file, its length before, and the record's place in it.
-#[derive(Drop)]
-struct Place {
-    file: File,
-    len: usize,
-    start: usize,
-}
+// The answer of an append, or the status where it is over before.
+type Outcome = Result<Result<usize, AppendError>, Status>;
 
 // Appends the ticks to the volume that FILE names, and answers the status.
-pub fn append(rt: &HostRuntime, o: Options, kinds: &[u8], ticks: &[u32]) -> Status {
-    match day_or_date(rt, behind(o.first, 1)) {
-        Chosen::Day(day) => append_on(rt, o, day, ticks),
-        Chosen::Over(s) => s,
+pub fn append(rt: &HostRuntime, o: Options, ticks: &[u32]) -> Status {
+    match append_words(rt, o, ticks) {
+        Ok(answer) => answered(rt, answer),
+        Err(over) => over,
     }
 }
 
-// The same on a day.
-fn append_on(rt: &HostRuntime, o: Options, day: u16, ticks: &[u32]) -> Status {
-    let mut name = [0u8; 33];
-    let name_size = argument(rt, behind(o.first, 2), &mut name);
-    let mut room = [0u32; 9];
-    let read = chances(rt, behind(o.first, 3), &mut room);
-    let count = read.count;
-    let given = Given {
-        day,
-        rule: rule_of(o.profile),
-        indexed: 0 < o.index,
+// The same; the answer.
+fn append_words(rt: &HostRuntime, o: Options, times: &[u32]) -> Outcome {
+    let day = day_or_date(rt, behind(o.first, 1))?;
+    let mut name_room = [0u8; 33];
+    let name = argument(rt, behind(o.first, 2), &mut name_room);
+    let mut chance_room = [0u32; 9];
+    let chances = read_chances(rt, o, &mut chance_room)?;
+    let rule = if o.profile {
+        Rule::Profile
+    } else {
+        Rule::Plain
     };
-    append_named(rt, o, given, &name[..name_size], &room[..count], ticks)
-}
-
-// The rule that is asked for.
-fn rule_of(profile: bool) -> Rule {
-    if profile {
-        return Rule::Profile;
-    }
-    Rule::Plain
-}
-
-// The same to the file, with the index in its file or none.
-fn append_named(
-    rt: &HostRuntime,
-    o: Options,
-    given: Given,
-    name: &[u8],
-    chances: &[u32],
-    ticks: &[u32],
-) -> Status {
-    let mut path = io::buffer();
-    let size = path_at(rt, o.first, &mut path);
-    if size == 0 {
-        return Status::Failed;
-    }
-    if o.index == 0 {
-        let mut none = [0u8; 2];
-        let alone = Beside {
-            kept: false,
-            file: File::Missing,
-            begun: true,
-        };
-        return append_at(
-            rt,
-            &path[..size],
-            given,
-            name,
-            chances,
-            ticks,
-            b"",
-            alone,
-            &mut none,
-        );
-    }
-    append_beside(rt, o.index, &path[..size], given, name, chances, ticks)
-}
-
-// The same with the index that the argument at a place names.
-fn append_beside(
-    rt: &HostRuntime,
-    at: usize,
-    path: &[u8],
-    given: Given,
-    name: &[u8],
-    chances: &[u32],
-    ticks: &[u32],
-) -> Status {
-    let mut index_path = io::buffer();
-    let size = path_at(rt, at, &mut index_path);
-    if size == 0 {
-        return Status::Failed;
-    }
-    let mut index = journal_index::index_room();
-    let beside = open_index(rt, &index_path[..size], &mut index);
-    if is_failed(&beside.file) {
-        return Status::Failed;
-    }
-    append_at(
-        rt,
-        path,
-        given,
+    let offer = Offer {
+        day,
+        rule,
         name,
         chances,
-        ticks,
-        &index_path[..size],
-        beside,
-        &mut index,
-    )
-}
-
-// Whether something failed.
-fn is_failed(file: &File) -> bool {
-    match file {
-        File::Open(_) => false,
-        File::Missing => false,
-        File::Failed => true,
+        times,
+    };
+    let mut path_room = io::buffer();
+    let path = path_at(rt, o.first, &mut path_room)?;
+    match o.index {
+        Some(at) => append_beside(rt, path, at, offer),
+        None => append_alone(rt, path, offer),
     }
 }
 
-// Reads the volume's file, or takes a missing one as empty; extends the journal, gives the file the record and then the index's file the index.
-fn append_at(
+// To the file alone. A missing one is empty.
+fn append_alone(rt: &HostRuntime, path: &[u8], offer: Offer) -> Outcome {
+    let mut room = input_room();
+    let held = open_held(rt, path, &mut room)?;
+    let extension = extend(&mut room, held.size, offer, &mut [], false);
+    if let Ok(part) = extension {
+        write_record(rt, path, held, part.start, &room[part.start..part.end])?;
+    }
+    Ok(extension.map(|part| part.end))
+}
+
+// To the file and to the index's, which the argument at a place names. The index's file is made before the volume is written, so that one that cannot
+// be made leaves the volume as it was.
+fn append_beside(rt: &HostRuntime, path: &[u8], at: usize, offer: Offer) -> Outcome {
+    let mut path_room = io::buffer();
+    let index_path = path_at(rt, at, &mut path_room)?;
+    let mut index = journal_index::index_room();
+    let beside = open_index(rt, index_path, &mut index)?;
+    let mut room = input_room();
+    let held = open_held(rt, path, &mut room)?;
+    let extension = extend(&mut room, held.size, offer, &mut index, true);
+    if let Ok(part) = extension {
+        let mut file = ready_index(rt, index_path, beside)?;
+        write_record(rt, path, held, part.start, &room[part.start..part.end])?;
+        write_index(rt, index_path, &mut file, &index)?;
+    }
+    Ok(extension.map(|part| part.end))
+}
+
+// Makes a missing file, and gives the file the record. Before a file's first record, whoever made the file, its name is made to stay. Where that fails,
+// what failed is said.
+fn write_record(
     rt: &HostRuntime,
     path: &[u8],
-    given: Given,
-    name: &[u8],
-    chances: &[u32],
-    ticks: &[u32],
-    index_path: &[u8],
-    beside: Beside,
-    index: &mut [u8],
-) -> Status {
-    let mut room = command_io::input_room();
-    let Held { file, size: len } = open_held(rt, path, &mut room);
-    if is_failed(&file) {
-        return Status::Failed;
-    }
-    let e = extend(&mut room, len, given, name, chances, ticks, index);
-    let start = e.start;
-    let end = e.end;
-    let answer = e.answer;
-    if start < end {
-        let place = Place { file, len, start };
-        if !write_both(
-            rt,
-            path,
-            place,
-            &room[start..end],
-            index_path,
-            beside,
-            index,
-        ) {
-            return Status::Failed;
-        }
-    }
-    answered(rt, answer)
-}
-
-// The record to the volume's file, then the index to its own, where one is kept. The index's file is made before the volume is written, so that
-// one that cannot be made leaves the volume as it was.
-fn write_both(
-    rt: &HostRuntime,
-    path: &[u8],
-    place: Place,
-    record: &[u8],
-    index_path: &[u8],
-    beside: Beside,
-    index: &[u8],
-) -> bool
-    requires { place.start ≤ max_length }
-{
-    if !beside.kept {
-        return write_record(rt, path, place, record);
-    }
-    match ready_index(rt, index_path, beside) {
-        File::Open(open) => {
-            let mut file = open;
-            if !write_record(rt, path, place, record) {
-                return false;
-            }
-            write_index(rt, index_path, &mut file, index)
-        }
-        File::Missing => false,
-        File::Failed => false,
-    }
-}
-
-// Makes a missing file, and gives the file the record. Where that fails, what failed is said.
-fn write_record(rt: &HostRuntime, path: &[u8], place: Place, record: &[u8]) -> bool
-    requires { place.start ≤ max_length }
-{
-    let Place { file, len, start } = place;
-    match made(rt, path, file) {
-        File::Open(open) => write_to(rt, path, open, len, start, record),
-        File::Missing => false,
-        File::Failed => false,
-    }
-}
-
-// Before a file's first record, whoever made the file, its name is made to stay.
-fn write_to(
-    rt: &HostRuntime,
-    path: &[u8],
-    open: fs::File,
-    len: usize,
+    held: Held,
     start: usize,
     record: &[u8],
-) -> bool
+) -> Result<(), Status>
     requires { start ≤ max_length }
 {
-    let mut file = open;
-    if start == 0 {
-        if !command_io::sync_folder(rt, b"awaqlla: ", path) {
-            return false;
-        }
+    let Held { file, size } = held;
+    let mut open = made(rt, path, file)?;
+    if start == 0 && !sync_folder(rt, b"awaqlla: ", path) {
+        return Err(Status::Failed);
     }
-    if let Err(e) = write_at(&mut file, len, start, record) {
-        fail_file_of(rt, path, e);
-        return false;
+    match write_at(&mut open, size, start, record) {
+        Ok(()) => Ok(()),
+        Err(e) => Err(fail_file_of(rt, path, e)),
     }
-    true
 }
 
 // Cuts off what stands behind the start, writes the record there, and syncs the file.

@@ -1,4 +1,3 @@
--- The verdict's text, and what the new file gets.
+-- The verdict's text.
 -- The merge itself is defined in crate journal_merge_spec.
 pub mod Verdict
-pub mod Made

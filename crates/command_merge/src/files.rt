@@ -1,25 +1,31 @@
 // The new file. The result is written under a name of its own beside OUT, synced, and then given OUT's name, so that OUT is whole or not there
 // whenever the program is stopped. A file that exists is never written over.
 ghost use Rattle.std.specs.Prelude.{length, ◌≡◌};
-ghost use Rattle.io.specs.Counts.{IsPrefixLen};
 
 use command_io::{
-    create, fail_file_of, fail_of, inside, open_read, path_at, rename, unlink, write_synced,
+    Status, create, fail_file_of, fail_of, inside, open_read, path_at, rename, sync_folder, unlink,
+    write_synced,
 };
 use std::fs;
 use std::io::{Error, ErrorKind};
 use text_digits::put;
 
-// Writes the result to a new file, that of the argument at a place, and answers whether it stands.
-pub(crate) fn write_new(rt: &HostRuntime, at: usize, res: &[u8]) -> bool {
-    let mut path = io::buffer();
-    let size = path_at(rt, at, &mut path);
-    if size == 0 {
-        return false;
+// Writes the result to a new file, that of the argument at a place. Where it does not stand then, what failed is said.
+pub(crate) fn write_new(rt: &HostRuntime, at: usize, merged: &[u8]) -> Result<(), Status> {
+    let mut room = io::buffer();
+    let path = path_at(rt, at, &mut room)?;
+    let mut part_room = part_room();
+    let part = part_name(path, &mut part_room);
+    make_part(rt, part, path, merged)?;
+    if let Err(failed) = give_name(rt, part, path) {
+        take_away(rt, part);
+        return Err(failed);
     }
-    let mut name = part_room();
-    let end = part_name(&path[..size], &mut name);
-    write_part(rt, &name[..end], &path[..size], res)
+    if sync_folder(rt, b"awaqlla: ", path) {
+        return Ok(());
+    }
+    take_away(rt, path);
+    Err(Status::Failed)
 }
 
 // Room for a path and what stands behind it.
@@ -30,93 +36,57 @@ fn part_room() -> [u8; 4_101]
 }
 
 // The name beside a path: the path and `.part`. OUT is locked, so that no other merge uses it.
-fn part_name(path: &[u8], out: &mut [u8]) -> usize
-    ensures { IsPrefixLen result out.new }
-{
+fn part_name<'a>(path: &[u8], out: &'a mut [u8]) -> &'a [u8] {
     let end = put(out, 0, path);
     let size = put(out, end, b".part");
     inside(size, out)
 }
 
-// Makes the file under its own name; one that cannot be written and synced whole is taken away again.
-fn write_part(rt: &HostRuntime, part: &[u8], path: &[u8], res: &[u8]) -> bool {
-    match create(rt, part) {
-        Ok(open) => fill_part(rt, part, path, open, res),
-        Err(e) => not_made(rt, part, e),
-    }
-}
-
-// The same of a file that is made. It is closed before it gets its name.
-fn fill_part(rt: &HostRuntime, part: &[u8], path: &[u8], open: fs::File, res: &[u8]) -> bool {
-    if let Err(e) = write_closed(open, res) {
-        fail_file_of(rt, path, e);
-        take_away(rt, part);
-        return false;
-    }
-    give_name(rt, part, path)
-}
-
-// Writes the bytes, syncs the file and closes it.
-fn write_closed(open: fs::File, res: &[u8]) -> Result<(), Error> {
-    let mut file = open;
-    write_synced(&mut file, 0, res)
-}
-
-// Why it could not be made. One that is there is none of this merge's, and stays.
-fn not_made(rt: &HostRuntime, part: &[u8], error: Error) -> bool {
-    match error.kind() {
-        ErrorKind::AlreadyExists => {
-            fail_of(
+// Makes the file under its own name; one that cannot be written and synced whole is taken away again. One that is there is none of this merge's, and
+// stays.
+fn make_part(rt: &HostRuntime, part: &[u8], path: &[u8], merged: &[u8]) -> Result<(), Status> {
+    let made = match create(rt, part) {
+        Ok(made) => made,
+        Err(e) if e.kind() == ErrorKind::AlreadyExists => {
+            return Err(fail_of(
                 rt,
                 part,
                 b"it exists, as a merge that was stopped leaves it: delete it",
-            );
+            ));
         }
-        _ => {
-            fail_file_of(rt, part, error);
+        Err(e) => return Err(fail_file_of(rt, part, e)),
+    };
+    match write_closed(made, merged) {
+        Ok(()) => Ok(()),
+        Err(e) => {
+            fail_file_of(rt, path, e);
+            take_away(rt, part);
+            Err(Status::Failed)
         }
     }
-    false
+}
+
+// Writes the bytes, syncs the file and closes it, before it gets its name.
+fn write_closed(mut file: fs::File, merged: &[u8]) -> Result<(), Error> {
+    write_synced(&mut file, 0, merged)
+}
+
+// Gives the file its name, where nothing stands under it.
+fn give_name(rt: &HostRuntime, part: &[u8], path: &[u8]) -> Result<(), Status> {
+    judge_free(rt, path)?;
+    match rename(rt, part, path) {
+        Ok(()) => Ok(()),
+        Err(e) => Err(fail_file_of(rt, path, e)),
+    }
 }
 
 // Whether nothing stands under a name; if something does, or that cannot be told, that is said.
-fn is_free(rt: &HostRuntime, path: &[u8]) -> bool {
+fn judge_free(rt: &HostRuntime, path: &[u8]) -> Result<(), Status> {
     match open_read(rt, path) {
-        Ok(_) => {
-            fail_of(rt, path, b"it exists, and a merge writes over no file");
-            false
-        }
-        Err(e) => is_missing(rt, path, e),
+        Ok(_) => Err(fail_of(rt, path, b"it exists, and a merge writes over no file")),
+        Err(e) if e.kind() == ErrorKind::NotFound => Ok(()),
+        Err(e) => Err(fail_file_of(rt, path, e)),
     }
-}
-
-// The same where it could not be opened.
-fn is_missing(rt: &HostRuntime, path: &[u8], error: Error) -> bool {
-    match error.kind() {
-        ErrorKind::NotFound => true,
-        _ => {
-            fail_file_of(rt, path, error);
-            false
-        }
-    }
-}
-
-// Gives the file its name, where nothing stands under it, and syncs the folder.
-fn give_name(rt: &HostRuntime, part: &[u8], path: &[u8]) -> bool {
-    if !is_free(rt, path) {
-        take_away(rt, part);
-        return false;
-    }
-    if let Err(e) = rename(rt, part, path) {
-        fail_file_of(rt, path, e);
-        take_away(rt, part);
-        return false;
-    }
-    if command_io::sync_folder(rt, b"awaqlla: ", path) {
-        return true;
-    }
-    take_away(rt, path);
-    false
 }
 
 // Takes a file away that was made here.

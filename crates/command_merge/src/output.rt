@@ -1,47 +1,41 @@
 // The verdict of a merge on standard output, then what it means on standard error.
 // The status is the verdict's; failed where the verdict could not be written.
 use crate::verdict::{status_of, verdict_line};
-use command_io::{Status, if_written, print_verdict};
+use command_io::{Status, print_verdict};
 use journal::Fault;
-use journal_merge::{Merged, Whose};
+use journal_merge::{MergeError, Whose};
 
 // Prints the verdict, as the last line of the output, and answers the status.
-pub(crate) fn answered(rt: &HostRuntime, answer: Merged) -> Status {
+pub(crate) fn answered(rt: &HostRuntime, answer: Result<usize, MergeError>) -> Status {
     let mut out = [0u8; journal_listing::MAX_LINE];
     let size = verdict_line(answer, &mut out);
     let written = print_verdict(rt, &out[..size]);
     if written {
         explain(rt, answer);
     }
-    if_written(written, status_of(answer))
+    status_of(answer).if_written(written)
 }
 
 // What the verdict means.
-fn explain(rt: &HostRuntime, answer: Merged) {
+fn explain(rt: &HostRuntime, answer: Result<usize, MergeError>) {
     match answer {
-        Merged::Length(_) => {}
-        Merged::Declined(_) => {
+        Ok(_) => {}
+        Err(MergeError::Declined(_)) => {
             command_words::full_merge(rt);
         }
-        Merged::DeclinedAt(f) => {
-            command_words::refused_merge(rt, f.number as u64, f.place as u64);
+        Err(MergeError::DeclinedAt(Fault { refusal, place })) => {
+            command_words::refused_merge(rt, refusal, place);
         }
-        Merged::DeclinedOf { whose, number: _ } => {
-            command_words::refused_torn(rt, is_second(whose));
+        Err(MergeError::DeclinedOf { whose, .. }) => {
+            command_words::refused_torn(rt, whose == Whose::Second);
         }
-        Merged::Damaged { whose, fault } => explain_damage(rt, fault, whose),
-    }
-}
-
-// The same of a fault.
-fn explain_damage(rt: &HostRuntime, f: Fault, whose: Whose) {
-    command_words::damaged_of(rt, f.number as u64, f.place as u64, is_second(whose));
-}
-
-// Whether it is the second volume's.
-fn is_second(whose: Whose) -> bool {
-    match whose {
-        Whose::First => false,
-        Whose::Second => true,
+        Err(
+            MergeError::Damaged {
+                whose,
+                fault: Fault { refusal, place },
+            },
+        ) => {
+            command_words::damaged_of(rt, refusal, place, whose == Whose::Second);
+        }
     }
 }

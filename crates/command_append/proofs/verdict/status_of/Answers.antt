@@ -1,21 +1,22 @@
--- `status_of` answers by the four cases.
+-- `status_of` answers by the cases.
 -- Assumes nothing.
+use Rattle.std.proofs.Common.{◌≡◌, Err, refl}
+use Rattle.journal.specs.declared.AppendError.{AppendError}
+use Rattle.journal.specs.declared.AppendError.TheVariants as A
 use Rattle.journal.specs.Answers.{append_meaning}
+use Rattle.command_io.specs.declared.ending.Status.TheVariants as S
 use Rattle.command_append.specs.Verdict.{verdict_status}
 use Rattle.command_append.proofs.verdict.status_of.Goals as goal
 
-pub returns-in-Extended : goal.returns-in-Extended
+refused : (error : AppendError) → S.Refused ≡ verdict_status (append_meaning (Err error))
 unfolding verdict_status append_meaning
-returns-in-Extended c = rw c.in-Extended.is
+refused (A.Declined r) = refl
+refused (A.DeclinedAt f) = refl
+refused (A.Damaged f) = refl
 
-pub returns-in-Declined : goal.returns-in-Declined
+pub returns-in-Ok : goal.returns-in-Ok
 unfolding verdict_status append_meaning
-returns-in-Declined c = rw c.in-Declined.is
+returns-in-Ok c = rw c.in-Ok.is
 
-pub returns-in-DeclinedAt : goal.returns-in-DeclinedAt
-unfolding verdict_status append_meaning
-returns-in-DeclinedAt c = rw c.in-DeclinedAt.is
-
-pub returns-in-Damaged : goal.returns-in-Damaged
-unfolding verdict_status append_meaning
-returns-in-Damaged c = rw c.in-Damaged.is
+pub returns-in-Err : goal.returns-in-Err
+returns-in-Err c = rw c.in-Err.is (refused _)

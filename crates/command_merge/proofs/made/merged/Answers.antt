@@ -1,14 +1,7 @@
--- `merged` hands the buffer on, and what the answer says of its size.
+-- `merged` hands the answer on: a result that is made has room in its buffer.
 -- Assumes nothing.
 use Rattle.command_merge.proofs.Fits.{size_fits}
 use Rattle.command_merge.proofs.made.merged.Goals as goal
 
-pub returns : goal.returns
-returns c =
-    let called = c.merge-answer in
-    let size = c.size_of-size in
-    record {
-      out_after = called.ensures;
-      is_made_value = (c.is_length-is_made.ensures, size.ensures);
-      size_in_bounds = rw size.ensures (size_fits _ _ _ _ _ _ called.result called.ensures);
-    }
+pub returns-clause-size_in_bounds : goal.returns-clause-size_in_bounds
+returns-clause-size_in_bounds c = size_fits _ _ _ _ _ _ _ c.merge.ensures

@@ -9,6 +9,6 @@ use Rattle.command_merge.proofs.verdict.put_damage.Goals as goal
 pub returns : goal.returns
 unfolding verdict_line word_damaged
 returns c =
-    let number = put_put _ _ _ _ _ _ _ _ c.put-p.ensures c.put_number-q.ensures in
-    let place = put_put _ _ _ _ _ _ _ _ number c.put_number-r.ensures in
+    let number = put_put _ _ _ _ _ _ _ _ c.put-word.ensures (rw c.number.ensures at c.put_number-number.ensures) in
+    let place = put_put _ _ _ _ _ _ _ _ number c.put_number-place.ensures in
     put_as _ _ _ _ _ _ (whose_line_2 _ _ _ _) (put_put _ _ _ _ _ _ _ _ place c.put_whose.ensures)

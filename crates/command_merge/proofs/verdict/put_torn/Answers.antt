@@ -9,5 +9,5 @@ use Rattle.command_merge.proofs.verdict.put_torn.Goals as goal
 pub returns : goal.returns
 unfolding verdict_line word_declined
 returns c =
-    let number = put_put _ _ _ _ _ _ _ _ c.put-p.ensures c.put_number-q.ensures in
+    let number = put_put _ _ _ _ _ _ _ _ c.put-word.ensures (rw c.number.ensures at c.put_number-number.ensures) in
     put_as _ _ _ _ _ _ (whose_line _ _ _) (put_put _ _ _ _ _ _ _ _ number c.put_whose.ensures)

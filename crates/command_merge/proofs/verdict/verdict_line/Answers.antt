@@ -1,26 +1,12 @@
--- `verdict_line` puts the line of each of the five cases.
+-- `verdict_line` puts the result's length, or the line of the error.
 -- Assumes nothing.
-use Rattle.journal_listing.specs.Listing.{word_declined}
 use Rattle.journal_merge.specs.Answers.{answer_of}
 use Rattle.command_merge.specs.Verdict.{word_merged, verdict_line}
 use Rattle.command_merge.proofs.verdict.verdict_line.Goals as goal
 
-pub returns-in-Length : goal.returns-in-Length
+pub returns-in-Ok : goal.returns-in-Ok
 unfolding verdict_line answer_of word_merged
-returns-in-Length c = rw c.in-Length.is c.put_word.ensures
+returns-in-Ok c = rw c.in-Ok.is c.put_word.ensures
 
-pub returns-in-Declined : goal.returns-in-Declined
-unfolding verdict_line answer_of word_declined
-returns-in-Declined c = rw c.in-Declined.is c.put_word-in-Declined.ensures
-
-pub returns-in-DeclinedAt : goal.returns-in-DeclinedAt
-unfolding verdict_line answer_of word_declined
-returns-in-DeclinedAt c = rw c.in-DeclinedAt.is c.put_words.ensures
-
-pub returns-in-DeclinedOf : goal.returns-in-DeclinedOf
-unfolding answer_of
-returns-in-DeclinedOf c = rw c.in-DeclinedOf.is c.put_torn.ensures
-
-pub returns-in-Damaged : goal.returns-in-Damaged
-unfolding answer_of
-returns-in-Damaged c = rw c.in-Damaged.is c.put_damage.ensures
+pub returns-in-Err : goal.returns-in-Err
+returns-in-Err c = rw c.in-Err.is c.error_line.ensures
