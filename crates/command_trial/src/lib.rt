@@ -10,29 +10,34 @@ mod table;
 mod text;
 
 use command_io::{
-    Options, Status, await_input, behind, fail, input_apart, input_room, read_named, readable,
-    words_from,
+    Kind, Options, Status, await_input, behind, fail, input_apart, input_room, read_named,
+    readable, words_from,
 };
 use std::io::Read;
 pub use text::{put_chance, put_head, put_unknown};
 
-// Judges the words, reads the volume and tries it on the log.
-pub fn trial(rt: &HostRuntime, o: Options, kinds: &[u8]) -> Status {
+// Judges the words, reads the volume and tries it on the log; the status.
+pub fn trial(rt: &HostRuntime, o: Options, kinds: &[Kind]) -> Status {
+    try_words(rt, o, kinds).unwrap_or_else(|failed| failed)
+}
+
+// The same; failed where it is over before.
+fn try_words(rt: &HostRuntime, o: Options, kinds: &[Kind]) -> Result<Status, Status> {
     let count = words_from(rt, o.first);
     if count < 1 || 2 < count {
-        return fail(
+        return Err(fail(
             rt,
             b"trial takes FILE, and LOG or a log on standard input; awaqlla --help says more",
-        );
+        ));
     }
     if !readable(rt, kinds, o.first) {
-        return Status::Failed;
+        return Err(Status::Failed);
     }
     if count == 2 {
         return try_file(rt, o.first, kinds);
     }
     if !input_apart(rt, kinds) {
-        return Status::Failed;
+        return Err(Status::Failed);
     }
     await_input(
         rt,
@@ -43,28 +48,18 @@ pub fn trial(rt: &HostRuntime, o: Options, kinds: &[u8]) -> Status {
 }
 
 // The log is a file, which is not copied.
-fn try_file(rt: &HostRuntime, at: usize, kinds: &[u8]) -> Status {
+fn try_file(rt: &HostRuntime, at: usize, kinds: &[Kind]) -> Result<Status, Status> {
     let log = behind(at, 1);
     if !readable(rt, kinds, log) {
-        return Status::Failed;
+        return Err(Status::Failed);
     }
-    match files::open_log(rt, log) {
-        command_io::File::Open(open) => {
-            let mut file = open;
-            try_on(rt, at, &mut file)
-        }
-        command_io::File::Missing => Status::Failed,
-        command_io::File::Failed => Status::Failed,
-    }
+    let mut file = files::open_log(rt, log)?;
+    try_on(rt, at, &mut file)
 }
 
 // The volume, on an open log.
-fn try_on<R: Read>(rt: &HostRuntime, at: usize, log: &mut R) -> Status {
+fn try_on<R: Read>(rt: &HostRuntime, at: usize, log: &mut R) -> Result<Status, Status> {
     let mut room = input_room();
-    let read = read_named(rt, at, &mut room);
-    let size = read.size;
-    if read.failed.is_some() {
-        return Status::Failed;
-    }
-    report::try_log(rt, log, &room[..size])
+    let v = read_named(rt, at, &mut room)?;
+    Ok(report::try_log(rt, log, v))
 }

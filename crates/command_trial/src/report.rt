@@ -6,11 +6,14 @@ use crate::output::{gather_line, print_unknown, refuse};
 use crate::passes::try_pieces;
 use crate::table::{count_at, table_room};
 use crate::text::{put_chance, put_head};
-use command_io::{Gathered, Status, fail_system};
+use command_io::{Status, fail_system};
+use journal_entries::{entry_at, entry_place};
 use journal_parts::{Span, number_in, spans_at};
-use journal_trial::Unknown;
 use std::io::Read;
 use text_digits::put;
+
+// A record has no more chances.
+const MOST_CHANCES: usize = 8;
 
 // Room for a line.
 fn line_room() -> [u8; 1_024]
@@ -22,41 +25,34 @@ fn line_room() -> [u8; 1_024]
 // Tries the log of a reader on the journal that is all of a slice.
 pub(crate) fn try_log<R: Read>(rt: &HostRuntime, log: &mut R, v: &[u8]) -> Status {
     let mut index = journal_index::index_room();
-    journal_index::make_index(v, v.len(), &mut index);
+    let _ = journal_index::make_index(v, v.len(), &mut index);
     let mut table = table_room();
-    let p = try_pieces(log, v, &index, &mut table);
-    if let Some(e) = p.failed {
-        fail_system(rt, b"awaqlla: the log", e);
-        return Status::Failed;
-    }
-    let answer = p.answer;
-    match answer {
-        Unknown::Lines(n) => print_all(rt, v, &index, &table, n),
-        Unknown::Declined(_) => refuse(rt, answer),
-        Unknown::Damaged(_) => refuse(rt, answer),
-        Unknown::DeclinedAt(_) => refuse(rt, answer),
+    match try_pieces(log, v, &index, &mut table) {
+        Ok(Ok(lines)) => Status::Done.if_written(print_all(rt, v, &index, &table, lines)),
+        Ok(Err(error)) => refuse(rt, error),
+        Err(e) => {
+            fail_system(rt, b"awaqlla: the log", e);
+            Status::Failed
+        }
     }
 }
 
-// The lines of all names, then the lines with unknown names. They are gathered, so that a write takes many.
-fn print_all(rt: &HostRuntime, v: &[u8], index: &[u8], table: &[u64], unknown: u64) -> Status {
+// The lines of all names, then the lines with unknown names; whether all are written. They are gathered, so that a write takes many.
+fn print_all(rt: &HostRuntime, v: &[u8], index: &[u8], table: &[u64], unknown: u64) -> bool {
     let mut space = io::large_buffer();
     let room: &mut [u8] = &mut space;
     let count = number_in(index, 0, 2) as usize;
-    let mut waiting: usize = 0;
-    let mut k: usize = 0;
-    while k < count {
-        let printed = print_name(rt, v, index, table, k, room, waiting);
-        if !printed.written {
-            return Status::Failed;
+    let mut waiting = 0;
+    for k in 0..count {
+        match print_name(rt, v, index, table, k, room, waiting) {
+            Some(more) => waiting = more,
+            None => return false,
         }
-        waiting = printed.waiting;
-        k += 1;
     }
     print_unknown(rt, room, waiting, unknown)
 }
 
-// The line of the name at a position, behind what waits in the room.
+// The line of the name at a position, behind what waits in the room; how many bytes wait then.
 fn print_name(
     rt: &HostRuntime,
     v: &[u8],
@@ -65,7 +61,7 @@ fn print_name(
     k: usize,
     room: &mut [u8],
     waiting: usize,
-) -> Gathered {
+) -> Option<usize> {
     let mut out = line_room();
     let size = put_name(&mut out, v, index, table, k);
     gather_line(rt, room, waiting, &out, size)
@@ -73,24 +69,14 @@ fn print_name(
 
 // Puts the line of the name at a position, and answers its size; none where the index has no such entry.
 fn put_name(out: &mut [u8], v: &[u8], index: &[u8], table: &[u64], k: usize) -> usize {
-    let at = journal_entries::entry_place(index, k);
-    let size = journal_entries::size_at(index, at);
-    if size < 6 {
+    let Some(entry) = entry_at(index, entry_place(index, k)) else {
         return 0;
-    }
-    if index.len() < size {
-        return 0;
-    }
-    if index.len() - size < at {
-        return 0;
-    }
-    let names = size - 6;
-    let start = journal_entries::start_at(index, at);
-    let from = at + 2;
-    let to = from + names;
-    let head = put_head(out, &index[from..to], count_at(table, k, 0));
-    let chances = spans_at(v, start).chances;
-    let end = put_chances(out, head, v, chances, table, k);
+    };
+    let head = put_head(out, entry.name, count_at(table, k, 0));
+    let end = match spans_at(v, entry.start).chances {
+        Some(chances) => put_chances(out, head, v, chances, table, k),
+        None => head,
+    };
     put(out, end, b"\n")
 }
 
@@ -104,49 +90,35 @@ fn put_chances(
     k: usize,
 ) -> usize {
     let place = chances.first;
-    let count = eight_at_most(chances.count);
+    let count = chances.count.min(MOST_CHANCES);
     let first = first_exceeded(v, place, count, table, k);
     let mut end = from;
-    let mut j: usize = 0;
-    while j < count {
+    for j in 0..count {
         let chance = chance_at(v, place, j);
         let overs = count_at(table, k, j + 1);
-        end = put_chance(out, end, chance, overs, j == first);
-        j += 1;
+        end = put_chance(out, end, chance, overs, first == Some(j));
     }
     end
 }
 
-// Which of the chances is the first that was exceeded, or their count.
-fn first_exceeded(v: &[u8], place: usize, count: usize, table: &[u64], k: usize) -> usize
+// Which of the chances is the first that was exceeded.
+fn first_exceeded(v: &[u8], place: usize, count: usize, table: &[u64], k: usize) -> Option<usize>
     requires { count ≤ 8 }
 {
     let links = count_at(table, k, 0);
-    let mut j: usize = 0;
-    while j < count {
+    for j in 0..count {
         let chance = chance_at(v, place, j);
         let overs = count_at(table, k, j + 1);
         if journal_trial::exceeds(links, chance, overs) {
-            return j;
+            return Some(j);
         }
-        j += 1;
     }
-    count
+    None
 }
 
 // A chance of the record whose chances stand from a place on.
 fn chance_at(v: &[u8], place: usize, j: usize) -> u64
     requires { j ≤ 8 }
 {
-    number_in(v, std::num::wrapping_add_usize(place, 4 * j), 4)
-}
-
-// A count of chances: a record has no more than eight.
-fn eight_at_most(n: usize) -> usize
-    ensures { result ≤ 8 }
-{
-    if n < 8 {
-        return n;
-    }
-    8
+    number_in(v, place.wrapping_add(4 * j), 4)
 }

@@ -1,10 +1,9 @@
 // The text of a name's line, put into a lent buffer from a place on: its links, then the overs at each chance.
 // The chance that is marked is the lowest at which more links were over than its limit promises.
-ghost use Rattle.text_digits.specs.Hex.{decimal_digits};
 ghost use Rattle.text_digits.specs.Text.{Put};
 ghost use Rattle.command_trial.specs.Text.{head_text, chance_text, mark_text, unknown_text};
 
-use text_digits::put;
+use text_digits::{put, put_decimal};
 
 // Puts the name and its links at the front.
 pub fn put_head(out: &mut [u8], name: &[u8], links: u64) -> usize
@@ -40,17 +39,8 @@ fn put_mark(out: &mut [u8], at: usize, marked: bool) -> usize
     ensures { Put out.old at (mark_text marked) out.new result }
 {
     if marked {
-        return put(out, at, b", MORE THAN PROMISED");
+        put(out, at, b", MORE THAN PROMISED")
+    } else {
+        put(out, at, b"")
     }
-    put(out, at, b"")
-}
-
-// Puts a number.
-fn put_decimal(out: &mut [u8], at: usize, n: u64) -> usize
-    ensures { Put out.old at (decimal_digits n) out.new result }
-{
-    let d = text_digits::decimal_of(n);
-    let digits = d.digits;
-    let count = d.count;
-    put(out, at, &digits[..count])
 }

@@ -7,6 +7,6 @@ pub returns-then-marked : goal.returns-then-marked
 unfolding mark_text word_more
 returns-then-marked c = rw c.if-marked.true c.put.ensures
 
-pub returns : goal.returns
+pub returns-else-marked : goal.returns-else-marked
 unfolding mark_text
-returns c = rw c.if-marked.false c.put-2.ensures
+returns-else-marked c = rw c.if-marked.false c.put-else-marked.ensures
