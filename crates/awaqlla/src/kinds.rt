@@ -1,84 +1,40 @@
 // What stands at a name, and which of the standard streams and of the program's files it is, as crate command_io reads it.
 use crate::names::{found_at, full_path, is_missing, link_at, same_file};
-use command_io::open_read;
+use command_io::{Kind, Stands, open_read};
 use std::fs::Metadata;
 use std::io::{Error, ErrorKind};
-use text_digits::same;
-
-// The lowest three bits: nothing, a plain file, a folder, something else, or a link to nothing; then that it cannot be read, that what is printed goes
-// into it, that what is said goes into it, and that it is the volume that is locked.
-const MISSING: u8 = 0;
-
-const PLAIN: u8 = 1;
-
-const FOLDER: u8 = 2;
-
-const OTHER: u8 = 3;
-
-const DANGLING: u8 = 4;
-
-const UNREADABLE: u8 = 8;
-
-const PRINTED_TO: u8 = 16;
-
-const TOLD_TO: u8 = 32;
-
-const GUARDED: u8 = 64;
-
-// The place of the argument to lock, and whether there is one.
-#[derive(Clone, Copy)]
-pub(crate) struct Guarded {
-    pub(crate) at: usize,
-    pub(crate) stands: bool,
-}
 
 // What stands at a name; nothing where an error hides it. `guarded` is the name of what is locked, where that is another argument.
-pub(crate) fn kind_of(rt: &HostRuntime, path: &[u8], guarded: Option<&[u8]>) -> Option<u8> {
+pub(crate) fn kind_of(rt: &HostRuntime, path: &[u8], guarded: Option<&[u8]>) -> Option<Kind> {
     match found_at(rt, path) {
         Ok(found) => kind_of_found(rt, path, &found, guarded),
-        Err(e) => kind_of_missing(rt, path, e, guarded),
+        Err(e) if is_missing(&e) => Some(kind_of_missing(rt, path, guarded)),
+        Err(_) => None,
     }
 }
 
-// The same where nothing is found.
-fn kind_of_missing(
-    rt: &HostRuntime,
-    path: &[u8],
-    error: Error,
-    guarded: Option<&[u8]>,
-) -> Option<u8> {
-    if !is_missing(error) {
-        return None;
-    }
+// The same where nothing is found: a link to nothing, or not even that.
+fn kind_of_missing(rt: &HostRuntime, path: &[u8], guarded: Option<&[u8]>) -> Kind {
     match link_at(rt, path) {
-        Ok(_) => Some(DANGLING),
-        Err(_) => Some(kind_of_nothing(rt, path, guarded)),
-    }
-}
-
-// The same where nothing stands, not even a link.
-fn kind_of_nothing(rt: &HostRuntime, path: &[u8], guarded: Option<&[u8]>) -> u8 {
-    match guarded {
-        Some(other) => {
-            if are_one_path(rt, path, other) {
-                return MISSING | GUARDED;
-            }
-            MISSING
-        }
-        None => MISSING,
+        Ok(_) => Kind {
+            stands: Stands::Dangling,
+            ..Kind::NOTHING
+        },
+        Err(_) => Kind {
+            guarded: guarded.is_some_and(|other| are_one_path(rt, path, other)),
+            ..Kind::NOTHING
+        },
     }
 }
 
 // Whether two names are of one place.
 fn are_one_path(rt: &HostRuntime, path: &[u8], other: &[u8]) -> bool {
     let mut here = [0u8; 8_200];
-    let size = full_path(rt, path, &mut here);
-    if size == 0 {
-        return false;
-    }
     let mut there = [0u8; 8_200];
-    let length = full_path(rt, other, &mut there);
-    same(&here[..size], &there[..length])
+    match full_path(rt, path, &mut here) {
+        Some(here) => full_path(rt, other, &mut there).unwrap_or(b"") == here,
+        None => false,
+    }
 }
 
 // The same where a file or the like is found.
@@ -87,10 +43,10 @@ fn kind_of_found(
     path: &[u8],
     found: &Metadata,
     guarded: Option<&[u8]>,
-) -> Option<u8> {
+) -> Option<Kind> {
     let stands = stands(found);
-    let closed = bit_if(stands != OTHER && !can_be_read(rt, path), UNREADABLE);
-    let kind = with_streams(rt, stands | closed, found);
+    let closed = stands != Stands::Other && !can_be_read(rt, path);
+    let kind = with_streams(rt, stands, closed, found);
     match guarded {
         Some(other) => with_guard(rt, kind, found, other),
         None => Some(kind),
@@ -98,42 +54,36 @@ fn kind_of_found(
 }
 
 // The kind of standard input.
-pub(crate) fn kind_of_input(rt: &HostRuntime) -> u8 {
+pub(crate) fn kind_of_input(rt: &HostRuntime) -> Kind {
     match found_at(rt, b"/dev/fd/0") {
-        Ok(found) => with_streams(rt, stands(&found), &found),
-        Err(_) => OTHER,
+        Ok(found) => with_streams(rt, stands(&found), false, &found),
+        Err(_) => Kind {
+            stands: Stands::Other,
+            ..Kind::NOTHING
+        },
     }
 }
 
-// The kind, with the bits of what is printed and of what is said.
-fn with_streams(rt: &HostRuntime, kind: u8, found: &Metadata) -> u8 {
-    let printed = bit_if(
-        kind == PLAIN && is_stream(rt, found, b"/dev/fd/1"),
-        PRINTED_TO,
-    );
-    let told = bit_if(
-        kind & PLAIN != 0 && is_stream(rt, found, b"/dev/fd/2"),
-        TOLD_TO,
-    );
-    kind | printed | told
+// The kind, with what is printed and what is said.
+fn with_streams(rt: &HostRuntime, stands: Stands, closed: bool, found: &Metadata) -> Kind {
+    Kind {
+        stands,
+        closed,
+        printed: stands == Stands::Plain && !closed && is_stream(rt, found, b"/dev/fd/1"),
+        told: matches!(stands, Stands::Plain | Stands::Other) && is_stream(rt, found, b"/dev/fd/2"),
+        guarded: false,
+    }
 }
 
 // Which kind of thing stands there.
-fn stands(found: &Metadata) -> u8 {
+fn stands(found: &Metadata) -> Stands {
     if found.is_file() {
-        return PLAIN;
+        Stands::Plain
+    } else if found.is_dir() {
+        Stands::Folder
+    } else {
+        Stands::Other
     }
-    if found.is_dir() {
-        return FOLDER;
-    }
-    OTHER
-}
-
-fn bit_if(test: bool, bit: u8) -> u8 {
-    if test {
-        return bit;
-    }
-    0
 }
 
 // Whether a file or a folder may be opened to be read. Of any other error the command says more, which opens it again.
@@ -152,15 +102,14 @@ fn is_stream(rt: &HostRuntime, found: &Metadata, stream: &[u8]) -> bool {
     }
 }
 
-// The kind, with the bit of what is locked; nothing where an error hides that.
-fn with_guard(rt: &HostRuntime, kind: u8, found: &Metadata, guarded: &[u8]) -> Option<u8> {
+// The kind, with whether it is what is locked; nothing where an error hides that.
+fn with_guard(rt: &HostRuntime, kind: Kind, found: &Metadata, guarded: &[u8]) -> Option<Kind> {
     match found_at(rt, guarded) {
-        Ok(other) => Some(kind | bit_if(same_file(found, &other), GUARDED)),
-        Err(e) => {
-            if is_missing(e) {
-                return Some(kind);
-            }
-            None
-        }
+        Ok(other) => Some(Kind {
+            guarded: same_file(found, &other),
+            ..kind
+        }),
+        Err(e) if is_missing(&e) => Some(kind),
+        Err(_) => None,
     }
 }

@@ -7,131 +7,122 @@ mod locks;
 mod names;
 mod version;
 
-use crate::kinds::{Guarded, kind_of, kind_of_input};
-use crate::locks::{Held, guard, let_go};
-use crate::names::{is_name, name_at};
+use crate::kinds::{kind_of, kind_of_input};
+use crate::locks::{Held, let_go, lock};
+use crate::names::is_name;
+use command::{Guard, Lock, Told};
+use command_io::{Kind, Status, arg_count, argument, fail_of};
 use std::process::ExitCode;
 
 // So many arguments are looked at.
 const ARGUMENTS: usize = 64;
 
-// Room for so many ticks.
+// Room for so many ticks. They stay in an array on the stack: the project promises fixed memory and no heap.
 const TICKS: usize = 32_768;
 
-// What a lock comes to, as crate command is told: an error hides what stands at a name.
-const HIDDEN: u32 = 7;
-
-fn main(rt: HostRuntime) -> ExitCode {
-    ExitCode::from(run(&rt))
+// The argument to lock, and its name.
+#[derive(Clone, Copy)]
+struct Guarded<'a> {
+    guard: Guard,
+    name: &'a [u8],
 }
 
-// The exit status.
-fn run(rt: &HostRuntime) -> u8 {
+fn main(rt: HostRuntime) -> ExitCode {
+    ExitCode::from(run(&rt).number() as u8)
+}
+
+// The status.
+fn run(rt: &HostRuntime) -> Status {
     if !command_io::streams_are_open(rt, b"awaqlla: ") {
-        return 2;
+        return Status::Failed;
     }
     if command_io::is_argument(rt, 1, b"--version") {
         return version::say_version(rt);
     }
-    let mut name = io::buffer();
-    let at = command::awaqlla_guarded(rt);
-    let size = name_at(rt, at, &mut name);
-    let guarded = Guarded {
-        at,
-        stands: at != 0 && at < command_io::arg_count(rt),
-    };
-    ask(rt, guarded, &name[..size])
+    let guard = command::locked(rt).filter(|guard| guard.at < arg_count(rt));
+    let mut room = io::buffer();
+    let name = name_of(rt, guard, &mut room);
+    ask(rt, guard.map(|guard| Guarded { guard, name })).unwrap_or_else(|failed| failed)
 }
 
-// What is asked for, with the name of the argument to lock.
-fn ask(rt: &HostRuntime, guarded: Guarded, name: &[u8]) -> u8 {
-    let mut kinds = [0u8; ARGUMENTS];
-    kinds[0] = kind_of_input(rt);
-    let count = command_io::arg_count(rt).min(ARGUMENTS);
-    if !look_at_all(rt, guarded, name, &mut kinds[..count]) {
-        return 2;
+// The name of what is locked; none where nothing is.
+fn name_of<'a>(rt: &HostRuntime, guard: Option<Guard>, out: &'a mut [u8]) -> &'a [u8] {
+    match guard {
+        Some(guard) => argument(rt, guard.at, out),
+        None => &[],
     }
-    take(rt, guarded, name, &mut kinds[..count])
 }
 
-// Puts what stands at the name of each argument that is a file's; whether no error hides one.
-fn look_at_all(rt: &HostRuntime, guarded: Guarded, name: &[u8], kinds: &mut [u8]) -> bool {
-    for i in 1..kinds.len() {
-        if command::awaqlla_is_file(rt, i) != 0 {
-            let other = if guarded.stands && i != guarded.at {
-                Some(name)
-            } else {
-                None
+// What is asked for: every file is looked at, then what stands before the lock is read.
+fn ask(rt: &HostRuntime, guarded: Option<Guarded>) -> Result<Status, Status> {
+    let mut room = [Kind::NOTHING; ARGUMENTS];
+    let count = arg_count(rt).min(ARGUMENTS);
+    let kinds = &mut room[..count];
+    look_at_all(rt, guarded, kinds)?;
+    let mut ticks = [0u32; TICKS];
+    let count = command::take(rt, kinds, &mut ticks)?.min(TICKS);
+    with_lock(rt, guarded, kinds, &ticks[..count])
+}
+
+// Puts the kind of standard input, and what stands at the name of each argument that is a file's; fails where an error hides one.
+fn look_at_all(
+    rt: &HostRuntime,
+    guarded: Option<Guarded>,
+    kinds: &mut [Kind],
+) -> Result<(), Status> {
+    for i in 0..kinds.len() {
+        if i == 0 {
+            kinds[i] = kind_of_input(rt);
+        } else if command::is_file(rt, i) {
+            kinds[i] = match guarded {
+                Some(other) if other.guard.at != i => look(rt, i, Some(other.name))?,
+                _ => look(rt, i, None)?,
             };
-            match look(rt, i, other) {
-                Some(kind) => kinds[i] = kind,
-                None => return false,
-            }
         }
     }
-    true
+    Ok(())
 }
 
-// What stands at an argument's name, or nothing where an error hides it, which is said.
-fn look(rt: &HostRuntime, at: usize, guarded: Option<&[u8]>) -> Option<u8> {
-    let mut name = io::buffer();
-    let size = name_at(rt, at, &mut name);
-    let path = &name[..size];
+// What stands at an argument's name; where an error hides it, that is said. `guarded` is the name of what is locked, where that is another argument.
+fn look(rt: &HostRuntime, at: usize, guarded: Option<&[u8]>) -> Result<Kind, Status> {
+    let mut room = io::buffer();
+    let path = argument(rt, at, &mut room);
     if !is_name(path) {
-        command_io::fail_of(rt, path, b"a name that is not UTF-8 cannot be opened");
-        return None;
+        return Err(fail_of(rt, path, b"a name that is not UTF-8 cannot be opened"));
     }
-    let kind = kind_of(rt, path, guarded);
-    if kind.is_none() {
-        command::awaqlla_told(rt, HIDDEN, path);
+    match kind_of(rt, path, guarded) {
+        Some(kind) => Ok(kind),
+        None => Err(command::tell(rt, Told::Hidden, path)),
     }
-    kind
-}
-
-// What is read before the lock, and then the rest.
-fn take(rt: &HostRuntime, guarded: Guarded, name: &[u8], kinds: &mut [u8]) -> u8 {
-    let mut ticks = [0u32; TICKS];
-    let taken = command::awaqlla_take(rt, kinds, &mut ticks);
-    if taken > 0xffff_ffff {
-        return (taken % 4) as u8;
-    }
-    let count = (taken as usize).min(TICKS);
-    with_lock(rt, guarded, name, kinds, &ticks[..count])
 }
 
 // The command, with its lock.
 fn with_lock(
     rt: &HostRuntime,
-    guarded: Guarded,
-    name: &[u8],
-    kinds: &mut [u8],
+    guarded: Option<Guarded>,
+    kinds: &mut [Kind],
     ticks: &[u32],
-) -> u8 {
-    if !guarded.stands {
-        return command::awaqlla_run(rt, kinds, ticks) as u8;
-    }
-    let held = guard(rt, name);
-    let status = run_held(rt, &held, guarded, kinds, ticks);
-    let_go(rt, held, name);
+) -> Result<Status, Status> {
+    let Some(Guarded { guard, name }) = guarded else {
+        return Ok(command::run(rt, kinds, ticks));
+    };
+    let held = lock(rt, guard.lock, name);
+    let status = run_held(rt, &held, guard, kinds, ticks);
+    let_go(rt, held, guard.lock, name);
     status
 }
 
-// The command, where its lock is held.
+// The command, where its lock is held. What is locked by OUT.lock alone is looked at again.
 fn run_held(
     rt: &HostRuntime,
     held: &Held,
-    guarded: Guarded,
-    kinds: &mut [u8],
+    guard: Guard,
+    kinds: &mut [Kind],
     ticks: &[u32],
-) -> u8 {
-    if held.status != 0 {
-        return held.status.min(2) as u8;
+) -> Result<Status, Status> {
+    held.status?;
+    if guard.lock == Lock::Name && guard.at < kinds.len() {
+        kinds[guard.at] = look(rt, guard.at, None)?;
     }
-    if held.by_name && guarded.at < kinds.len() {
-        match look(rt, guarded.at, None) {
-            Some(kind) => kinds[guarded.at] = kind,
-            None => return 2,
-        }
-    }
-    command::awaqlla_run(rt, kinds, ticks) as u8
+    Ok(command::run(rt, kinds, ticks))
 }

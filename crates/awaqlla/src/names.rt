@@ -1,20 +1,11 @@
 // Names of files as arguments give them, and what stands at a name.
-ghost use Rattle.io.specs.Counts.{IsPrefixLen};
-
-use command_io::{argument, folder_end, inside, text_of};
+use command_io::{folder_end, inside, text_of};
 use std::fs;
 use std::fs::Metadata;
 use std::io::{Error, ErrorKind};
 use std::os::unix::fs::MetadataExt;
 use std::path::PathBuf;
 use text_digits::put;
-
-// Puts the name at a place into the buffer, or its first bytes where it is longer, as no file's name is.
-pub(crate) fn name_at(rt: &HostRuntime, at: usize, out: &mut [u8]) -> usize
-    ensures { IsPrefixLen result out.new }
-{
-    argument(rt, at, out)
-}
 
 // Whether a name is one that std can open: text in UTF-8.
 pub(crate) fn is_name(path: &[u8]) -> bool {
@@ -32,12 +23,8 @@ pub(crate) fn link_at(rt: &HostRuntime, path: &[u8]) -> Result<Metadata, Error> 
 }
 
 // Whether an error says that there is no such file; any other error says nothing of the file.
-pub(crate) fn is_missing(error: Error) -> bool {
-    match error.kind() {
-        ErrorKind::NotFound => true,
-        ErrorKind::NotADirectory => true,
-        _ => false,
-    }
+pub(crate) fn is_missing(error: &Error) -> bool {
+    matches!(error.kind(), ErrorKind::NotFound | ErrorKind::NotADirectory)
 }
 
 // Whether two are one file.
@@ -53,27 +40,25 @@ pub(crate) fn real_path(rt: &HostRuntime, path: &[u8]) -> Result<PathBuf, Error>
 // So long a path cannot be opened.
 const MAX_PATH: usize = 4_096;
 
-// The path of a file without links, which need not be there; its folder must. 0 bytes where it is not, or where the path is too long.
-pub(crate) fn full_path(rt: &HostRuntime, path: &[u8], out: &mut [u8]) -> usize
-    ensures { IsPrefixLen result out.new }
-{
-    let size = put_path(rt, path, out);
-    inside(size, out)
+// The path of a file without links, which need not be there; its folder must. None where it is not, or where the path is too long.
+pub(crate) fn full_path<'a>(rt: &HostRuntime, path: &[u8], out: &'a mut [u8]) -> Option<&'a [u8]> {
+    let size = put_path(rt, path, out)?;
+    Some(inside(size, out))
 }
 
-fn put_path(rt: &HostRuntime, path: &[u8], out: &mut [u8]) -> usize {
+fn put_path(rt: &HostRuntime, path: &[u8], out: &mut [u8]) -> Option<usize> {
     match real_path(rt, path) {
-        Ok(full) => put(out, 0, full.as_str().as_bytes()),
+        Ok(full) => Some(put(out, 0, full.as_str().as_bytes())),
         Err(_) => put_missing(rt, path, out),
     }
 }
 
 // The same of a file that is not there: its folder's path, and its name.
-fn put_missing(rt: &HostRuntime, path: &[u8], out: &mut [u8]) -> usize {
-    let end = folder_end(path);
-    match folder_of(rt, &path[..end]) {
-        Ok(full) => put_in(full.as_str().as_bytes(), &path[end..], out),
-        Err(_) => 0,
+fn put_missing(rt: &HostRuntime, path: &[u8], out: &mut [u8]) -> Option<usize> {
+    let (folder, name) = path.split_at(folder_end(path));
+    match folder_of(rt, folder) {
+        Ok(full) => put_in(full.as_str().as_bytes(), name, out),
+        Err(_) => None,
     }
 }
 
@@ -82,21 +67,17 @@ fn folder_of(rt: &HostRuntime, folder: &[u8]) -> Result<PathBuf, Error> {
     let mut name = [0u8; 4_100];
     let at = put(&mut name, 0, folder);
     let end = put(&mut name, at, b".");
-    let size = inside(end, &name);
-    real_path(rt, &name[..size])
+    real_path(rt, inside(end, &name))
 }
 
 // Puts a folder's path and a name in it.
-fn put_in(folder: &[u8], name: &[u8], out: &mut [u8]) -> usize {
+fn put_in(folder: &[u8], name: &[u8], out: &mut [u8]) -> Option<usize> {
     let at = put(out, 0, folder);
-    let begin = if text_digits::same(folder, b"/") {
+    let begin = if matches!(folder, [b'/']) {
         at
     } else {
         put(out, at, b"/")
     };
     let end = put(out, begin, name);
-    if end < MAX_PATH {
-        return end;
-    }
-    0
+    (end < MAX_PATH).then_some(end)
 }

@@ -1,12 +1,11 @@
 // What the arguments ask for: the command, its options, or what is wrong with them.
 // Options stand before the other words, in any order, each once.
-use command_io::{Command, Flag, Options, argument};
+use command_io::{Command, Flag, Options, argument, behind, command_of, flag_of, read_number};
 
-// What is wrong with the options: nothing; the help is asked for instead; an option that stands twice, or none that the command takes, at a place;
-// no name behind --index, no number behind --wait.
-#[derive(Clone, Copy)]
+// Why the options are not taken: the help is asked for instead; an option that stands twice, or none that the command takes, at a place; no name behind
+// --index, no number behind --wait.
+#[derive(Clone, Copy, Debug, PartialEq, Eq)]
 pub(crate) enum Trouble {
-    Nothing,
     Help,
     Twice(usize),
     Unknown(usize),
@@ -14,13 +13,12 @@ pub(crate) enum Trouble {
     Timeless,
 }
 
-// What is asked for. While the options are read, `open` says that more may come.
-#[derive(Clone, Copy)]
+// What is asked for: the command, none where the word is none; its options, as far as they are read; and what is wrong with them.
+#[derive(Clone, Copy, Debug, PartialEq, Eq)]
 pub(crate) struct Asked {
-    pub(crate) command: Command,
+    pub(crate) command: Option<Command>,
     pub(crate) options: Options,
-    pub(crate) trouble: Trouble,
-    pub(crate) open: bool,
+    pub(crate) trouble: Option<Trouble>,
 }
 
 // The most words that options take, with `--`.
@@ -28,147 +26,79 @@ const MOST: usize = 16;
 
 // What the arguments ask for.
 pub(crate) fn arguments(rt: &HostRuntime) -> Asked {
-    let mut s = begun(rt);
-    let mut turns = MOST;
-    while turns > 0 {
-        s = turn(rt, s);
-        turns -= 1;
+    let mut room = [0u8; 16];
+    let command = command_of(argument(rt, 1, &mut room));
+    let mut options = Options {
+        first: 2,
+        ..Options::default()
+    };
+    for _ in 0..MOST {
+        let flag = flag_at(rt, options.first);
+        if !command.is_some_and(|command| command.takes(flag)) {
+            return closed(command, options, flag);
+        }
+        match with_option(rt, options, flag) {
+            Ok(more) => options = more,
+            Err(trouble) => {
+                return Asked {
+                    command,
+                    options,
+                    trouble: Some(trouble),
+                };
+            }
+        }
     }
-    s
-}
-
-// The command, before its options.
-fn begun(rt: &HostRuntime) -> Asked {
-    let mut word = [0u8; 16];
-    let size = argument(rt, 1, &mut word);
     Asked {
-        command: command_io::command_of(&word[..size]),
-        options: Options {
-            profile: false,
-            log: false,
-            tabs: false,
-            ticks: false,
-            make: false,
-            check: false,
-            index: 0,
-            wait: 0,
-            first: 2,
-        },
-        trouble: Trouble::Nothing,
-        open: true,
+        command,
+        options,
+        trouble: None,
     }
-}
-
-// One word more.
-fn turn(rt: &HostRuntime, s: Asked) -> Asked {
-    if !s.open {
-        return s;
-    }
-    let options = s.options;
-    let command = s.command;
-    let flag = flag_at(rt, options.first);
-    if command_io::takes(command, flag) {
-        return with_option(rt, s, flag);
-    }
-    closed(s, flag)
 }
 
 // The option at a place.
 fn flag_at(rt: &HostRuntime, at: usize) -> Flag {
-    let mut word = [0u8; 16];
-    let size = argument(rt, at, &mut word);
-    command_io::flag_of(&word[..size])
+    let mut room = [0u8; 16];
+    flag_of(argument(rt, at, &mut room))
 }
 
-// An option that the command takes.
-fn with_option(rt: &HostRuntime, s: Asked, flag: Flag) -> Asked {
-    let options = s.options;
-    let command = s.command;
+// The options with one more that the command takes.
+fn with_option(rt: &HostRuntime, options: Options, flag: Flag) -> Result<Options, Trouble> {
     let first = options.first;
-    if command_io::has_flag(options, flag) {
-        return over(s, Trouble::Twice(first));
+    if options.has(flag) {
+        return Err(Trouble::Twice(first));
     }
     match flag {
-        Flag::Index => with_index(rt, s, options),
-        Flag::Wait => with_wait(rt, s, options),
-        _ => Asked {
-            command,
-            options: command_io::with_flag(options, flag, first),
-            trouble: Trouble::Nothing,
-            open: true,
-        },
+        Flag::Index if !is_name(rt, behind(first, 1)) => Err(Trouble::Nameless),
+        Flag::Wait if seconds(rt, behind(first, 1)).is_none() => Err(Trouble::Timeless),
+        _ => Ok(options.with(flag, first)),
     }
 }
 
-// --index and the name behind it, which starts with no dash.
-fn with_index(rt: &HostRuntime, s: Asked, options: Options) -> Asked {
-    let command = s.command;
-    let first = options.first;
-    match flag_at(rt, behind(first)) {
-        Flag::Word => {
-            let mut word = [0u8; 2];
-            if argument(rt, behind(first), &mut word) == 0 {
-                return over(s, Trouble::Nameless);
-            }
-            Asked {
-                command,
-                options: command_io::with_flag(options, Flag::Index, first),
-                trouble: Trouble::Nothing,
-                open: true,
-            }
-        }
-        _ => over(s, Trouble::Nameless),
-    }
+// Whether a word is a file's name behind --index: it is not empty, and starts with no dash.
+fn is_name(rt: &HostRuntime, at: usize) -> bool {
+    let mut room = [0u8; 2];
+    flag_at(rt, at) == Flag::Word && !argument(rt, at, &mut room).is_empty()
 }
 
-// --wait and the seconds behind it.
-fn with_wait(rt: &HostRuntime, s: Asked, options: Options) -> Asked {
-    let command = s.command;
-    let first = options.first;
-    let mut word = [0u8; 16];
-    let size = argument(rt, behind(first), &mut word);
-    match command_io::read_number(&word[..size], 1_000_000) {
-        command_io::Number::Value(_) => Asked {
-            command,
-            options: command_io::with_flag(options, Flag::Wait, first),
-            trouble: Trouble::Nothing,
-            open: true,
-        },
-        command_io::Number::Nothing => over(s, Trouble::Timeless),
-    }
-}
-
-// The place behind a place.
-fn behind(at: usize) -> usize {
-    std::num::wrapping_add_usize(at, 1)
+// The seconds behind --wait.
+pub(crate) fn seconds(rt: &HostRuntime, at: usize) -> Option<u64> {
+    let mut room = [0u8; 16];
+    let seconds = read_number(argument(rt, at, &mut room), 1_000_000)?;
+    Some(seconds as u64)
 }
 
 // A word that is no option of the command: help, the end of the options, or the first of the others.
-fn closed(s: Asked, flag: Flag) -> Asked {
-    let options = s.options;
-    let command = s.command;
+fn closed(command: Option<Command>, options: Options, flag: Flag) -> Asked {
     let first = options.first;
-    match flag {
-        Flag::Help => over(s, Trouble::Help),
-        Flag::Word => over(s, Trouble::Nothing),
-        Flag::End => Asked {
-            command,
-            options: command_io::with_flag(options, Flag::End, first),
-            trouble: Trouble::Nothing,
-            open: false,
-        },
-        _ => over(s, Trouble::Unknown(first)),
-    }
-}
-
-// The end of the options, with what is wrong.
-fn over(s: Asked, trouble: Trouble) -> Asked {
-    let options = s.options;
-    let command = s.command;
+    let (options, trouble) = match flag {
+        Flag::End => (options.with(flag, first), None),
+        Flag::Word => (options, None),
+        Flag::Help => (options, Some(Trouble::Help)),
+        _ => (options, Some(Trouble::Unknown(first))),
+    };
     Asked {
         command,
         options,
         trouble,
-        open: false,
     }
 }
