@@ -5,28 +5,23 @@
 use journal::Rule;
 
 fn main(rt: HostRuntime) {
-    if command_io::arg_count(&rt) == 1 {
-        run(&rt, Rule::Plain);
-        return;
+    match command_io::arg_count(&rt) {
+        1 => run(&rt, Rule::Plain),
+        2 if command_io::is_argument(&rt, 1, b"--profile") => run(&rt, Rule::Profile),
+        _ => usage(&rt),
     }
-    if command_io::arg_count(&rt) == 2 && command_io::is_argument(&rt, 1, b"--profile") {
-        run(&rt, Rule::Profile);
-        return;
-    }
-    usage(&rt);
 }
 
 // By a rule.
 fn run(rt: &HostRuntime, rule: Rule) {
     let mut room = command_io::input_room();
     let mut input = rt.stdin();
-    let read = command_io::read_input(&mut input, &mut room);
-    if let Some(e) = read.failed {
-        command_io::fail_system(rt, b"list: standard input", e);
-        return;
+    match command_io::read_input(&mut input, &mut room) {
+        Ok(v) => {
+            command_list::print_listing(rt, v, rule, b"list: standard output");
+        }
+        Err(e) => command_io::fail_system(rt, b"list: standard input", e),
     }
-    let size = read.size;
-    command_list::print_listing(rt, &room[..size], rule, b"list: standard output");
 }
 
 // The help, if it is what the first argument asks for; any other argument is wrong.
