@@ -60,6 +60,6 @@ pub fn checked_status(answer: Result<(), IndexError>) -> Status
 {
     match answer {
         Ok(()) => Status::Done,
-        Err(_) => Status::Refused,
+        Err(_foreign) => Status::Refused,
     }
 }
