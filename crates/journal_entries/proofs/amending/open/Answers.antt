@@ -17,7 +17,7 @@ pub overflow_add-place : goal.overflow_add-place
 overflow_add-place c = let w = within (goal.at.overflow_add-place c).In-Err in omega arith
 
 pub copy_within-requires-clause-start_le_end : goal.copy_within-requires-clause-start_le_end
-copy_within-requires-clause-start_le_end c = (within (goal.at.copy_within-requires-clause-start_le_end c).In-Err).0
+copy_within-requires-clause-start_le_end c = let w = within (goal.at.copy_within-requires-clause-start_le_end c).In-Err in omega arith
 
 pub copy_within-requires-clause-dest_in_bounds : goal.copy_within-requires-clause-dest_in_bounds
 copy_within-requires-clause-dest_in_bounds c = let w = within (goal.at.copy_within-requires-clause-dest_in_bounds c).In-Err in omega arith
