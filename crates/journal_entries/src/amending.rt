@@ -47,8 +47,18 @@ fn open(index: &mut [u8], found: Result<usize, usize>, end: End, size: usize) ->
     match found {
         Ok(_) => end.count,
         Err(place) => {
-            index.copy_within(place..end.place, place + size);
+            shift(index, place, end.place, size);
             end.count + 1
         }
+    }
+}
+
+// Moves the bytes between two places up, the last one first. A loop: `copy_within` has the archive for C ask for memmove.
+fn shift(index: &mut [u8], from: usize, to: usize, size: usize)
+    requires { (from ≤ to) × (to + size ≤ length index.old) }
+    ensures { index.new ≡ copy_within index.old from to (from + size) }
+{
+    for i in (from..to).rev() {
+        index[i + size] = index[i];
     }
 }

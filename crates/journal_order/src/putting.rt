@@ -7,6 +7,16 @@ pub(crate) fn insert(places: &mut [u16], n: usize, i: usize, place: u16)
     requires { (n ≤ i) × (i < length places.old) }
     ensures { Inserted n i place places.old places.new }
 {
-    places.copy_within(n..i, n + 1);
+    shift(places, n, i);
     places[n] = place;
+}
+
+// Moves the places between two positions up by one, the last one first. A loop: `copy_within` has the archive for C ask for memmove.
+fn shift(places: &mut [u16], from: usize, to: usize)
+    requires { (from ≤ to) × (to + 1 ≤ length places.old) }
+    ensures { places.new ≡ copy_within places.old from to (from + 1) }
+{
+    for i in (from..to).rev() {
+        places[i + 1] = places[i];
+    }
 }
