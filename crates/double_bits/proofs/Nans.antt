@@ -1,7 +1,7 @@
 -- Where a pattern is a NaN's, and what the tests `x != x` and `is_nan` say of a value.
 -- The kit has one NaN with no bits, so all its patterns stand for it. Assumes nothing.
 use mathlib.Core.Path.{◌≡◌, refl}
-use mathlib.Core.Bool.{true, not}
+use mathlib.Core.Bool.{true, false, not}
 use Prim.Native.Nat.{ℕ, ◌*◌, ◌<◌, ◌≤◌, ◌%◌, ◌^◌}
 use native.Mathlib.Omega.{arith}
 use borrow.Author.Tests.{lt-ltb, le-ltb}
@@ -11,9 +11,15 @@ use lib.Ieee.{Float, nan, inf, fin, binary64, of_bits, nan_bits, is_nan, ne}
 use lib.Ieee.Compare.{differs_from_itself}
 use lib.Ieee.Bits.{nan_bits_above, nan_bits_is}
 
--- the test x != x
+-- the test x != x, both ways
 pub is_nan_lem : (x : Float) → ne x x ≡ true → x ≡ nan
 is_nan_lem x e = differs_from_itself x (passes (ne x x) e)
+
+pub no_nan : (x : Float) → ne x x ≡ false → is_nan x ≡ false
+unfolding ne is_nan
+no_nan nan e = e
+no_nan (inf s) e = refl
+no_nan (fin s m k) e = refl
 
 pub nan_only : (x : Float) → is_nan x ≡ true → x ≡ nan
 unfolding is_nan

@@ -11,7 +11,7 @@ use Rattle.facts.proofs.Orders.{by_order}
 use Rattle.text_digits.specs.Text.{room_for, Put}
 use Rattle.text_digits.proofs.Putting.{put_nothing, put_put, put_as, put_whole}
 use Rattle.limit.specs.Formula.{sample_form}
-use Rattle.journal_spec.specs.Bytes.{bytes_of, joined}
+use Rattle.journal_spec.specs.Bytes.{bytes_of, joined, AreBytes}
 use Rattle.journal_spec.specs.Section.{number_bytes, section_bytes}
 use Rattle.limit.specs.Times.{max_count}
 use Rattle.journal_spec.specs.Record.{max_name, max_chances, record_bytes}
@@ -83,6 +83,18 @@ module _ (d : List ℕ) (at w : ℕ) (xs : List ℕ) where
         let all : i ≡ length xs = omega (arith, l.few) in
         let text : take i xs ≡ xs = rw all (take-length xs) in
         put_as _ _ _ _ _ _ (ap (λ (ys : List ℕ). bytes_of 2 (length xs) ++ number_bytes w ys) text) (put_put _ _ _ _ _ _ _ _ count l.put)
+
+-- bytes are their own numbers of one byte
+bytes_alone : (xs : List ℕ) → AreBytes xs → number_bytes 1 xs ≡ xs
+unfolding number_bytes bytes_of
+bytes_alone [] h = refl
+bytes_alone (x ∷ xs) h =
+    let low : x % 256 ≡ x = omega (arith, h.0) in
+    rw (low, bytes_alone xs h.1) refl
+
+pub bytes_section : (xs : List ℕ) → AreBytes xs → bytes_of 2 (length xs) ++ xs ≡ section_bytes 1 xs
+unfolding section_bytes
+bytes_section xs h = ap (λ (bs : List ℕ). bytes_of 2 (length xs) ++ bs) (sym (bytes_alone xs h))
 
 -- ---- the record
 

@@ -80,18 +80,24 @@ module _ (b : List ℕ) (at n w high : ℕ) (rising : Bool) (refusal first : ℕ
         let count : n ≡ length g.before = omega (arith, g.passed.count) in
         rw (items_end w (item_refusal rising first high refusal) n at b left g.before p g.passed e, count, g.total, g.squared)
 
-    -- one number more stands in the bytes and leaves the sums below 2 ^ 64
-    pub numbering_fits : 0 < left → n ≤ max_count → high ≤ max_ticks → 0 < refusal → (x : ℕ) → Ok x ≡ field_at w low high refusal p b
-        → Fitting b w p sum squares x
-    numbering_fits pos few small some x read =
+    -- one number more leaves the sums below 2 ^ 64
+    pub numbering_fits : (x : ℕ) → 0 < left → n ≤ max_count → x ≤ max_ticks → (sum + x < 2 ^ 64) × (squares + x * x < 2 ^ 64)
+    numbering_fits x pos few small =
         let room : length g.before < max_count = omega (arith, g.passed.count) in
+        rw (g.total, g.squared) (sum_fits g.before x g.each room small, squares_fit g.before x g.each room small)
+
+    -- so does one that stands in the bytes
+    pub numbering_fitting : 0 < left → n ≤ max_count → high ≤ max_ticks → 0 < refusal → (x : ℕ) → Ok x ≡ field_at w low high refusal p b
+        → Fitting b w p sum squares x
+    numbering_fitting pos few small some x read =
         let v = field_value w low high refusal p b some _ read x refl in
         let most : x ≤ max_ticks = omega (arith, v.most) in
+        let fits = numbering_fits x pos few most in
         record {
           there = v.there;
           most = most;
-          total = rw g.total (sum_fits g.before x g.each room most);
-          squared = rw g.squared (squares_fit g.before x g.each room most);
+          total = fits.0;
+          squared = fits.1;
         }
 
     -- the field's range is that of the next number

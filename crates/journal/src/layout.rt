@@ -20,7 +20,7 @@ pub(crate) fn lay_record(out: &mut [u8], offer: &Offer, limits: &[u64]) -> usize
         out.new result }
 {
     let of_head = lay_head(out, offer.day);
-    let of_name = lay_section(out, of_head, 1, offer.name);
+    let of_name = lay_bytes(out, of_head, offer.name);
     let of_chances = lay_section(out, of_name, 4, offer.chances);
     let of_times = lay_section(out, of_chances, 4, offer.times);
     lay_section(out, of_times, 8, limits)
@@ -34,21 +34,21 @@ fn lay_head(out: &mut [u8], day: u16) -> usize
     lay_number(out, of_form, 2, day as u64)
 }
 
-// What a section holds: bytes of a name, chances or times, or the bits of limits.
+// The name's section: the count of its bytes, and these, put at once. As a section of numbers of one byte each an append takes up to half its time more.
+fn lay_bytes(out: &mut [u8], at: usize, bytes: &[u8]) -> usize
+    ensures { Put out.old at (section_bytes 1 bytes.now) out.new result }
+{
+    let p = lay_number(out, at, 2, bytes.len() as u64);
+    put(out, p, bytes)
+}
+
+// What a section of numbers holds: chances or times, or the bits of limits.
 trait Number: Copy {
     ghost value: { Self → ℕ };
 
     // The number itself.
     fn number(self) -> u64
         ensures { result ≡ value self };
-}
-
-impl Number for u8 {
-    ghost value = { λ x. x };
-
-    fn number(self) -> u64 {
-        self as u64
-    }
 }
 
 impl Number for u32 {
@@ -67,7 +67,7 @@ impl Number for u64 {
     }
 }
 
-// A section: the count of its numbers, and these in w bytes each.
+// A section of numbers: their count, and these in w bytes each.
 fn lay_section<T: Number>(out: &mut [u8], at: usize, w: usize, numbers: &[T]) -> usize
     requires { w ≤ 8 }
     ensures { Put out.old at (section_bytes w (map T.value numbers.now)) out.new result }

@@ -1,16 +1,15 @@
--- The order of two names is that of slices of bytes: the library's `cmp` and `<` answer it. And equal names end alike.
+-- The order of two names is that of slices of bytes: the library's `cmp` answers it. And equal names end alike.
 -- Assumes nothing.
 use mathlib.Core.Path.{◌≡◌, refl, ap, ◌∙◌}
 use Prim.Native.Nat.{ℕ}
 use mathlib.Core.List.{List, [], ◌∷◌}
 use mathlib.Core.Bool.{Bool}
 use native.Mathlib.Omega.{arith}
-use Rattle.std.specs.Prelude.{Some}
-use Rattle.std.specs.Cmp.Lexicographic.{slice_cmp, slice_partial_cmp}
-use Rattle.std.specs.Ordering.{nat_cmp, is_lt, is_some_and}
+use Rattle.std.specs.Cmp.Lexicographic.{slice_cmp}
+use Rattle.std.specs.Ordering.{nat_cmp, is_lt}
 use Rattle.std.specs.declared.cmp.Ordering.{Ordering}
+use Rattle.std.specs.declared.cmp.Ordering.TheVariants.{Less, Equal, Greater}
 use Rattle.std.proofs.lemmas.Bool.Decides.{nat_tests}
-use Rattle.std.proofs.lemmas.Cmp.{same_from_slice_cmp_tested}
 use Rattle.journal_spec.specs.Index.{order_of}
 use Rattle.journal_entries.specs.Shape.{is_lower, is_below}
 use Rattle.journal_entries.specs.Answers.{order_meaning}
@@ -27,8 +26,10 @@ cmp_orders (x ∷ xs) (y ∷ ys) = let ih = cmp_orders xs ys in grind (arith, na
 pub order_by_cmp : (xs ys : List ℕ) (r : Ordering) → r ≡ slice_cmp nat_cmp xs ys → order_meaning r ≡ order_of xs ys
 order_by_cmp xs ys r e = ap order_meaning e ∙ cmp_orders xs ys
 
--- ---- `<`
+-- ---- which comes first
 
-pub below_by_lt : (xs ys : List ℕ) (r : Bool) → r ≡ is_some_and is_lt (slice_partial_cmp (λ x y. Some (nat_cmp x y)) xs ys) → r ≡ is_below xs ys
-unfolding is_below is_lower order_of
-below_by_lt = same_from_slice_cmp_tested nat_cmp is_lt is_below refl (λ _ _. refl) (λ _ _. refl) (λ x y xs ys o h. grind (arith, nat_tests))
+pub below_by_order : (xs ys : List ℕ) (o : Ordering) (r : Bool) → order_meaning o ≡ order_of xs ys → r ≡ is_lt o → r ≡ is_below xs ys
+unfolding is_below is_lower order_meaning
+below_by_order xs ys Less r e f = f ∙ ap is_lower e
+below_by_order xs ys Equal r e f = f ∙ ap is_lower e
+below_by_order xs ys Greater r e f = f ∙ ap is_lower e

@@ -1,6 +1,7 @@
 // The index in a buffer amended by a record: the start of its name's entry is replaced, or an entry is inserted in its place and the count raised.
 // Every byte beyond the index stays, and where the amended index has no room every byte does.
-ghost use Rattle.std.specs.Prelude.{◌≡◌, ℕ, ◌+◌, ◌≤◌, ◌<◌, length, leb, is_ok, false};
+ghost use Rattle.std.specs.Prelude.{◌≡◌, ℕ, ◌+◌, ◌-◌, ◌≤◌, ◌<◌, length, take, drop, leb, is_ok, false};
+ghost use Rattle.journal_spec.specs.Append.{written};
 ghost use Rattle.journal_entries.specs.Amending.{next_bytes, amended_in, Opened};
 ghost use Rattle.journal_entries.specs.Places.{place_of};
 
@@ -47,8 +48,18 @@ fn open(index: &mut [u8], found: Result<usize, usize>, end: End, size: usize) ->
     match found {
         Ok(_) => end.count,
         Err(place) => {
-            index.copy_within(place..end.place, place + size);
+            shift(index, place, end.place, size);
             end.count + 1
         }
+    }
+}
+
+// Moves the bytes between two places up, the last one first. A loop: `copy_within` has the archive for C ask for memmove.
+fn shift(index: &mut [u8], from: usize, to: usize, size: usize)
+    requires { (from ≤ to) × (to + size ≤ length index.old) }
+    ensures { index.new ≡ written index.old (from + size) (take (to - from) (drop from index.old)) }
+{
+    for i in (from..to).rev() {
+        index[i + size] = index[i];
     }
 }

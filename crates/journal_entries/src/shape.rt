@@ -3,6 +3,7 @@
 ghost use Rattle.std.specs.Prelude.{◌≡◌};
 ghost use Rattle.journal_entries.specs.Shape.{is_below, is_index};
 
+use crate::names::order_of;
 use crate::walking::entry_at;
 use journal_parts::number_in;
 
@@ -32,5 +33,5 @@ pub fn is_index(b: &[u8]) -> bool
 pub fn is_below(low: &[u8], name: &[u8]) -> bool
     ensures { result ≡ is_below low.now name.now }
 {
-    low < name
+    order_of(low, name).is_lt()
 }

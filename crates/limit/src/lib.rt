@@ -47,6 +47,7 @@ pub struct Figures {
 }
 
 // The limit of the times at a chance in a million, under a form, with the other figures.
+#[tactic(auto, unfolding(crate::specs::Answer::meaning, crate::specs::Limit::limit_of, crate::specs::Limit::judge, crate::specs::Sums::gathered_meaning, crate::specs::Sums::gather_of))]
 pub fn limit(form: u64, times: &[u32], chance: u32) -> Result<Figures, Refusal>
     ensures { meaning result ≡ limit_of form times.now chance }
 {
@@ -60,6 +61,7 @@ pub fn limit(form: u64, times: &[u32], chance: u32) -> Result<Figures, Refusal>
 }
 
 // Mean and spread of the times alone, under a form.
+#[tactic(auto, unfolding(crate::specs::Answer::moments_meaning, crate::specs::Limit::moments_of_times, crate::specs::Sums::gathered_meaning, crate::specs::Sums::gather_of))]
 pub fn moments_of_times(form: u64, times: &[u32]) -> Result<Moments, Refusal>
     ensures { moments_meaning result ≡ moments_of_times form times.now }
 {
@@ -69,6 +71,7 @@ pub fn moments_of_times(form: u64, times: &[u32]) -> Result<Moments, Refusal>
 
 // Mean and spread under a form of times whose sums are known. Sums outside the bounds that the sums of times in range meet are refused as
 // such times are.
+#[tactic(auto, unfolding(crate::specs::Answer::moments_meaning, crate::specs::Limit::moments_of_sums))]
 pub fn moments_of_sums(form: u64, s: Sums) -> Result<Moments, Refusal>
     ensures { moments_meaning result ≡ moments_of_sums form s }
 {
@@ -87,6 +90,7 @@ pub fn limit_of_moments(m: Result<Moments, Refusal>, chance: u32) -> Result<Figu
 }
 
 // The same with a quantile that is already known: where it is that of the chance, this is the limit at the chance.
+#[tactic(auto, unfolding(crate::specs::Answer::meaning, crate::specs::Answer::moments_meaning, crate::specs::Limit::limit_of_quantile))]
 pub fn limit_of_quantile(
     m: Result<Moments, Refusal>,
     chance: u32,

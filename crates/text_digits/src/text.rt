@@ -2,7 +2,8 @@
 // What has no room is left out, so that any line and any place are fine.
 // The line and the place in it stay two parameters here and above: a struct of both that lends the line was tried. Its `put` proves, but two puts
 // through it do not unless each contract also says that it still lends the same bytes; and each array filled at its front would need one.
-ghost use Rattle.std.specs.Prelude.{◌≡◌, ◌-◌, min};
+ghost use Rattle.std.specs.Prelude.{◌≡◌, ◌-◌, ◌≤◌, min, length};
+ghost use Rattle.std.proofs.Math.Seq.{paste};
 ghost use Rattle.text_digits.specs.Hex.{decimal_digits};
 ghost use Rattle.text_digits.specs.Text.{Put};
 
@@ -14,10 +15,18 @@ pub fn put(line: &mut [u8], place: usize, text: &[u8]) -> usize
     ensures { Put line.old place text.now line.new result }
 {
     let count = room_for(line.len(), place, text.len());
-    if count > 0 {
-        line[place..place + count].copy_from_slice(&text[..count]);
-    }
+    copy(line, place, text, count);
     place + count
+}
+
+// Copies the first bytes of text into the line from a place on. A loop: `copy_from_slice` has the archive for C ask for memmove.
+fn copy(line: &mut [u8], place: usize, text: &[u8], count: usize)
+    requires { (count ≤ length line.old - place) × (count ≤ length text.now) }
+    ensures { line.new ≡ paste line.old place text.now count }
+{
+    for i in 0..count {
+        line[place + i] = text[i];
+    }
 }
 
 // How many of the wanted bytes have room from a place on.

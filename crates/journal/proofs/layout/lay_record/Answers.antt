@@ -8,11 +8,10 @@ use Rattle.journal.proofs.layout.lay_record.Goals as goal
 pub returns : goal.returns
 returns c =
     let a = c.args.offer.now in
-    let name = rw (map-id a.name.now) at c.lay_section-of_name.ensures in
     let chances = rw (map-id a.chances.now) at c.lay_section-of_chances.ensures in
     let times = rw (map-id a.times.now) at c.lay_section-of_times.ensures in
     let limits = rw (map-id c.args.limits.now) at c.lay_section.ensures in
-    let two = put_put _ _ _ _ _ _ _ _ c.lay_head-of_head.ensures name in
+    let two = put_put _ _ _ _ _ _ _ _ c.lay_head-of_head.ensures c.lay_bytes-of_name.ensures in
     let three = put_put _ _ _ _ _ _ _ _ two chances in
     let four = put_put _ _ _ _ _ _ _ _ three times in
     put_as _ _ _ _ _ _ (record_parts _ _ _ _ _) (put_put _ _ _ _ _ _ _ _ four limits)

@@ -6,7 +6,7 @@ use native.Mathlib.Omega.{arith}
 use Rattle.std.proofs.lemmas.Result.{err_from_is_err_and}
 use Rattle.refusals.specs.Refusals.{number_of}
 use Rattle.journal.specs.Found.{numbers_at}
-use Rattle.journal.proofs.RuleLoop.{numbering_start, numbering_end, numbering_halted, numbering_fits, numbering_more}
+use Rattle.journal.proofs.RuleLoop.{numbering_start, numbering_end, numbering_halted, numbering_fitting, numbering_more}
 use Rattle.journal.proofs.section.numbers_at.Goals as goal
 
 pub loop-i-init : goal.loop-i-init
@@ -18,22 +18,22 @@ loop-i-init c =
 
 pub least_next-low-requires : goal.least_next-low-requires
 least_next-low-requires c =
-    let fits = numbering_fits _ _ _ _ _ _ _ _ _ _ _ _ _ c.loop-i.invariant (omega arith) c.requires.1 c.requires.3.greatest c.requires.3.refuses _ c.in_ok-x.ensures in
+    let fits = numbering_fitting _ _ _ _ _ _ _ _ _ _ _ _ _ c.loop-i.invariant (omega arith) c.requires.1 c.requires.3.greatest c.requires.3.refuses _ c.in_ok-x.ensures in
     omega (arith, fits.most)
 
 pub overflow_add-sum : goal.overflow_add-sum
 overflow_add-sum c =
-    let fits = numbering_fits _ _ _ _ _ _ _ _ _ _ _ _ _ c.loop-i.invariant (omega arith) c.requires.1 c.requires.3.greatest c.requires.3.refuses _ c.in_ok-x.ensures in
+    let fits = numbering_fitting _ _ _ _ _ _ _ _ _ _ _ _ _ c.loop-i.invariant (omega arith) c.requires.1 c.requires.3.greatest c.requires.3.refuses _ c.in_ok-x.ensures in
     omega (arith, fits.total)
 
 pub overflow_mul-squares : goal.overflow_mul-squares
 overflow_mul-squares c =
-    let fits = numbering_fits _ _ _ _ _ _ _ _ _ _ _ _ _ c.loop-i.invariant (omega arith) c.requires.1 c.requires.3.greatest c.requires.3.refuses _ c.in_ok-x.ensures in
+    let fits = numbering_fitting _ _ _ _ _ _ _ _ _ _ _ _ _ c.loop-i.invariant (omega arith) c.requires.1 c.requires.3.greatest c.requires.3.refuses _ c.in_ok-x.ensures in
     omega (arith, fits.squared)
 
 pub overflow_add-squares : goal.overflow_add-squares
 overflow_add-squares c =
-    let fits = numbering_fits _ _ _ _ _ _ _ _ _ _ _ _ _ c.loop-i.invariant (omega arith) c.requires.1 c.requires.3.greatest c.requires.3.refuses _ c.in_ok-x.ensures in
+    let fits = numbering_fitting _ _ _ _ _ _ _ _ _ _ _ _ _ c.loop-i.invariant (omega arith) c.requires.1 c.requires.3.greatest c.requires.3.refuses _ c.in_ok-x.ensures in
     omega (arith, fits.squared)
 
 pub loop-i-preserved : goal.loop-i-preserved

@@ -1,9 +1,9 @@
 -- `open` moves nothing where the name is there.
 -- Assumes nothing.
+use mathlib.Core.Path.{sym, ◌∙◌}
 use Prim.Native.Nat.{◌+◌, ◌≤◌}
-use native.Mathlib.Omega.{arith}
 use lib.ListN.{length}
-use Rattle.journal_entries.proofs.Opening.{open_kept, open_moved, place_in, room_in}
+use Rattle.journal_entries.proofs.Opening.{copied_written, open_kept, open_moved, place_in, room_in}
 use Rattle.journal_entries.proofs.amending.open.Goals as goal
 use Rattle.journal_entries.proofs.amending.open.Goals.{In-Err}
 
@@ -13,15 +13,10 @@ within c = let p = c.requires in (place_in _ _ _ c.in-Err.is p.place_le_place.0,
 pub returns-in-Ok : goal.returns-in-Ok
 returns-in-Ok c = open_kept _ _ _ _ _ c.in-Ok.is
 
-pub overflow_add-place : goal.overflow_add-place
-overflow_add-place c = let w = within (goal.at.overflow_add-place c).In-Err in omega arith
-
-pub copy_within-requires-clause-start_le_end : goal.copy_within-requires-clause-start_le_end
-copy_within-requires-clause-start_le_end c = (within (goal.at.copy_within-requires-clause-start_le_end c).In-Err).0
-
-pub copy_within-requires-clause-dest_in_bounds : goal.copy_within-requires-clause-dest_in_bounds
-copy_within-requires-clause-dest_in_bounds c = let w = within (goal.at.copy_within-requires-clause-dest_in_bounds c).In-Err in omega arith
+pub shift-requires : goal.shift-requires
+shift-requires c = within (goal.at.shift-requires c).In-Err
 
 pub returns-in-Err : goal.returns-in-Err
 returns-in-Err c =
-    open_moved _ _ _ _ _ _ c.in-Err.is (within (goal.at.returns-in-Err c).In-Err).0 (c.requires.place_le_place.1) c.copy_within.ensures.after
+    let w = within (goal.at.returns-in-Err c).In-Err in
+    open_moved _ _ _ _ _ _ c.in-Err.is w.0 (c.requires.place_le_place.1) (c.shift.ensures ∙ sym (copied_written _ _ _ _ w.0 (c.requires.place_le_place.1)))

@@ -4,8 +4,8 @@ use native.Mathlib.Omega.{arith}
 use Rattle.journal_entries.proofs.ByCounts.{size_none, size_beyond, entry_is}
 use Rattle.journal_entries.proofs.walking.entry_at.Goals as goal
 
-pub returns-in_err-room : goal.returns-in_err-room
-returns-in_err-room c = let h = size_none c.args.index.now c.args.at in grind arith
+pub returns-then-index-at : goal.returns-then-index-at
+returns-then-index-at c = size_none _ _ (omega arith)
 
 pub returns-then-room-lt6 : goal.returns-then-room-lt6
 returns-then-room-lt6 c = size_none _ _ (omega arith)
