@@ -74,6 +74,7 @@ pub(crate) struct Entry {
 }
 
 // The record at a place by a rule: one that is whole and breaks the rule is refused at its first byte. What is torn is not judged by it.
+#[tactic(auto, using(crate::proofs::InProfile::halted_stays), unfolding(crate::specs::Records::record_by, journal_spec::specs::Scan::record_at, crate::specs::Records::record_at))]
 pub(crate) fn record_by(
     b: &[u8],
     at: usize,
