@@ -1,4 +1,6 @@
 // Names of files as arguments give them, and what stands at a name.
+ghost use Rattle.std.specs.Prelude.{◌≤◌, length, IfSome};
+
 use command_io::{folder_end, inside, text_of};
 use std::fs;
 use std::fs::Metadata;
@@ -41,7 +43,9 @@ pub(crate) fn real_path(rt: &HostRuntime, path: &[u8]) -> Result<PathBuf, Error>
 const MAX_PATH: usize = 4_096;
 
 // The path of a file without links, which need not be there; its folder must. None where it is not, or where the path is too long.
-pub(crate) fn full_path<'a>(rt: &HostRuntime, path: &[u8], out: &'a mut [u8]) -> Option<&'a [u8]> {
+pub(crate) fn full_path<'a>(rt: &HostRuntime, path: &[u8], out: &'a mut [u8]) -> Option<&'a [u8]>
+    ensures { IfSome result (λ full. length full.now ≤ length out.old) }
+{
     let size = put_path(rt, path, out)?;
     Some(inside(size, out))
 }

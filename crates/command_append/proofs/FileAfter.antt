@@ -1,6 +1,6 @@
 -- What `Extends` gives the program: the part that the file gets is the offered record, whole, from the committed length on, and the file with
--- it is the journal of the new length. Where nothing is written the part is empty and the slice is as before. Assumes nothing.
-use Rattle.std.proofs.Common.{◌≡◌, ℕ, ◌-◌, ◌<◌, Result, List, ◌++◌, take, drop, sym, refl, ap, ◌∙◌, arith, take-take}
+-- it is the journal of the new length. Where nothing is written the answer is no part, and the slice is as before. Assumes nothing.
+use Rattle.std.proofs.Common.{◌≡◌, ℕ, ◌-◌, ◌<◌, Result, Ok, Err, List, ◌++◌, take, drop, sym, refl, ap, ◌∙◌, arith, take-take}
 use mathlib.Core.Option.{Option}
 use Rattle.journal_spec.specs.Record.{record_bytes}
 use Rattle.journal_spec.specs.Profile.{Rule}
@@ -11,7 +11,7 @@ use Rattle.journal_spec.proofs.Writing.{written_nil}
 use Rattle.journal_spec.proofs.Placing.{written_take}
 use Rattle.journal.specs.declared.AppendError.{AppendError}
 use Rattle.command_append.specs.declared.extend.Extension.{Extension}
-use Rattle.journal.specs.Answers.{outcome_with}
+use Rattle.journal.specs.Answers.{append_meaning, outcome_with}
 use Rattle.command_append.specs.Extension.{committed_in, start_in, end_in, part_in, start_of, end_of, append_all, Extends}
 use Rattle.command_append.proofs.WrittenPart.{Extended, append_extended, offered_length, Unwritten, empty}
 
@@ -34,9 +34,15 @@ module _ (slice : List ℕ) (len : ℕ) (rule : Rule) (o : Offer) (i : Option (L
     unfolding part_in
     part_is_record = x.part ∙ rw told refl
 
-    -- the program writes a part that is not empty: this one is not
+    -- the part has the record's bytes: it is not empty
     pub part_not_empty : start_of r < end_of r
     part_not_empty = omega (arith, part_starts, part_ends, all.place, offered_length o)
+
+    -- the program writes where the answer is a part: here it is one, and no error
+    pub answer_is_part : (error : AppendError) → r ≡ Err error → ⊥
+    answer_is_part error h =
+        let none : 0 < 0 = rw h at part_not_empty in
+        omega (arith, none)
 
     -- the file held the journal; cut at the part's start, with the part behind it, it holds the journal of the new length
     pub file_after : take (start_of r) (take len slice) ++ take (end_of r - start_of r) (drop (start_of r) after) ≡ take n after
@@ -51,3 +57,8 @@ module _ (slice : List ℕ) (len : ℕ) (rule : Rule) (o : Offer) (i : Option (L
   nothing_written u =
       let none = empty (scan_of rule slice len) o (append_all slice len rule o i).answer u in
       (x.starts ∙ none.starts ∙ sym (x.ends ∙ none.ends), x.rest ∙ rw none.part (written_nil slice (start_of r)))
+
+  -- the answer is then no part, so that the program writes nothing
+  pub answer_is_error : Unwritten (append_all slice len rule o i).answer → (part : Extension) → r ≡ Ok part → ⊥
+  unfolding outcome_with append_meaning
+  answer_is_error u part h = u part.end (sym (ap (λ (y : Outcome). y.answer) x.outcome) ∙ rw h refl)

@@ -39,7 +39,7 @@ fn take_text(rt: &HostRuntime, ticks: &mut [u32]) -> Result<usize, Status> {
     match read_input(&mut input, &mut room) {
         Ok(text) if text.len() <= MAX_TEXT => take_ticks(rt, text, ticks),
         Ok(_) => Err(fail(rt, b"standard input: more than 65536 bytes")),
-        Err(e) => Err(fail_input(rt, e)),
+        Err(unread) => Err(fail_input(rt, unread.error)),
     }
 }
 

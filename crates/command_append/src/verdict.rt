@@ -46,6 +46,8 @@ pub fn status_of(answer: Result<usize, AppendError>) -> Status
 {
     match answer {
         Ok(_) => Status::Done,
-        Err(_) => Status::Refused,
+        Err(AppendError::Declined(_)) => Status::Refused,
+        Err(AppendError::DeclinedAt(_)) => Status::Refused,
+        Err(AppendError::Damaged(_)) => Status::Refused,
     }
 }

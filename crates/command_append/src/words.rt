@@ -52,7 +52,9 @@ pub(crate) fn read_chances<'a>(
     rt: &HostRuntime,
     o: Options,
     out: &'a mut [u32],
-) -> Result<&'a [u32], Status> {
+) -> Result<&'a [u32], Status>
+    ensures { IfOk result (λ read. length read.now ≤ length out.old) }
+{
     match chances(rt, behind(o.first, 3), out) {
         Ok(chances) => Ok(chances),
         Err(which) => Err(malformed(rt, b"CHANCE", which, b"1 to 500000")),
@@ -60,7 +62,9 @@ pub(crate) fn read_chances<'a>(
 }
 
 // The chances from a place on; or which argument is none, counted from 1. All are read, so that one that is no number is found.
-fn chances<'a>(rt: &HostRuntime, from: usize, out: &'a mut [u32]) -> Result<&'a [u32], usize> {
+fn chances<'a>(rt: &HostRuntime, from: usize, out: &'a mut [u32]) -> Result<&'a [u32], usize>
+    ensures { IfOk result (λ read. length read.now ≤ length out.old) }
+{
     let mut count = 0;
     for i in from..command_io::arg_count(rt) {
         let Some(n) = chance(rt, i) else {

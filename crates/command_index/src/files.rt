@@ -41,7 +41,7 @@ fn read_from<'a>(
     if 0 < start {
         file.seek(SeekFrom::Start(start.min(MAX_LENGTH) as u64))?;
     }
-    read_input(&mut file, out)
+    Ok(read_input(&mut file, out)?)
 }
 
 // Writes the index to the file that an argument names, which is made where it is missing. Where that fails, what failed is said.

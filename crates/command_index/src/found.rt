@@ -98,7 +98,9 @@ pub fn looked_status(found: Result<usize, LookError>) -> command_io::Status
 {
     match found {
         Ok(_) => command_io::Status::Done,
-        Err(_) => command_io::Status::Refused,
+        Err(LookError::Absent) => command_io::Status::Refused,
+        Err(LookError::Other) => command_io::Status::Refused,
+        Err(LookError::Damaged(_)) => command_io::Status::Refused,
     }
 }
 

@@ -51,7 +51,8 @@ pub fn made_status(answer: Result<usize, IndexError>) -> Status
 {
     match answer {
         Ok(_) => Status::Done,
-        Err(_) => Status::Refused,
+        Err(IndexError::Declined(_)) => Status::Refused,
+        Err(IndexError::Damaged(_)) => Status::Refused,
     }
 }
 
@@ -60,6 +61,7 @@ pub fn checked_status(answer: Result<(), IndexError>) -> Status
 {
     match answer {
         Ok(()) => Status::Done,
-        Err(_foreign) => Status::Refused,
+        Err(IndexError::Declined(_foreign)) => Status::Refused,
+        Err(IndexError::Damaged(_)) => Status::Refused,
     }
 }

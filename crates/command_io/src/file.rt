@@ -58,7 +58,7 @@ fn read_held(
             size: read.len(),
             file: Some(file),
         }),
-        Err(e) => Err(fail_file_of(rt, path, e)),
+        Err(unread) => Err(fail_file_of(rt, path, unread.error)),
     }
 }
 

@@ -1,10 +1,9 @@
 // What the programs that open files share: the three standard streams, a file read to its end, the sync of a file's folder, and what is said of a
 // file.
 // `program` starts each message, as in `append: `.
-ghost use Rattle.std.specs.Prelude.{◌≤◌, length, IfOk};
+ghost use Rattle.std.specs.Prelude.{◌≤◌, length, IfErr, IfOk};
 
-use crate::ending::Status;
-use crate::input::read_input;
+use crate::input::{Unread, read_input, refused};
 use crate::message::{fail, fail_file_of};
 use crate::path::folder_end;
 use crate::system::{arg, fail_system, open_read, write_error};
@@ -47,42 +46,51 @@ pub fn read_argument<'a>(
     i: usize,
     nameless: &[u8],
     out: &'a mut [u8],
-) -> Result<&'a [u8], Status>
-    ensures { IfOk result (λ read. length read.now ≤ length out.old) }
+) -> Result<&'a [u8], Unread>
+    ensures ok { IfOk result (λ read. length read.now ≤ length out.old) }
+    ensures err { IfErr result (λ unread. unread.read ≤ length out.old) }
 {
     let mut room = io::buffer();
     let Some(path) = arg(rt, i, &mut room) else {
         complain(rt, program, nameless);
-        return Err(Status::Failed);
+        return Err(refused());
     };
     match read_whole(rt, path, out) {
         Ok(read) => Ok(read),
-        Err(e) => {
-            fail_file(rt, program, path, e);
-            Err(Status::Failed)
+        Err(unread) => {
+            fail_file(rt, program, path, unread.error);
+            Err(unread)
         }
     }
 }
 
 // Reads a file; what fails is not said.
-fn read_whole<'a>(rt: &HostRuntime, path: &[u8], out: &'a mut [u8]) -> Result<&'a [u8], Error>
-    ensures { IfOk result (λ read. length read.now ≤ length out.old) }
+fn read_whole<'a>(rt: &HostRuntime, path: &[u8], out: &'a mut [u8]) -> Result<&'a [u8], Unread>
+    ensures ok { IfOk result (λ read. length read.now ≤ length out.old) }
+    ensures err { IfErr result (λ unread. unread.read ≤ length out.old) }
 {
-    let mut file = open_read(rt, path)?;
-    read_input(&mut file, out)
+    match open_read(rt, path) {
+        Ok(mut file) => read_input(&mut file, out),
+        Err(error) => Err(Unread { read: 0, error }),
+    }
 }
 
 // Reads the file that an argument names to its end, or as much as there is room for; where that fails, awaqlla says what failed.
-pub fn read_named<'a>(rt: &HostRuntime, at: usize, out: &'a mut [u8]) -> Result<&'a [u8], Status>
-    ensures { IfOk result (λ read. length read.now ≤ length out.old) }
+pub fn read_named<'a>(rt: &HostRuntime, at: usize, out: &'a mut [u8]) -> Result<&'a [u8], Unread>
+    ensures ok { IfOk result (λ read. length read.now ≤ length out.old) }
+    ensures err { IfErr result (λ unread. unread.read ≤ length out.old) }
 {
     let mut room = io::buffer();
     let Some(path) = arg(rt, at, &mut room) else {
-        return Err(fail(rt, b"FILE: not a path"));
+        fail(rt, b"FILE: not a path");
+        return Err(refused());
     };
     match read_whole(rt, path, out) {
         Ok(read) => Ok(read),
-        Err(e) => Err(fail_file_of(rt, path, e)),
+        Err(unread) => {
+            fail_file_of(rt, path, unread.error);
+            Err(unread)
+        }
     }
 }
 

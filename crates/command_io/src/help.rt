@@ -16,5 +16,5 @@ pub fn is_help(word: &[u8]) -> bool
 // Whether the argument at a place is a word, of at most 32 bytes.
 pub fn is_argument(rt: &HostRuntime, at: usize, word: &[u8]) -> bool {
     let mut room = [0u8; 32];
-    arg(rt, at, &mut room).is_some_and(|argument| argument == word)
+    arg(rt, at, &mut room).unwrap_or(b"") == word
 }

@@ -24,7 +24,7 @@ pub use ending::Status;
 pub use file::{Held, made, open_held, path_at, write_synced};
 pub use files::{complain, fail_file, read_argument, read_named, streams_are_open, sync_folder};
 pub use help::{is_argument, is_help};
-pub use input::{input_room, read_input};
+pub use input::{Unread, input_room, read_input, refused};
 pub use kinds::{Access, Kind, Stands, apart, input_apart, is_guarded, kind_at, readable};
 pub use message::{
     argument, await_input, fail, fail_argument, fail_between, fail_file_of, fail_of, print_verdict,

@@ -28,7 +28,7 @@ pub fn list(rt: &HostRuntime, o: Options, kinds: &[Kind]) -> command_io::Status 
     let mut room = input_room();
     match read_volume(rt, o.first, kinds, &mut room) {
         Ok(v) => list_volume(rt, v, rule_of(o)),
-        Err(status) => status,
+        Err(unread) => command_io::Status::from(unread),
     }
 }
 

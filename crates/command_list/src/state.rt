@@ -50,7 +50,7 @@ pub fn survey(rt: &HostRuntime, o: Options, kinds: &[Kind]) -> command_io::Statu
     let mut room = input_room();
     match read_volume(rt, o.first, kinds, &mut room) {
         Ok(v) => print_state(rt, v, rule_of(o)),
-        Err(status) => status,
+        Err(unread) => command_io::Status::from(unread),
     }
 }
 

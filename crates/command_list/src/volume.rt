@@ -1,10 +1,10 @@
 // The volume that a command reads: the file at a place among the arguments, or standard input where there is none.
 // Nothing is printed into it.
-ghost use Rattle.std.specs.Prelude.{◌≤◌, length, IfOk};
+ghost use Rattle.std.specs.Prelude.{◌≤◌, length, IfErr, IfOk};
 
 use command_io::{
-    Kind, Options, Status, arg_count, await_input, fail_system, input_apart, read_input,
-    read_named, readable,
+    Kind, Options, Unread, arg_count, await_input, fail_system, input_apart, read_input,
+    read_named, readable, refused,
 };
 use journal::Rule;
 
@@ -23,8 +23,9 @@ pub fn read_volume<'a>(
     at: usize,
     kinds: &[Kind],
     out: &'a mut [u8],
-) -> Result<&'a [u8], Status>
-    ensures { IfOk result (λ v. length v.now ≤ length out.old) }
+) -> Result<&'a [u8], Unread>
+    ensures ok { IfOk result (λ v. length v.now ≤ length out.old) }
+    ensures err { IfErr result (λ unread. unread.read ≤ length out.old) }
 {
     if at < arg_count(rt) {
         return read_file(rt, at, kinds, out);
@@ -41,18 +42,19 @@ fn read_standard<'a>(
     rt: &HostRuntime,
     kinds: &[Kind],
     out: &'a mut [u8],
-) -> Result<&'a [u8], Status>
-    ensures { IfOk result (λ v. length v.now ≤ length out.old) }
+) -> Result<&'a [u8], Unread>
+    ensures ok { IfOk result (λ v. length v.now ≤ length out.old) }
+    ensures err { IfErr result (λ unread. unread.read ≤ length out.old) }
 {
     if !input_apart(rt, kinds) {
-        return Err(Status::Failed);
+        return Err(refused());
     }
     let mut input = rt.stdin();
     match read_input(&mut input, out) {
         Ok(read) => Ok(read),
-        Err(e) => {
-            fail_system(rt, b"awaqlla: standard input", e);
-            Err(Status::Failed)
+        Err(unread) => {
+            fail_system(rt, b"awaqlla: standard input", unread.error);
+            Err(unread)
         }
     }
 }
@@ -63,11 +65,12 @@ fn read_file<'a>(
     at: usize,
     kinds: &[Kind],
     out: &'a mut [u8],
-) -> Result<&'a [u8], Status>
-    ensures { IfOk result (λ v. length v.now ≤ length out.old) }
+) -> Result<&'a [u8], Unread>
+    ensures ok { IfOk result (λ v. length v.now ≤ length out.old) }
+    ensures err { IfErr result (λ unread. unread.read ≤ length out.old) }
 {
     if !readable(rt, kinds, at) {
-        return Err(Status::Failed);
+        return Err(refused());
     }
     read_named(rt, at, out)
 }

@@ -1,6 +1,6 @@
 // The new file. The result is written under a name of its own beside OUT, synced, and then given OUT's name, so that OUT is whole or not there
 // whenever the program is stopped. A file that exists is never written over.
-ghost use Rattle.std.specs.Prelude.{length, ◌≡◌};
+ghost use Rattle.std.specs.Prelude.{length, ◌≡◌, ◌≤◌};
 
 use command_io::{
     Status, create, fail_file_of, fail_of, inside, open_read, path_at, rename, sync_folder, unlink,
@@ -36,7 +36,9 @@ fn part_room() -> [u8; 4_101]
 }
 
 // The name beside a path: the path and `.part`. OUT is locked, so that no other merge uses it.
-fn part_name<'a>(path: &[u8], out: &'a mut [u8]) -> &'a [u8] {
+fn part_name<'a>(path: &[u8], out: &'a mut [u8]) -> &'a [u8]
+    ensures { length result.now ≤ length out.old }
+{
     let end = put(out, 0, path);
     let size = put(out, end, b".part");
     inside(size, out)

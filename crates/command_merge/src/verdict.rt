@@ -48,7 +48,10 @@ pub fn status_of(answer: Result<usize, MergeError>) -> Status
 {
     match answer {
         Ok(_) => Status::Done,
-        Err(_) => Status::Refused,
+        Err(MergeError::Declined(_)) => Status::Refused,
+        Err(MergeError::DeclinedAt(_)) => Status::Refused,
+        Err(MergeError::DeclinedOf { .. }) => Status::Refused,
+        Err(MergeError::Damaged { .. }) => Status::Refused,
     }
 }
 

@@ -23,7 +23,7 @@ fn read_record(rt: &HostRuntime, o: Options, kinds: &[Kind], asked: Asked) -> co
     let mut room = input_room();
     match read_volume(rt, o.first, kinds, &mut room) {
         Ok(v) => print_asked(rt, v, asked, o.ticks),
-        Err(status) => status,
+        Err(unread) => command_io::Status::from(unread),
     }
 }
 

@@ -34,7 +34,7 @@ pub fn slots(rt: &HostRuntime, o: Options, kinds: &[Kind]) -> Status {
     let mut room = input_room();
     match read_volume(rt, o.first, kinds, &mut room) {
         Ok(v) => print_slots(rt, v, o.tabs, first),
-        Err(status) => status,
+        Err(unread) => Status::from(unread),
     }
 }
 

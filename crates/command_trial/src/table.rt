@@ -13,7 +13,8 @@ pub(crate) fn table_room() -> [u64; 17_874]
 
 // A number of a position, 0 where there is none.
 pub(crate) fn count_at(table: &[u64], position: usize, which: usize) -> u64 {
-    match table.chunks_exact(NUMBERS).nth(position) {
+    let start = NUMBERS.saturating_mul(position);
+    match table.get(start..start.saturating_add(NUMBERS)) {
         Some(row) => row.get(which).copied().unwrap_or(0),
         None => 0,
     }

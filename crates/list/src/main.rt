@@ -20,7 +20,7 @@ fn run(rt: &HostRuntime, rule: Rule) {
         Ok(v) => {
             command_list::print_listing(rt, v, rule, b"list: standard output");
         }
-        Err(e) => command_io::fail_system(rt, b"list: standard input", e),
+        Err(unread) => command_io::fail_system(rt, b"list: standard input", unread.error),
     }
 }
 

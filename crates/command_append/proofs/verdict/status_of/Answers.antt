@@ -18,5 +18,11 @@ pub returns-in-Ok : goal.returns-in-Ok
 unfolding verdict_status append_meaning
 returns-in-Ok c = rw c.in-Ok.is
 
-pub returns-in-Err : goal.returns-in-Err
-returns-in-Err c = rw c.in-Err.is (refused _)
+pub returns-in-Err-Declined : goal.returns-in-Err-Declined
+returns-in-Err-Declined c = rw c.in-Err-Declined.is (refused _)
+
+pub returns-in-Err-DeclinedAt : goal.returns-in-Err-DeclinedAt
+returns-in-Err-DeclinedAt c = rw c.in-Err-DeclinedAt.is (refused _)
+
+pub returns-in-Err-Damaged : goal.returns-in-Err-Damaged
+returns-in-Err-Damaged c = rw c.in-Err-Damaged.is (refused _)

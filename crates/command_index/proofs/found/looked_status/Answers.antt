@@ -17,5 +17,11 @@ pub returns-in-Ok : goal.returns-in-Ok
 unfolding looked_status found_meaning
 returns-in-Ok c = rw c.in-Ok.is
 
-pub returns-in-Err : goal.returns-in-Err
-returns-in-Err c = rw c.in-Err.is (refused _)
+pub returns-in-Err-Absent : goal.returns-in-Err-Absent
+returns-in-Err-Absent c = rw c.in-Err-Absent.is (refused _)
+
+pub returns-in-Err-Other : goal.returns-in-Err-Other
+returns-in-Err-Other c = rw c.in-Err-Other.is (refused _)
+
+pub returns-in-Err-Damaged : goal.returns-in-Err-Damaged
+returns-in-Err-Damaged c = rw c.in-Err-Damaged.is (refused _)
