@@ -1,10 +1,13 @@
--- A search by halving: the places before `low` have a key that does not come after the one looked for, those from `high` on one that does.
+-- Sorted places split at a key: those before the split have one that does not come after it, those from it on one that does.
 -- The last of the places before the split decides whether the key is there. Assumes nothing.
 use mathlib.Core.Path.{◌≡◌, sym, ap, subst, ◌∙◌}
 use Prim.Native.Nat.{ℕ, suc, ◌+◌, ◌-◌, ◌≤◌, ◌<◌}
 use mathlib.Core.List.{List, [], ◌∷◌, ◌++◌, append-nil}
 use mathlib.Core.Bool.{Bool, true, false, not}
 use borrow.Author.Tests.{not-true, not-false}
+use Rattle.std.proofs.lemmas.Bool.{not_from_false}
+use Rattle.std.proofs.lemmas.List.{get_or_default}
+use Rattle.std.specs.List.Sorted.{IsPartitionedBy, IsPartitionPoint}
 use mathlib.Core.Option.{none, some}
 use native.Mathlib.Omega.{arith}
 use lib.ListN.{length, take, drop, get_or, take-append-drop, length-take, length-drop}
@@ -16,57 +19,32 @@ use Rattle.journal_spec.proofs.NameOrder.{order_self}
 use Rattle.journal_entries.specs.Shape.{is_below}
 use Rattle.journal_order.specs.Sorted.{having, last_in, last_having, Rises, Split, EndsWith, place_meaning}
 use Rattle.std.specs.Prelude.{Some, None}
-use Rattle.journal_order.proofs.Below.{below_upto, upto_below, upto_upto, neither_below, below_not_equal, above_not_equal}
+use Rattle.journal_order.proofs.Below.{upto_below, upto_upto, neither_below, below_not_equal, above_not_equal}
 use Rattle.journal_order.proofs.Having.{having_append, having_none, having_one, last_one}
 
-pub record Halving (key : ℕ → List ℕ) (k ps : List ℕ) (low high : ℕ) : Type 0 where
-  pub order : low ≤ high
-  pub within : high ≤ length ps
-  pub upto : (i : ℕ) → i < low → is_below k (key (get_or ps i 0)) ≡ false
-  pub above : (i : ℕ) → high ≤ i → i < length ps → is_below k (key (get_or ps i 0)) ≡ true
-
 module _ (key : ℕ → List ℕ) (k ps : List ℕ) where
-  pub halving_start : Halving key k ps 0 (length ps)
-  halving_start = record {
-    order = omega arith;
-    within = omega arith;
-    upto = λ i h. absurd (omega arith);
-    above = λ i h l. absurd (omega arith);
+  -- where the places rise, those with a key that does not come after k stand in front
+  pub partitioned : Rises key ps → IsPartitionedBy (λ p. not (is_below k (key p))) ps
+  partitioned r i j d h l t =
+      let a : get_or ps i d ≡ get_or ps i 0 = get_or_default ps i d 0 (omega arith) in
+      let b : get_or ps j d ≡ get_or ps j 0 = get_or_default ps j d 0 l in
+      let f : is_below k (key (get_or ps j 0)) ≡ false = rw b at (not-true (is_below k (key (get_or ps j d))) t) in
+      not_from_false (is_below k (key (get_or ps i d)))
+      (rw a (by_order j i
+      (λ e. subst (λ (m : ℕ). is_below k (key (get_or ps m 0)) ≡ false) (same i j h e) f)
+      (λ g. upto_upto (key (get_or ps i 0)) (key (get_or ps j 0)) k (r.rising i j g l) f)))
+    where
+      same : (i j : ℕ) → i ≤ j → j ≤ i → j ≡ i
+      same i j h e = omega arith
+
+  -- the split is where they end
+  pub split_point : (n : ℕ) → n ≤ length ps
+      → IsPartitionPoint (λ p. not (is_below k (key p)) ≡ true) (λ p. not (is_below k (key p)) ≡ false) ps n → Split key k ps n
+  split_point n w p = record {
+    within = w;
+    upto = λ i h. not-true (is_below k (key (get_or ps i 0))) (p.0 i 0 (omega arith) h);
+    above = λ i h l. not-false (is_below k (key (get_or ps i 0))) (p.1 i 0 h l);
   }
-
-  pub halving_done : (low high : ℕ) → Halving key k ps low high → high ≤ low → Split key k ps low
-  halving_done low high v h = record {
-    within = omega (arith, v.order, v.within);
-    upto = v.upto;
-    above = λ i m l. v.above i (omega arith) l;
-  }
-
-  module _ (rises : Rises key ps) (low high m : ℕ) (v : Halving key k ps low high) (lower : low ≤ m) (higher : m < high) where
-    pub halving_down : is_below k (key (get_or ps m 0)) ≡ true → Halving key k ps low m
-    halving_down t = record {
-      order = lower;
-      within = omega (arith, v.within);
-      upto = v.upto;
-      above = λ i h l. by_order i m
-          (λ e. subst (λ (x : ℕ). is_below k (key (get_or ps x 0)) ≡ true) (same i h e) t)
-          (λ g. below_upto k (key (get_or ps m 0)) (key (get_or ps i 0)) t (rises.rising m i g l));
-    }
-      where
-        same : (i : ℕ) → m ≤ i → i ≤ m → m ≡ i
-        same i h e = omega arith
-
-    pub halving_up : is_below k (key (get_or ps m 0)) ≡ false → Halving key k ps (m + 1) high
-    halving_up f = record {
-      order = omega arith;
-      within = v.within;
-      upto = λ i h. by_order m i
-          (λ e. subst (λ (x : ℕ). is_below k (key (get_or ps x 0)) ≡ false) (same i h e) f)
-          (λ g. upto_upto (key (get_or ps i 0)) (key (get_or ps m 0)) k (rises.rising i m g (omega (arith, v.within))) f);
-      above = v.above;
-    }
-      where
-        same : (i : ℕ) → i < m + 1 → m ≤ i → m ≡ i
-        same i h e = omega arith
 
 -- ---- what the split says
 

@@ -35,16 +35,6 @@ impl Keyed<'_> {
         requires { Rises (key_at self.now.key self.now.bytes.now) places.now }
         ensures { Split (key_at self.now.key self.now.bytes.now) key.now places.now result }
     {
-        let mut low: usize = 0;
-        let mut high = places.len();
-        while low < high {
-            let middle = low + (high - low) / 2;
-            if is_below(key, self.key_at(usize::from(places[middle]))) {
-                high = middle;
-            } else {
-                low = middle + 1;
-            }
-        }
-        low
+        places.partition_point(|&place| !is_below(key, self.key_at(usize::from(place))))
     }
 }
