@@ -53,8 +53,11 @@ pub(crate) fn offer_refusal(
     name_refusal(name)?;
     chances_refusal(chances)?;
     even_refusal(chances)?;
-    let sums = gather(times)?;
-    rule_refusal(sums, chances, rule, bits)
+    // An arm for each answer and no `?`: so that a wrong program can answer the times by another number.
+    match gather(times) {
+        Ok(sums) => rule_refusal(sums, chances, rule, bits),
+        Err(refusal) => Err(refusal),
+    }
 }
 
 // The refusal of a name: its count, then its bytes.

@@ -50,24 +50,21 @@ pub rule_refusal-requires : goal.rule_refusal-requires
 rule_refusal-requires c =
     (chances_few c.args.offer.now.chances.now c.in_ok-chances_refusal.ensures, c.requires)
 
-pub returns : goal.returns
+pub returns-in-Ok : goal.returns-in-Ok
 unfolding offer_from as_last
-returns c =
+returns-in-Ok c =
     let judged = c.rule_refusal in
     let a = c.args in
     rule_judged (as_rule a.rule) (as_last a.last) (offer_from a.offer.now.day a.offer.now.name.now a.offer.now.chances.now a.offer.now.times.now) _ (omega arith)
     c.in_ok-name_refusal.ensures c.in_ok-chances_refusal.ensures
     c.in_ok-even_refusal.ensures
-    _ c.in_ok-sums.ensures _ refl _ judged.ensures
+    _ c.gather.ensures _ c.in-Ok.is _ judged.ensures
 
-pub returns-in_err-sums : goal.returns-in_err-sums
+pub returns-in-Err : goal.returns-in-Err
 unfolding offer_from as_last
-returns-in_err-sums c =
+returns-in-Err c =
     let a = c.args in
-    let again = c.from_residual-in_err-sums in
-    let p = err_from_is_err_and again.result again.ensures.1 in
-    rw (p.1, p.2)
-    (times_refused (as_rule a.rule) (as_last a.last) (offer_from a.offer.now.day a.offer.now.name.now a.offer.now.chances.now a.offer.now.times.now) a.bits.now (omega arith)
+    times_refused (as_rule a.rule) (as_last a.last) (offer_from a.offer.now.day a.offer.now.name.now a.offer.now.chances.now a.offer.now.times.now) a.bits.now (omega arith)
     c.in_ok-name_refusal.ensures c.in_ok-chances_refusal.ensures
     c.in_ok-even_refusal.ensures
-    _ c.in_err-sums.ensures c.in_err-sums.field-0.0 refl)
+    _ c.gather.ensures _ c.in-Err.is
